@@ -1,0 +1,280 @@
+-- What is true of the book of every legal journal.
+use Rattle.std.proofs.Common.{◌≡◌, ◌==◌, ℕ, ◌+◌, ◌<◌, ◌≤◌, Bool, true, false, ◌&&◌, ◌||◌, not, cond, List, [], ◌∷◌, refl, sym, ◌∙◌, ap, subst, arith}
+use Rattle.std.specs.Prelude.{Option, Some, None, IsSome, is_some}
+use Rattle.std.proofs.lemmas.Bool.Decides.{nat_tests}
+use Rattle.std.specs.FinMap.{get, empty}
+use Rattle.rtsp_record.specs.declared.holdings.Thing.{Thing}
+use Rattle.rtsp_record.specs.declared.holdings.Thing.TheVariants.{Pair, Chan, Rate}
+use Rattle.rtsp_record.specs.declared.phases.Phase.{Phase}
+use Rattle.rtsp_record.specs.declared.phases.Phase.TheVariants.{Ready, Playing, Ended}
+use Rattle.rtsp_record.specs.declared.streams.Stream.{Stream}
+use Rattle.rtsp_record.specs.declared.holdings.Whole.{Whole}
+use Rattle.rtsp_record.specs.declared.changes.Entry.{Entry}
+use Rattle.rtsp_record.specs.declared.changes.Record.{Record}
+use Rattle.rtsp_record.specs.declared.changes.Record.TheVariants.{Open, Close, Hold, Free, Add, Drop, Move, Touch, Bind, Unbind}
+use Rattle.rtsp_record.specs.Records.{session_of}
+use Rattle.rtsp_record.specs.declared.holdings.Admission.{Admission}
+use Rattle.rtsp_record.specs.Books.{Session, Book, bare, or_bare, kept, opened, holding, freed, streaming, under, with_under, effect, after, after_all, records_of, book_of}
+use Rattle.rtsp_record.specs.Sums.{Measure, if_there, of_admission, of_session, amount, one_if, sessions, with_id, bindings, rates, Spot, covers, covering, streams, clash, clashing, is_holding, admissions_holding, others_holding}
+use Rattle.rtsp_record.specs.Rules.{IsReady, IsPlaying, alike, IsAddress, InWhole, Own, Others, Allowed, AllAllowed, IsLegal, HeldOnce}
+use Rattle.rtsp_record.proofs.Tables.{weigh, at_key, get-set, get-none, total-set, total-empty}
+use Rattle.rtsp_record.specs.Sound.{Normal, SoundSession, SoundRow, Sound}
+use Rattle.rtsp_record.proofs.Rows.{at_under, normal-under, total-under}
+use Rattle.rtsp_record.proofs.Balance.{gain, row_balance, balance, rate_there}
+
+pub at_most_one : (t : Bool) → one_if t ≤ 1
+at_most_one true = omega arith
+at_most_one false = omega arith
+
+pub one_is : (t : Bool) → t ≡ true → one_if t ≡ 1
+one_is t h = ap one_if h
+
+pub same_nat : (n : ℕ) → (n == n) ≡ true
+same_nat n = grind (arith, nat_tests)
+
+pub under_opened : (id c e a : ℕ) → under (opened id c e) a ≡ bare
+under_opened id c e a = ap or_bare (get-none a)
+
+none_some : {X : Type 0} (x : X) → ◌≡◌ {A = Option X} None (Some x) → ⊥
+none_some x e = cc
+
+bare_stream : (d : Admission) (v : Stream) → d ≡ bare → d.stream ≡ Some v → ⊥
+bare_stream d v e h = none_some v (sym (ap (λ (d : Admission). d.stream) e) ∙ h)
+
+bare_address : (d : Admission) (x : Thing) → d ≡ bare → d.address ≡ Some x → ⊥
+bare_address d x e h = none_some x (sym (ap (λ (d : Admission). d.address) e) ∙ h)
+
+pub holding_stream : (x : Thing) (d : Admission) → (holding x d).stream ≡ d.stream
+holding_stream (Rate n) d = refl
+holding_stream (Pair p) d = refl
+holding_stream (Chan c k) d = refl
+
+pub freed_stream : (x : Thing) (d : Admission) → (freed x d).stream ≡ d.stream
+freed_stream (Rate n) d = refl
+freed_stream (Pair p) d = refl
+freed_stream (Chan c k) d = refl
+
+-- what is held is an address of the whole
+abbrev pub Proper : Whole → Admission → Type 0
+Proper w d = (y : Thing) → d.address ≡ Some y → InWhole w y × IsAddress y
+
+hold_proper : (w : Whole) (x : Thing) (d : Admission) → InWhole w x → Proper w d → Proper w (holding x d)
+hold_proper w (Rate n) d h p y e = p y e
+hold_proper w (Pair q) d h p y e = let same : Pair q ≡ y = cc in subst (λ y. InWhole w y × IsAddress y) same (h, tt)
+hold_proper w (Chan c k) d h p y e = let same : Chan c k ≡ y = cc in subst (λ y. InWhole w y × IsAddress y) same (h, tt)
+
+free_proper : (w : Whole) (x : Thing) (d : Admission) → Proper w d → Proper w (freed x d)
+free_proper w (Rate n) d p y e = p y e
+free_proper w (Pair q) d p y e = absurd (none_some y e)
+free_proper w (Chan c k) d p y e = absurd (none_some y e)
+
+either : (a b : Bool) → a ≡ true → (a || b) ≡ true
+either true b h = refl
+either false b h = absurd cc
+
+or_other : (a b : Bool) → b ≡ true → (a || b) ≡ true
+or_other true b h = refl
+or_other false b h = h
+
+pub holds_some : (x : Thing) (d : Admission) → alike x d ≡ Some x → is_holding d ≡ true
+holds_some (Rate n) d h = either (is_some d.rate) (is_some d.address) (elim (d.rate) as (λ o. rate_there o ≡ Some (Rate n) → is_some o ≡ true) [ None ↦ λ e. absurd cc | Some m ↦ λ e. refl ] h)
+holds_some (Pair p) d h = or_other (is_some d.rate) (is_some d.address) (ap is_some h)
+holds_some (Chan c k) d h = or_other (is_some d.rate) (is_some d.address) (ap is_some h)
+
+-- how many hold something, after a change under one admission
+pub holding-under : (f : Session) (a : ℕ) (d : Admission) → admissions_holding (with_under f a d) + one_if (is_holding (under f a)) ≡ admissions_holding f + one_if (is_holding d)
+holding-under f a d = total-under (λ e. one_if (is_holding e.1)) f a d refl
+
+weigh_under : (a : ℕ) (o : Option Admission) → weigh (λ e. one_if (is_holding e.1)) a o ≡ one_if (is_holding (or_bare o))
+weigh_under a None = refl
+weigh_under a (Some d) = refl
+
+pub holding-others : (f : Session) (a : ℕ) → others_holding f a + one_if (is_holding (under f a)) ≡ admissions_holding f
+holding-others f a = omega (arith, total-set (λ e. one_if (is_holding e.1)) f.admissions a None (get f.admissions a) refl, weigh_under a (get f.admissions a))
+
+clash_symmetric : (v u : Stream) → clash v u ≡ clash u v
+clash_symmetric v u = grind (arith, nat_tests)
+
+pub clash_itself : (v : Stream) → clash v v ≡ true
+clash_itself v = either (v.track == v.track) (not (v.presentation == v.presentation)) (same_nat v.track)
+
+-- what stands under an admission is part of the session's sum
+pub stream_counts : (m : Measure) (f : Session) (a : ℕ) (v : Stream) → (under f a).stream ≡ Some v → m.stream v ≤ of_session m f
+stream_counts m f a v there = omega (arith, total-under (λ e. of_admission m e.1) f a bare refl, ap (if_there m.stream) there)
+
+not_both : (p : Phase) → IsReady p → IsPlaying p → ⊥
+not_both (Ready at sent) h g = g
+not_both (Playing since from stop sent) h g = h
+not_both (Ended at sent) h g = g
+
+-- a stream that may be added clashes with none
+apart_new : (f : Session) (a : ℕ) (v u : Stream) → of_session (clashing v) f ≡ 0 → (under f a).stream ≡ Some u → one_if (clash u v) ≡ 0
+apart_new f a v u none there = omega (arith, stream_counts (clashing v) f a u there, ap one_if (clash_symmetric v u))
+
+pub row_sound : (w : Whole) (b : Book) (r : Record) (o : Option Session) → Own r o → Others w r b → SoundRow w o → SoundRow w (effect r o)
+row_sound w b (Open s id c e) o h g ok =
+    record {
+      normal = λ a. ap (λ o. kept (or_bare o)) (get-none a) ∙ sym (get-none a);
+      based = λ a v is. absurd (bare_stream _ v (under_opened id c e a) is);
+      apart = λ a v is. absurd (bare_stream _ v (under_opened id c e a) is);
+      playing = λ p. absurd p;
+      few = omega (arith, total-empty (λ (e : ℕ × Admission). one_if (is_holding e.1)));
+      in_whole = λ a x is. absurd (bare_address _ x (under_opened id c e a) is);
+    }
+row_sound w b (Close s id c e) o h g ok = tt
+row_sound w b (Hold s a x) None h g ok = absurd h
+row_sound w b (Hold s a x) (Some f) h g ok =
+    let d = holding x (under f a) in
+    let none : d.stream ≡ None = holding_stream x (under f a) ∙ h.no_stream in
+    record {
+      normal = normal-under f a d ok.normal;
+      based = λ b v. at_under f a d b (λ e. e.stream ≡ Some v → IsSome e.rate × IsSome e.address) (λ _ is. absurd (none_some v (sym none ∙ is))) (ok.based b v);
+      apart = λ b v. at_under f a d b (λ e. e.stream ≡ Some v → of_session (clashing v) (with_under f a d) ≤ 1) (λ _ is. absurd (none_some v (sym none ∙ is))) (λ is. omega (arith, row_balance (clashing v) (Hold s a x) (Some f) h, ok.apart b v is));
+      playing = λ p. omega (arith, row_balance streams (Hold s a x) (Some f) h, ok.playing p);
+      few = omega (arith, holding-under f a d, holding-others f a, h.few, at_most_one (is_holding d));
+      in_whole = λ b. at_under f a d b (Proper w) (λ _. hold_proper w x (under f a) g.in_whole (ok.in_whole a)) (ok.in_whole b);
+    }
+row_sound w b (Free s a x) None h g ok = absurd h
+row_sound w b (Free s a x) (Some f) h g ok =
+    let d = freed x (under f a) in
+    let none : d.stream ≡ None = freed_stream x (under f a) ∙ h.no_stream in
+    record {
+      normal = normal-under f a d ok.normal;
+      based = λ b v. at_under f a d b (λ e. e.stream ≡ Some v → IsSome e.rate × IsSome e.address) (λ _ is. absurd (none_some v (sym none ∙ is))) (ok.based b v);
+      apart = λ b v. at_under f a d b (λ e. e.stream ≡ Some v → of_session (clashing v) (with_under f a d) ≤ 1) (λ _ is. absurd (none_some v (sym none ∙ is))) (λ is. omega (arith, row_balance (clashing v) (Free s a x) (Some f) h, ok.apart b v is));
+      playing = λ p. omega (arith, row_balance streams (Free s a x) (Some f) h, ok.playing p);
+      few = omega (arith, holding-under f a d, ok.few, one_is _ (holds_some x (under f a) h.held), at_most_one (is_holding d));
+      in_whole = λ b. at_under f a d b (Proper w) (λ _. free_proper w x (under f a) (ok.in_whole a)) (ok.in_whole b);
+    }
+row_sound w b (Add s a v) None h g ok = absurd h
+row_sound w b (Add s a v) (Some f) h g ok =
+    let d = streaming (Some v) (under f a) in
+    record {
+      normal = normal-under f a d ok.normal;
+      based = λ b u. at_under f a d b (λ e. e.stream ≡ Some u → IsSome e.rate × IsSome e.address) (λ _ is. (h.rate, h.address)) (ok.based b u);
+      apart = λ b u. at_under f a d b (λ e. e.stream ≡ Some u → of_session (clashing u) (with_under f a d) ≤ 1)
+          (λ _ is. let same : v ≡ u = cc in subst (λ u. of_session (clashing u) (with_under f a d) ≤ 1) same (omega (arith, row_balance (clashing v) (Add s a v) (Some f) h, h.no_clash, at_most_one (clash v v))))
+          (λ is. omega (arith, row_balance (clashing u) (Add s a v) (Some f) h, ok.apart b u is, apart_new f b v u h.no_clash is));
+      playing = λ p. omega (arith, row_balance streams (Add s a v) (Some f) h);
+      few = omega (arith, holding-under f a d, ok.few);
+      in_whole = λ b. at_under f a d b (Proper w) (λ _. ok.in_whole a) (ok.in_whole b);
+    }
+row_sound w b (Drop s a v) None h g ok = absurd h
+row_sound w b (Drop s a v) (Some f) h g ok =
+    let d = streaming None (under f a) in
+    record {
+      normal = normal-under f a d ok.normal;
+      based = λ b u. at_under f a d b (λ e. e.stream ≡ Some u → IsSome e.rate × IsSome e.address) (λ _ is. absurd (none_some u is)) (ok.based b u);
+      apart = λ b u. at_under f a d b (λ e. e.stream ≡ Some u → of_session (clashing u) (with_under f a d) ≤ 1) (λ _ is. absurd (none_some u is)) (λ is. omega (arith, row_balance (clashing u) (Drop s a v) (Some f) h, ok.apart b u is));
+      playing = λ p. absurd (not_both f.phase h.ready p);
+      few = omega (arith, holding-under f a d, ok.few);
+      in_whole = λ b. at_under f a d b (Proper w) (λ _. ok.in_whole a) (ok.in_whole b);
+    }
+row_sound w b (Move s p q) None h g ok = absurd h
+row_sound w b (Move s p q) (Some f) h g ok =
+    record {
+      normal = ok.normal;
+      based = ok.based;
+      apart = λ a v is. omega (arith, row_balance (clashing v) (Move s p q) (Some f) h, ok.apart a v is);
+      playing = λ is. omega (arith, row_balance streams (Move s p q) (Some f) h, h.stream is);
+      few = ok.few;
+      in_whole = ok.in_whole;
+    }
+row_sound w b (Touch s m n) None h g ok = absurd h
+row_sound w b (Touch s m n) (Some f) h g ok =
+    record { normal = ok.normal; based = ok.based; apart = ok.apart; playing = ok.playing; few = ok.few; in_whole = ok.in_whole }
+row_sound w b (Bind s c i) None h g ok = absurd h
+row_sound w b (Bind s c i) (Some f) h g ok =
+    record {
+      normal = ok.normal;
+      based = ok.based;
+      apart = λ a v is. omega (arith, row_balance (clashing v) (Bind s c i) (Some f) h, ok.apart a v is);
+      playing = λ is. omega (arith, row_balance streams (Bind s c i) (Some f) h, ok.playing is);
+      few = ok.few;
+      in_whole = ok.in_whole;
+    }
+row_sound w b (Unbind s c i) None h g ok = absurd h
+row_sound w b (Unbind s c i) (Some f) h g ok =
+    record {
+      normal = ok.normal;
+      based = ok.based;
+      apart = λ a v is. omega (arith, row_balance (clashing v) (Unbind s c i) (Some f) h, ok.apart a v is);
+      playing = λ is. omega (arith, row_balance streams (Unbind s c i) (Some f) h, ok.playing is);
+      few = ok.few;
+      in_whole = ok.in_whole;
+    }
+
+-- one more where there was none, or none more
+pub room_if : (t : Bool) (n : ℕ) → (t ≡ true → n ≡ 0) → n ≤ 1 → n + one_if t ≤ 1
+room_if true n none le = omega (arith, none refl)
+room_if false n none le = omega (arith, le)
+
+same_of : (n m : ℕ) → (n == m) ≡ true → n ≡ m
+same_of n m h = grind (arith, nat_tests)
+
+both : (a b : Bool) → (a && b) ≡ true → (a ≡ true) × (b ≡ true)
+both true b h = (refl, h)
+both false b h = absurd cc
+
+pub room_ids : (w : Whole) (b : Book) (r : Record) (i : ℕ) → Others w r b → amount (with_id i) b ≤ 1 → amount (with_id i) b + gain (with_id i) r ≤ 1
+room_ids w b (Open s id c e) i g le = omega (arith, room_if (id == i) (amount (with_id i) b) (λ same. subst (λ k. amount (with_id k) b ≡ 0) (same_of id i same) g.id_free) le)
+room_ids w b r i g le = omega (arith, le)
+
+pub room_few : (w : Whole) (b : Book) (r : Record) → Others w r b → amount sessions b ≤ w.sessions → amount sessions b + gain sessions r ≤ w.sessions
+room_few w b (Open s id c e) g le = omega (arith, g.few)
+room_few w b r g le = omega (arith, le)
+
+pub room_bound : (w : Whole) (b : Book) (r : Record) (c i : ℕ) → Others w r b → amount (bindings c i) b ≤ 1 → amount (bindings c i) b + gain (bindings c i) r ≤ 1
+room_bound w b (Bind s d j) c i g le = room_if (d == c && j == i) (amount (bindings c i) b) (λ same. let parts = both (d == c) (j == i) same in let there : amount (bindings d j) b ≡ 0 = g in (λ k. amount (bindings (sym (same_of d c parts.0) k) (sym (same_of j i parts.1) k)) b) ∙ there) le
+room_bound w b r c i g le = omega (arith, le)
+
+pub room_once : (w : Whole) (b : Book) (r : Record) (q : Spot) → Others w r b → amount (covering q) b ≤ 1 → amount (covering q) b + gain (covering q) r ≤ 1
+room_once w b (Hold s a x) q g le = room_if (covers q x) (amount (covering q) b) (g.free q) le
+room_once w b r q g le = omega (arith, le)
+
+pub room_rate : (w : Whole) (b : Book) (r : Record) → Others w r b → amount rates b ≤ w.uplink → amount rates b + gain rates r ≤ w.uplink
+room_rate w b (Hold s a (Rate n)) g le = g.rate
+room_rate w b (Hold s a (Pair p)) g le = omega (arith, le)
+room_rate w b (Hold s a (Chan c k)) g le = omega (arith, le)
+room_rate w b r g le = omega (arith, le)
+
+pub sound-after : (w : Whole) (b : Book) (r : Record) → Sound w b → Allowed w b r → Sound w (after b r)
+sound-after w b r ok h =
+    let s = session_of r in
+    record {
+      rows = λ t. subst (SoundRow w) (sym (get-set b s t (effect r (get b s)))) (at_key s t (λ v. SoundRow w (cond v (effect r (get b s)) (get b t))) (λ _ _. row_sound w b r (get b s) h.0 h.1 (ok.rows s)) (λ _. ok.rows t));
+      ids = λ i. omega (arith, balance (with_id i) b r h.0, room_ids w b r i h.1 (ok.ids i));
+      few = omega (arith, balance sessions b r h.0, room_few w b r h.1 ok.few);
+      bound = λ c i. omega (arith, balance (bindings c i) b r h.0, room_bound w b r c i h.1 (ok.bound c i));
+      once = λ q. omega (arith, balance (covering q) b r h.0, room_once w b r q h.1 (ok.once q));
+      rate = omega (arith, balance rates b r h.0, room_rate w b r h.1 ok.rate);
+    }
+
+pub sound-all : (w : Whole) (b : Book) (rs : List Record) → Sound w b → AllAllowed w b rs → Sound w (after_all b rs)
+sound-all w b [] ok h = ok
+sound-all w b (r ∷ rs) ok h = sound-all w (after b r) rs (sound-after w b r ok h.0) h.1
+
+pub amount-empty : (m : Measure) → amount m empty ≡ 0
+amount-empty m = total-empty (λ e. of_session m e.1)
+
+pub sound-empty : (w : Whole) → Sound w empty
+sound-empty w =
+    record {
+      rows = λ s. subst (SoundRow w) (sym (get-none s)) tt;
+      ids = λ i. omega (arith, amount-empty (with_id i));
+      few = omega (arith, amount-empty sessions);
+      bound = λ c i. omega (arith, amount-empty (bindings c i));
+      once = λ q. omega (arith, amount-empty (covering q));
+      rate = omega (arith, amount-empty rates);
+    }
+
+pub sound_of : (w : Whole) (j : List Entry) → IsLegal w j → Sound w (book_of j)
+sound_of w j h = sound-all w empty (records_of j) (sound-empty w) h
+
+pub held_once : (w : Whole) (b : Book) → Sound w b → HeldOnce w b
+held_once w b ok =
+    record {
+      once = ok.once;
+      in_whole = λ s a f x is there. let row : SoundSession w f = subst (SoundRow w) is (ok.rows s) in (row.in_whole a x there).0;
+      rate = ok.rate;
+    }

@@ -1,0 +1,9 @@
+pub mod Records
+pub mod Tables
+pub mod Books
+pub mod Sums
+pub mod Rules
+pub mod Sound
+pub mod Moments
+pub mod LastWord
+pub mod Journals

@@ -1,0 +1,39 @@
+//! What there is to hold, and what a session may hold of it.
+
+use crate::streams::Stream;
+
+/// What a session may hold under an admission: bits of the uplink, or an address for its packets.
+#[derive(Clone, Copy, Debug, PartialEq, Eq)]
+pub enum Thing {
+    /// The UDP port with this number and the next, for RTP and RTCP (RFC 3550 section 11).
+    Pair(u16),
+    /// The interleaved channel with this number and the next, of a connection (RFC 7826 section 14).
+    Chan(u64, u8),
+    /// Bits per second of the uplink.
+    Rate(u64),
+}
+
+/// What a session holds under one admission, and the stream that goes over it.
+#[derive(Clone, Copy, Debug, PartialEq, Eq)]
+pub struct Admission {
+    /// Bits per second of the uplink.
+    pub rate: Option<u64>,
+    /// A pair of ports, or channels.
+    pub address: Option<Thing>,
+    pub stream: Option<Stream>,
+}
+
+/// What there is to hold, and how much may stand at once.
+#[derive(Clone, Copy, Debug, PartialEq, Eq)]
+pub struct Whole {
+    /// The least port of the pairs; even, 1,024 at least.
+    pub first_port: u16,
+    /// How many pairs of ports there are from `first_port` on, 0 to 4,096; the last port is at most 65,535.
+    pub pairs: u16,
+    /// The uplink in bits per second, at most 10^12.
+    pub uplink: u64,
+    /// How many sessions may live at once, 1 to 4,096.
+    pub sessions: u16,
+    /// The limit on entries and owed returns together, 1 to 1,000,000.
+    pub journal: u32,
+}
