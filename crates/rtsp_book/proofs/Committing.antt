@@ -1,0 +1,184 @@
+-- The records of a commit are allowed.
+use Rattle.std.proofs.Common.{◌≡◌, ◌≢◌, ◌==◌, ℕ, ◌≤◌, Bool, true, false, T, ◌||◌, not, cond, List, [], ◌∷◌, ◌++◌, refl, sym, ◌∙◌, ap, subst, arith}
+use Rattle.std.specs.Prelude.{Option, Some, None, IsSome, sum_by}
+use Rattle.std.proofs.lemmas.Bool.Decides.{nat_tests}
+use Rattle.std.proofs.lemmas.List.Sums.{sum_by-cons}
+use Rattle.std.specs.Ordering.{nat_cmp}
+use Rattle.std.specs.FinMap.{find, entries, entries_sorted, is_sorted, get-entries}
+use Rattle.rtsp_record.specs.declared.streams.Stream.{Stream}
+use Rattle.rtsp_record.specs.declared.holdings.Whole.{Whole}
+use Rattle.rtsp_record.specs.declared.changes.Record.{Record}
+use Rattle.rtsp_record.specs.declared.changes.Record.TheVariants.{Open, Close, Hold, Free, Add, Drop, Move, Touch, Bind, Unbind}
+use Rattle.rtsp_record.specs.declared.holdings.Admission.{Admission}
+use Rattle.rtsp_record.specs.Books.{Session, Book, or_bare, streaming, under, with_under, after, after_all}
+use Rattle.rtsp_record.specs.Sums.{nothing, if_there, of_admission, of_session, amount, one_if, bindings, clashing, elsewhere}
+use Rattle.rtsp_record.specs.Rules.{IsReady, AllAllowed}
+use Rattle.rtsp_book.specs.Sessions.{first_with}
+use Rattle.rtsp_book.specs.Returns.{dropping, freeing, freeing_rate}
+use Rattle.rtsp_book.specs.Made.{is_track, is_of_track, adding}
+use Rattle.rtsp_record.proofs.Tables.{own, at_key}
+use Rattle.rtsp_record.proofs.Rows.{under-own, under-else, normal-under}
+use Rattle.rtsp_record.proofs.Balance.{gain, row_balance, balance}
+use Rattle.rtsp_record.specs.Sound.{SoundSession}
+use Rattle.rtsp_record.proofs.Sound.{one_is, clash_itself, stream_counts}
+use Rattle.rtsp_record.proofs.Trims.{AllFine}
+use Rattle.rtsp_book.proofs.Runs.{Run, run-append, Lone, all_lone, fine-append, sorted_parts, below_none}
+use Rattle.rtsp_book.proofs.Ending.{dropping_run, freeing_run, freeing_rate_run, giving_dropping, giving_freeing, giving_freeing_rate}
+
+module _ {X : Type 0} where
+  -- the first that passes does
+  pub first_passes : (p : ℕ × X → Bool) (es : List (ℕ × X)) (e : ℕ × X) → first_with p es ≡ Some e → p e ≡ true
+  first_passes p [] e h = absurd cc
+  first_passes p (x ∷ es) e h =
+      elim (p x) as (λ t. p x ≡ t → cond t (Some x) (first_with p es) ≡ Some e → p e ≡ true) [
+        | true ↦ λ is h. let same : x ≡ e = cc in sym (ap p same) ∙ is
+        | false ↦ λ _ h. first_passes p es e h
+      ] refl h
+
+  -- and stands at its number
+  pub first_found : (p : ℕ × X → Bool) (es : List (ℕ × X)) (e : ℕ × X) → T (is_sorted nat_cmp es) → first_with p es ≡ Some e → find nat_cmp e.0 es ≡ Some e.1
+  first_found p [] e sorted h = absurd cc
+  first_found p (x ∷ es) e sorted h =
+      let parts = sorted_parts x es sorted in
+      elim (p x) as (λ t. cond t (Some x) (first_with p es) ≡ Some e → find nat_cmp e.0 (x ∷ es) ≡ Some e.1) [
+        | true ↦ λ h. let same : x ≡ e = cc in ap (λ (e : ℕ × X). find nat_cmp e.0 (x ∷ es)) (sym same) ∙ ap (λ t. cond t (Some x.1) (find nat_cmp x.0 es)) (own x.0) ∙ ap (λ (e : ℕ × X). Some e.1) same
+        | false ↦ λ h.
+            let there = first_found p es e parts.1 h in
+            at_key x.0 e.0 (λ t. cond t (Some x.1) (find nat_cmp e.0 es) ≡ Some e.1) (λ _ same. absurd (none_some e.1 (sym (below_none x.0 es parts.0) ∙ sym (ap (λ k. find nat_cmp k es) same) ∙ there))) (λ _. there)
+      ] h
+    where
+      none_some : (x : X) → ◌≡◌ {A = Option X} None (Some x) → ⊥
+      none_some x e = cc
+
+is_same : (n m : ℕ) → (n == m) ≡ true → n ≡ m
+is_same n m h = grind (arith, nat_tests)
+
+other_way : (n m : ℕ) → (n == m) ≡ false → (m == n) ≡ false
+other_way n m h = grind (arith, nat_tests)
+
+nought : {X : Type 0} (o : Option X) → if_there (λ _. 0) o ≡ 0
+nought None = refl
+nought (Some x) = refl
+
+off_track : (v : Stream) (o : Option Stream) → is_track v.track o ≡ false → if_there (clashing v).stream o ≡ if_there (elsewhere v).stream o
+off_track v None h = refl
+off_track v (Some u) h = ap (λ t. one_if (t || not (v.presentation == u.presentation))) (other_way u.track v.track h)
+
+-- where no stream has the track, what clashes is of another presentation
+no_such_track : (v : Stream) (es : List (ℕ × Admission)) → first_with (is_of_track v.track) es ≡ None → sum_by (λ e. of_admission (clashing v) e.1) es ≤ sum_by (λ e. of_admission (elsewhere v) e.1) es
+no_such_track v [] h = omega arith
+no_such_track v (e ∷ es) h =
+    elim (is_of_track v.track e) as (λ t. is_of_track v.track e ≡ t → cond t (Some e) (first_with (is_of_track v.track) es) ≡ None → sum_by (λ e. of_admission (clashing v) e.1) (e ∷ es) ≤ sum_by (λ e. of_admission (elsewhere v) e.1) (e ∷ es)) [
+      | true ↦ λ _ h. absurd cc
+      | false ↦ λ off h. omega (arith, sum_by-cons (λ e. of_admission (clashing v) e.1) e es, sum_by-cons (λ e. of_admission (elsewhere v) e.1) e es, no_such_track v es h, off_track v e.1.stream off)
+    ] refl h
+
+fresh_track : (v : Stream) (f : Session) → first_with (is_of_track v.track) (entries f.admissions) ≡ None → of_session (elsewhere v) f ≡ 0 → of_session (clashing v) f ≡ 0
+fresh_track v f none zero = omega (arith, no_such_track v (entries f.admissions) none, zero, nought f.binding)
+
+-- what a commit is granted on
+pub record MayCommit (f : Session) (a : ℕ) (v : Stream) : Type 0 where
+  pub ready : IsReady f.phase
+  pub rate : IsSome (under f a).rate
+  pub address : IsSome (under f a).address
+  pub no_stream : (under f a).stream ≡ None
+  pub same_place : of_session (elsewhere v) f ≡ 0
+
+-- the session that an adding leaves
+pub record Adding (s a : ℕ) (v : Stream) (f : Session) (o : Option (ℕ × Admission)) : Type 0 where
+  pub left : Session
+  pub run : Run (adding s a v o) f left
+  pub binding : left.binding ≡ f.binding
+
+zero_if : (t : Bool) → one_if (not t) ≤ 0 → t ≡ true
+zero_if true h = refl
+zero_if false h = absurd (omega (arith, h))
+
+-- streams of one track and presentation clash with the same
+same_clash : (v u : Stream) (f : Session) → v.track ≡ u.track → v.presentation ≡ u.presentation → of_session (clashing v) f ≡ of_session (clashing u) f
+same_clash v u f t p = λ i. of_session (record nothing { stream = λ x. one_if (t i == x.track || not (p i == x.presentation)) }) f
+
+replaced : (w : Whole) (s a b : ℕ) (v u : Stream) (f : Session) (d : Admission) → SoundSession w f → MayCommit f a v → under f b ≡ d → d.stream ≡ Some u → u.track ≡ v.track → Adding s a v f (Some (b, d))
+replaced w s a b v u f d ok may is some track =
+    let there : (under f b).stream ≡ Some u = ap (λ (d : Admission). d.stream) is ∙ some in
+    let apart : a ≢ b = λ e. absurd (cc (sym may.no_stream ∙ ap (λ a. (under f a).stream) e ∙ there)) in
+    let place : v.presentation ≡ u.presentation = is_same v.presentation u.presentation (zero_if (v.presentation == u.presentation) (omega (arith, stream_counts (elsewhere v) f b u there, may.same_place))) in
+    let d1 = streaming None d in
+    let f1 = with_under f b d1 in
+    let same_a : under f1 a ≡ under f a = under-else f b a d1 apart in
+    let da = streaming (Some v) (under f1 a) in
+    let f2 = with_under f1 a da in
+    let at_b : under f2 b ≡ d1 = under-else f1 a b da (λ e. apart (sym e)) ∙ under-own f b d1 in
+    let d2 : Admission = record d1 { address = None } in
+    let f3 = with_under f2 b d2 in
+    let d3 : Admission = record d2 { rate = None } in
+    let f4 = with_under f3 b d3 in
+    let n1 = normal-under f b d1 ok.normal in
+    let n2 = normal-under f1 a da n1 in
+    let n3 = normal-under f2 b d2 n2 in
+    let none_left : of_session (clashing u) f1 ≡ 0 = omega (arith, row_balance (clashing u) (Drop s b u) (Some f) (record { ready = may.ready; there = there }), ap (λ d. of_session (clashing u) (with_under f b (streaming None d))) is, ok.apart b u there, one_is _ (clash_itself u)) in
+    let add : Run (Add s a v ∷ []) f1 f2 = record {
+      own = (
+        record {
+          ready = may.ready;
+          rate = subst (λ (d : Admission). IsSome d.rate) (sym same_a) may.rate;
+          address = subst (λ (d : Admission). IsSome d.address) (sym same_a) may.address;
+          no_stream = ap (λ (d : Admission). d.stream) same_a ∙ may.no_stream;
+          no_clash = same_clash v u f1 (sym track) place ∙ none_left;
+        },
+        tt,
+      );
+      ends = refl;
+    } in
+    let back = run-append (freeing s b d.address) (freeing_rate s b d.rate) f2 f3 f4
+    (freeing_run s b f2 d1 n2 at_b refl (λ x h. (ok.in_whole b x (ap (λ (d : Admission). d.address) is ∙ h)).1))
+    (freeing_rate_run s b f3 d2 n3 (under-own f2 b d2) refl) in
+    record {
+      left = f4;
+      run = run-append (dropping s b d.stream) (Add s a v ∷ (freeing s b d.address ++ freeing_rate s b d.rate)) f f1 f4
+          (dropping_run s b f d may.ready ok.normal is)
+          (run-append (Add s a v ∷ []) (freeing s b d.address ++ freeing_rate s b d.rate) f1 f2 f4 add back);
+      binding = refl;
+    }
+
+the_track : (w : Whole) (s a : ℕ) (v : Stream) (f : Session) (e : ℕ × Admission) → SoundSession w f → MayCommit f a v → under f e.0 ≡ e.1 → is_of_track v.track e ≡ true → Adding s a v f (Some e)
+the_track w s a v f e ok may is track =
+    elim (e.1.stream) as (λ o. e.1.stream ≡ o → is_track v.track o ≡ true → Adding s a v f (Some e)) [
+      | None ↦ λ _ h. absurd cc
+      | Some u ↦ λ some h. replaced w s a e.0 v u f e.1 ok may is some (is_same u.track v.track h)
+    ] refl track
+
+pub adding_run : (w : Whole) (s a : ℕ) (v : Stream) (f : Session) → SoundSession w f → MayCommit f a v → Adding s a v f (first_with (is_of_track v.track) (entries f.admissions))
+adding_run w s a v f ok may =
+    elim (first_with (is_of_track v.track) (entries f.admissions)) as (λ o. first_with (is_of_track v.track) (entries f.admissions) ≡ o → Adding s a v f o) [
+      | None ↦ λ none. record {
+        left = with_under f a (streaming (Some v) (under f a));
+        run = record { own = (record { ready = may.ready; rate = may.rate; address = may.address; no_stream = may.no_stream; no_clash = fresh_track v f none may.same_place }, tt); ends = refl };
+        binding = refl;
+      }
+      | Some e ↦ λ some.
+          the_track w s a v f e ok may (ap or_bare (get-entries f.admissions e.0 ∙ first_found (is_of_track v.track) (entries f.admissions) e (entries_sorted f.admissions) some)) (first_passes (is_of_track v.track) (entries f.admissions) e some)
+    ] refl
+
+pub lone_adding : (s a : ℕ) (v : Stream) (o : Option (ℕ × Admission)) → AllFine (Lone s) (adding s a v o)
+lone_adding s a v None = (refl, tt)
+lone_adding s a v (Some e) =
+    fine-append (Lone s) (dropping s e.0 e.1.stream) (Add s a v ∷ (freeing s e.0 e.1.address ++ freeing_rate s e.0 e.1.rate)) (all_lone s _ (giving_dropping s e.0 e.1.stream))
+    (refl, fine-append (Lone s) (freeing s e.0 e.1.address) (freeing_rate s e.0 e.1.rate) (all_lone s _ (giving_freeing s e.0 e.1.address)) (all_lone s _ (giving_freeing_rate s e.0 e.1.rate)))
+
+no_binding : (s c i : ℕ) (r : Record) → Lone s r → gain (bindings c i) r ≡ 0
+no_binding s c i (Open t id d e) h = absurd h
+no_binding s c i (Close t id d e) h = refl
+no_binding s c i (Hold t a x) h = absurd h
+no_binding s c i (Free t a x) h = refl
+no_binding s c i (Add t a v) h = refl
+no_binding s c i (Drop t a v) h = refl
+no_binding s c i (Move t p q) h = refl
+no_binding s c i (Touch t m n) h = refl
+no_binding s c i (Bind t d j) h = absurd h
+no_binding s c i (Unbind t d j) h = refl
+
+-- such records bind nothing
+pub lone_bound : (w : Whole) (s c i : ℕ) (b : Book) (rs : List Record) → AllFine (Lone s) rs → AllAllowed w b rs → amount (bindings c i) (after_all b rs) ≤ amount (bindings c i) b
+lone_bound w s c i b [] l h = omega arith
+lone_bound w s c i b (r ∷ rs) l h = omega (arith, lone_bound w s c i (after b r) rs l.1 h.1, balance (bindings c i) b r h.0.0, no_binding s c i r l.0)

@@ -1,0 +1,222 @@
+-- What the replies rest on: look-ups as counts, what is owed record by record, and how long an end is.
+use Rattle.std.proofs.Common.{◌≡◌, ◌==◌, ℕ, ◌+◌, ◌≤◌, ◌<◌, Bool, true, false, ◌||◌, not, cond, List, [], ◌∷◌, ◌++◌, length, take, drop, flat_map, zero, suc, refl, sym, ◌∙◌, ap, subst, arith, get_or, add-one, drop-cons, append_assoc, length-append}
+use Rattle.std.specs.Prelude.{Option, Some, None, Ok, is_some, nat_lt, sum_by, option_map, slice_get}
+use Rattle.std.proofs.lemmas.Bool.Decides.{nat_tests}
+use Rattle.std.proofs.lemmas.List.Sums.{sum_by-cons}
+use Rattle.std.proofs.lemmas.List.{take_more}
+use Rattle.std.proofs.lemmas.Option.{slice_get_within, get_or_from_slice_get}
+use Rattle.std.specs.FinMap.{get, entries, entries_sorted, get-entries}
+use Rattle.rtsp_record.specs.declared.holdings.Whole.{Whole}
+use Rattle.rtsp_record.specs.declared.holdings.Admission.{Admission}
+use Rattle.rtsp_record.specs.declared.holdings.Thing.{Thing}
+use Rattle.rtsp_record.specs.declared.streams.Stream.{Stream}
+use Rattle.rtsp_book.specs.declared.steps.Startup.{Startup}
+use Rattle.rtsp_record.specs.declared.changes.Record.{Record}
+use Rattle.rtsp_record.specs.declared.changes.Record.TheVariants.{Open, Close, Hold, Free, Add, Drop, Move, Touch, Bind, Unbind}
+use Rattle.rtsp_record.specs.Records.{inverse_of, session_of}
+use Rattle.rtsp_record.specs.Books.{Session, Book, after, after_all}
+use Rattle.rtsp_record.specs.Sums.{Measure, living, is_opening, if_there, of_admission, of_session, one_if, amount, with_id, bindings, returns, owed}
+use Rattle.rtsp_record.specs.Rules.{Own, Allowed, AllAllowed, IsFree}
+use Rattle.rtsp_book.specs.Sessions.{first_with}
+use Rattle.rtsp_book.specs.Lookups.{TakesNone, TakesNoMemory, session_at, number_of, with_id_in, with_startup_in, is_startup}
+use Rattle.rtsp_book.specs.Receipts.{owed_for}
+use Rattle.rtsp_book.specs.Made.{committing, made}
+use Rattle.rtsp_book.specs.declared.steps.Step.{Step}
+use Rattle.rtsp_book.specs.Replies.{is_wrong_hold, is_wrong_commit, is_startup_taken, is_unready_commit, refusals, answer, is_growing, IsAskable}
+use Rattle.rtsp_book.specs.Laws.{IsGranted, GivesBack}
+use Rattle.rtsp_record.proofs.Trims.{AllFine}
+use Rattle.rtsp_record.proofs.Back.{after_all-append}
+use Rattle.rtsp_book.proofs.Granted.{accepted, none_there, neither, no_more, made_granted, own_hold, committed}
+use Rattle.rtsp_record.proofs.Balance.{gain, balance}
+use Rattle.rtsp_record.specs.Sound.{SoundRow, Sound}
+use Rattle.rtsp_book.specs.Returns.{ending}
+use Rattle.rtsp_book.proofs.Committing.{first_found}
+use Rattle.rtsp_book.proofs.Runs.{OwnAll, Giving, all_lone, lone_allowed}
+use Rattle.rtsp_book.proofs.Ending.{ending_own, giving_ending}
+use Rattle.rtsp_book.proofs.Giving.{gives_back, made_gives}
+
+-- Look-ups.
+
+-- the session of the first number that passes is the first that does
+pub found_view : (b : Book) (p : ℕ × Session → Bool) (s : ℕ) → Some s ≡ number_of p (entries b) → session_at b s ≡ first_with p (entries b)
+found_view b p s h =
+    elim (first_with p (entries b)) as (λ o. first_with p (entries b) ≡ o → Some s ≡ option_map (λ e. e.0) o → session_at b s ≡ o) [
+      | None ↦ λ _ h. absurd cc
+      | Some e ↦ λ is h.
+          let same : s ≡ e.0 = cc in
+          ap (session_at b) same ∙ ap (option_map (λ f. (e.0, f))) (get-entries b e.0 ∙ first_found p (entries b) e (entries_sorted b) is)
+    ] refl h
+
+-- no number passes where no session does
+pub none_found : (p : ℕ × Session → Bool) (es : List (ℕ × Session)) → None ≡ number_of p es → None ≡ first_with p es
+none_found p es h = elim (first_with p es) as (λ o. None ≡ option_map (λ e. e.0) o → None ≡ o) [ None ↦ λ _. refl | Some e ↦ λ h. absurd cc ] h
+
+-- one passes where the count of those that pass isn't 0
+found_counted : (p : ℕ × Session → Bool) (w : ℕ × Session → ℕ) → ((e : ℕ × Session) → w e ≡ one_if (p e)) → (es : List (ℕ × Session)) → is_some (number_of p es) ≡ nat_lt 0 (sum_by w es)
+found_counted p w same [] = refl
+found_counted p w same (e ∷ es) =
+    elim (p e) as (λ t. p e ≡ t → is_some (option_map (λ (e : ℕ × Session). e.0) (cond t (Some e) (first_with p es))) ≡ nat_lt 0 (sum_by w (e ∷ es))) [
+      | true ↦ λ is. sym (above (sum_by w (e ∷ es)) (omega (arith, sum_by-cons w e es, same e, ap one_if is)))
+      | false ↦ λ is. found_counted p w same es ∙ ap (nat_lt 0) (omega (arith, sum_by-cons w e es, same e, ap one_if is))
+    ] refl
+  where
+    above : (n : ℕ) → 0 < n → nat_lt 0 n ≡ true
+    above n h = grind (arith, nat_tests)
+
+nought : {X : Type 0} (o : Option X) → if_there (λ _. 0) o ≡ 0
+nought None = refl
+nought (Some x) = refl
+
+no_things : (es : List (ℕ × Admission)) → sum_by (λ e. if_there (λ _. 0) e.1.rate + if_there (λ _. 0) e.1.address + if_there (λ _. 0) e.1.stream) es ≡ 0
+no_things [] = refl
+no_things (e ∷ es) = omega (arith, no_things es, sum_by-cons (λ (e : ℕ × Admission). if_there (λ _. 0) e.1.rate + if_there (λ _. 0) e.1.address + if_there (λ _. 0) e.1.stream) e es, nought e.1.rate, nought e.1.address, nought e.1.stream)
+
+-- a session has the id where one with it is counted
+pub id_counted : (b : Book) (id : ℕ) → is_some (with_id_in id (entries b)) ≡ nat_lt 0 (amount (with_id id) b)
+id_counted b id =
+    found_counted (λ e. e.1.id == id) (λ e. of_session (with_id id) e.1) (λ e. omega (arith, nought e.1.binding, no_things (entries e.1.admissions))) (entries b)
+
+bound_once : (c i : ℕ) (o : Option (ℕ × ℕ)) → if_there (bindings c i).binding o ≡ one_if (is_startup c i o)
+bound_once c i None = refl
+bound_once c i (Some k) = refl
+
+-- a session has the startup number where a binding of it is counted
+pub startup_counted : (b : Book) (c i : ℕ) → is_some (with_startup_in c i (entries b)) ≡ nat_lt 0 (amount (bindings c i) b)
+startup_counted b c i =
+    found_counted (λ e. is_startup c i e.1.binding) (λ e. of_session (bindings c i) e.1) (λ e. omega (arith, bound_once c i e.1.binding, no_things (entries e.1.admissions))) (entries b)
+
+-- What is owed, record by record.
+
+gain_owed : (r : Record) → gain returns r ≡ owed_for r
+gain_owed (Open s id c e) = refl
+gain_owed (Close s id c e) = refl
+gain_owed (Hold s a x) = refl
+gain_owed (Free s a x) = refl
+gain_owed (Add s a v) = refl
+gain_owed (Drop s a v) = refl
+gain_owed (Move s p q) = refl
+gain_owed (Touch s m n) = refl
+gain_owed (Bind s c i) = refl
+gain_owed (Unbind s c i) = refl
+
+-- after one record that is allowed
+pub owed_once : (w : Whole) (b : Book) (r : Record) → Allowed w b r → owed (after b r) + owed_for (inverse_of r) ≡ owed b + owed_for r
+owed_once w b r h = omega (arith, balance returns b r h.0, gain_owed r, gain_owed (inverse_of r))
+
+pub owed_for_small : (r : Record) → owed_for r ≤ 1
+owed_for_small (Open s id c e) = omega arith
+owed_for_small (Close s id c e) = omega arith
+owed_for_small (Hold s a x) = omega arith
+owed_for_small (Free s a x) = omega arith
+owed_for_small (Add s a v) = omega arith
+owed_for_small (Drop s a v) = omega arith
+owed_for_small (Move s p q) = elim (is_opening q) as (λ t. one_if (not t) ≤ 1) [ true ↦ omega arith | false ↦ omega arith ]
+owed_for_small (Touch s m n) = omega arith
+owed_for_small (Bind s c i) = omega arith
+owed_for_small (Unbind s c i) = omega arith
+
+-- the record at a place is allowed after those before it
+pub allowed_at : (w : Whole) (b : Book) (rs : List Record) (i : ℕ) (d : Record) → AllAllowed w b rs → i < length rs → Allowed w (after_all b (take i rs)) (get_or rs i d)
+allowed_at w b [] i d h lt = absurd (omega arith)
+allowed_at w b (r ∷ rs) zero d h lt = h.0
+allowed_at w b (r ∷ rs) (suc i) d h lt = allowed_at w (after b r) rs i d h.1 (omega arith)
+
+-- the book after one more of the records
+after_more : (b : Book) (rs : List Record) (i : ℕ) (d : Record) → i < length rs → after_all b (take (i + 1) rs) ≡ after (after_all b (take i rs)) (get_or rs i d)
+after_more b rs i d lt = ap (after_all b) (take_more rs i d lt) ∙ after_all-append b (take i rs) (get_or rs i d ∷ [])
+
+-- what is owed after one more of the records
+pub owed_next : (w : Whole) (b : Book) (rs : List Record) (i : ℕ) (d : Record) → AllAllowed w b rs → i < length rs → owed (after_all b (take (i + 1) rs)) + owed_for (inverse_of (get_or rs i d)) ≡ owed (after_all b (take i rs)) + owed_for (get_or rs i d)
+owed_next w b rs i d h lt = omega (arith, owed_once w (after_all b (take i rs)) (get_or rs i d) (allowed_at w b rs i d h lt), ap owed (after_more b rs i d lt))
+
+-- each record makes at most one more be owed
+pub owed_at_most : (w : Whole) (b : Book) (rs : List Record) → AllAllowed w b rs → owed (after_all b rs) ≤ owed b + length rs
+owed_at_most w b [] h = omega arith
+owed_at_most w b (r ∷ rs) h = omega (arith, owed_at_most w (after b r) rs h.1, owed_once w b r h.0, owed_for_small r)
+
+-- Rows given back one after another.
+
+-- what stands from a place on is the row there and the rest
+drop_there : {X : Type 0} (es : List X) (i : ℕ) (x : X) → slice_get es i ≡ Some x → drop i es ≡ x ∷ drop (i + 1) es
+drop_there es i x h =
+    drop-cons es i x (slice_get_within es i x h) ∙ (λ t. get_or_from_slice_get es i x x h t ∷ drop (sym (add-one i) t) es)
+
+module _ {X R : Type 0} where
+  -- with what one row gives back made
+  pub row_made : (g : X → List R) (made all : List R) (es : List X) (i : ℕ) (x : X) → slice_get es i ≡ Some x → made ++ flat_map g (drop i es) ≡ all → (made ++ g x) ++ flat_map g (drop (i + 1) es) ≡ all
+  row_made g made all es i x h is =
+      append_assoc made (g x) (flat_map g (drop (i + 1) es)) ∙ ap (λ es. made ++ flat_map g es) (sym (drop_there es i x h)) ∙ is
+
+  -- there is room for it
+  pub row_fits : (g : X → List R) (made all : List R) (es : List X) (i : ℕ) (x : X) → slice_get es i ≡ Some x → made ++ flat_map g (drop i es) ≡ all → length made + length (g x) ≤ length all
+  row_fits g made all es i x h is =
+      omega (arith, length-append (made ++ g x) (flat_map g (drop (i + 1) es)), length-append made (g x), ap length (row_made g made all es i x h is))
+
+-- Ends.
+
+-- the end of a sound session is short
+pub ending_short : (w : Whole) (b : Book) (s : ℕ) (f : Session) → Sound w b → get b s ≡ Some f → length (ending s f) ≤ 64
+ending_short w b s f ok is =
+    let own = subst (OwnAll (ending s f)) (sym is) (ending_own w s f (subst (SoundRow w) is (ok.rows s))).0 in
+    (gives_back w s b (ending s f) ok (giving_ending s f) (lone_allowed w s b (ending s f) (all_lone s (ending s f) (giving_ending s f)) own)).short
+
+pub short_view : (w : Whole) (b : Book) (s : ℕ) (v : ℕ × Session) → Sound w b → v.0 ≡ s → get b s ≡ Some v.1 → length (ending v.0 v.1) ≤ 64
+short_view w b s v ok at is = ending_short w b v.0 v.1 ok (ap (get b) at ∙ is)
+
+pub short_found : (w : Whole) (b : Book) (p : ℕ × Session → Bool) (v : ℕ × Session) → Sound w b → Some v ≡ first_with p (entries b) → length (ending v.0 v.1) ≤ 64
+short_found w b p v ok is = ending_short w b v.0 v.1 ok (get-entries b v.0 ∙ first_found p (entries b) v (entries_sorted b) (sym is))
+
+-- What is made where no earlier refusal fits is allowed.
+
+seen : (s : ℕ) (o : Option Session) (q : Option (ℕ × Session)) → q ≡ option_map (λ f. (s, f)) o → is_some q ≡ is_some o
+seen s None q is = ap is_some is
+seen s (Some f) q is = ap is_some is
+
+-- a session has the number where its row is there
+pub lives_at : (b : Book) (s : ℕ) → is_some (session_at b s) ≡ is_some (get b s)
+lives_at b s = seen s (get b s) (session_at b s) refl
+
+pub open_allowed : (w : Whole) (b : Book) (s id c e : ℕ) (rs : List Record) → (is_some (get b s) || nat_lt 0 (amount (with_id id) b)) ≡ false → living b < w.sessions → rs ≡ Open s id c e ∷ [] → AllAllowed w b rs
+open_allowed w b s id c e rs free few is =
+    let parts = neither (is_some (get b s)) (nat_lt 0 (amount (with_id id) b)) free in
+    subst (AllAllowed w b) (sym is) ((none_there (get b s) parts.0, record { id_free = no_more (amount (with_id id) b) parts.1; few = few }), tt)
+
+module _ (w : Whole) (n : ℕ) (b : Book) (ok : Sound w b) (room : n + owed b ≤ w.journal) where
+  pub hold_allowed : (s a : ℕ) (x : Thing) (f : Session) (rs : List Record) → get b s ≡ Some f → is_wrong_hold a x f ≡ false → IsFree w b x → rs ≡ Hold s a x ∷ [] → AllAllowed w b rs
+  hold_allowed s a x f rs there right free is =
+      subst (AllAllowed w b) (sym is) ((subst (Own (Hold s a x)) (sym there) (own_hold w n b ok room s a x (Some f) refl right), free), tt)
+
+  pub commit_allowed : (s a : ℕ) (v : Stream) (startup : Option Startup) (f : Session) (rs : List Record) → get b s ≡ Some f → is_wrong_commit a v f ≡ false → is_startup_taken b startup f ≡ false → is_unready_commit a f ≡ false → rs ≡ committing s a v startup f → AllAllowed w b rs
+  commit_allowed s a v startup f rs there right free ready is = subst (AllAllowed w b) (sym is) (committed w n b ok room s a v startup f there right free ready)
+
+-- Answers of records, over any sound book.
+
+-- what is answered may be recorded
+pub answer_granted : (w : Whole) (n : ℕ) (b : Book) (step : Step) (rs : List Record) → Sound w b → n + owed b ≤ w.journal → IsAskable step → answer w n b step ≡ Ok rs → IsGranted w n b rs
+answer_granted w n b step rs ok room ask is =
+    let h = accepted (refusals w n b step) (made w b step) rs is in
+    subst (IsGranted w n b) h.1 (made_granted w n b ok room step ask h.0)
+
+giving_frees : (s : ℕ) (r : Record) → Giving s r → TakesNone r
+giving_frees s (Open t id c e) h = absurd h
+giving_frees s (Close t id c e) h = tt
+giving_frees s (Hold t a x) h = absurd h
+giving_frees s (Free t a x) h = tt
+giving_frees s (Add t a v) h = absurd h
+giving_frees s (Drop t a v) h = tt
+giving_frees s (Move t p q) h = tt
+giving_frees s (Touch t m n) h = absurd h
+giving_frees s (Bind t c i) h = absurd h
+giving_frees s (Unbind t c i) h = tt
+
+all_free : (s : ℕ) (rs : List Record) → AllFine (Giving s) rs → TakesNoMemory rs
+all_free s [] h = tt
+all_free s (r ∷ rs) h = (giving_frees s r h.0, all_free s rs h.1)
+
+-- a step that isn't growing takes no memory, and each of its records is a return that was owed
+pub answer_gives : (w : Whole) (n : ℕ) (b : Book) (step : Step) (rs : List Record) → Sound w b → n + owed b ≤ w.journal → IsAskable step → is_growing step ≡ false → answer w n b step ≡ Ok rs → TakesNoMemory rs × GivesBack b rs
+answer_gives w n b step rs ok room ask grows is =
+    let h = accepted (refusals w n b step) (made w b step) rs is in
+    let allowed = (made_granted w n b ok room step ask h.0).allowed in
+    let gave = made_gives w b step grows in
+    subst (λ rs. TakesNoMemory rs × GivesBack b rs) h.1 (all_free gave.0 (made w b step) gave.1, gives_back w gave.0 b (made w b step) ok gave.1 allowed)

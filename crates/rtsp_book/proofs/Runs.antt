@@ -1,0 +1,165 @@
+-- Runs of records of one session.
+use Rattle.std.proofs.Common.{◌≡◌, ℕ, ◌+◌, Bool, true, false, T, ◌&&◌, not, cond, List, [], ◌∷◌, ◌++◌, length, refl, sym, ◌∙◌, ap, subst, arith}
+use Rattle.std.specs.Prelude.{Option, Some, None}
+use Rattle.std.specs.Ordering.{nat_cmp, is_eq, is_lt}
+use Rattle.std.specs.declared.cmp.Ordering.{Ordering}
+use Rattle.std.specs.declared.cmp.Ordering.TheVariants.{Less, Equal, Greater}
+use Rattle.std.specs.FinMap.{get, find, is_sorted}
+use Rattle.std.specs.FinMap.Entries.{below_all}
+use Rattle.rtsp_record.specs.declared.holdings.Whole.{Whole}
+use Rattle.rtsp_record.specs.declared.changes.Record.{Record}
+use Rattle.rtsp_record.specs.declared.changes.Record.TheVariants.{Open, Close, Hold, Free, Add, Drop, Move, Touch, Bind, Unbind}
+use Rattle.rtsp_record.specs.Records.{inverse_of, session_of}
+use Rattle.rtsp_record.specs.Books.{Session, Book, opening, effect, after, after_all}
+use Rattle.rtsp_record.specs.Sums.{one_if, is_opening, returns, owed}
+use Rattle.rtsp_record.specs.Rules.{Own, Others, AllAllowed}
+use Rattle.rtsp_record.proofs.Tables.{get-set_own}
+use Rattle.rtsp_record.proofs.Balance.{gain, balance}
+use Rattle.rtsp_record.proofs.Strands.{row_after}
+use Rattle.rtsp_record.proofs.Trims.{AllFine}
+
+-- each is allowed by the session's own row after those before it
+abbrev pub OwnAll : List Record → Option Session → Type 0
+OwnAll [] o = Unit {0}
+OwnAll (r ∷ rs) o = Own r o × OwnAll rs (effect r o)
+
+pub row_after-append : (rs qs : List Record) (o : Option Session) → row_after (rs ++ qs) o ≡ row_after qs (row_after rs o)
+row_after-append [] qs o = refl
+row_after-append (r ∷ rs) qs o = row_after-append rs qs (effect r o)
+
+pub own-append : (rs qs : List Record) (o : Option Session) → OwnAll rs o → OwnAll qs (row_after rs o) → OwnAll (rs ++ qs) o
+own-append [] qs o h g = g
+own-append (r ∷ rs) qs o h g = (h.0, own-append rs qs (effect r o) h.1 g)
+
+-- records allowed on this session, which leave it so
+pub record Run (rs : List Record) (f g : Session) : Type 0 where
+  pub own : OwnAll rs (Some f)
+  pub ends : row_after rs (Some f) ≡ Some g
+
+pub run-none : (f : Session) → Run [] f f
+run-none f = record { own = tt; ends = refl }
+
+pub run-append : (rs qs : List Record) (f g h : Session) → Run rs f g → Run qs g h → Run (rs ++ qs) f h
+run-append rs qs f g h one two =
+    record {
+      own = own-append rs qs (Some f) one.own (subst (OwnAll qs) (sym one.ends) two.own);
+      ends = row_after-append rs qs (Some f) ∙ ap (row_after qs) one.ends ∙ two.ends;
+    }
+
+pub run-to : (rs : List Record) (f g h : Session) → g ≡ h → Run rs f g → Run rs f h
+run-to rs f g h same run = subst (Run rs f) same run
+
+-- a record that asks nothing of other sessions
+abbrev pub Lone : ℕ → Record → Type 0
+Lone s (Open t id c e) = ⊥
+Lone s (Close t id c e) = t ≡ s
+Lone s (Hold t a x) = ⊥
+Lone s (Free t a x) = t ≡ s
+Lone s (Add t a v) = t ≡ s
+Lone s (Drop t a v) = t ≡ s
+Lone s (Move t p q) = t ≡ s
+Lone s (Touch t m n) = t ≡ s
+Lone s (Bind t c i) = ⊥
+Lone s (Unbind t c i) = t ≡ s
+
+pub lone_session : (s : ℕ) (r : Record) → Lone s r → session_of r ≡ s
+lone_session s (Open t id c e) h = absurd h
+lone_session s (Close t id c e) h = h
+lone_session s (Hold t a x) h = absurd h
+lone_session s (Free t a x) h = h
+lone_session s (Add t a v) h = h
+lone_session s (Drop t a v) h = h
+lone_session s (Move t p q) h = h
+lone_session s (Touch t m n) h = h
+lone_session s (Bind t c i) h = absurd h
+lone_session s (Unbind t c i) h = h
+
+lone_others : (s : ℕ) (w : Whole) (b : Book) (r : Record) → Lone s r → Others w r b
+lone_others s w b (Open t id c e) h = absurd h
+lone_others s w b (Hold t a x) h = absurd h
+lone_others s w b (Bind t c i) h = absurd h
+lone_others s w b r h = tt
+
+pub row_at : (s : ℕ) (b : Book) (r : Record) → Lone s r → get (after b r) s ≡ effect r (get b s)
+row_at s b r h = subst (λ q. get (after b r) q ≡ effect r (get b q)) (lone_session s r h) (get-set_own b (session_of r) (effect r (get b (session_of r))))
+
+pub lone_allowed : (w : Whole) (s : ℕ) (b : Book) (rs : List Record) → AllFine (Lone s) rs → OwnAll rs (get b s) → AllAllowed w b rs
+lone_allowed w s b [] l h = tt
+lone_allowed w s b (r ∷ rs) l h =
+    ((subst (λ q. Own r (get b q)) (sym (lone_session s r l.0)) h.0, lone_others s w b r l.0), lone_allowed w s (after b r) rs l.1 (subst (OwnAll rs) (sym (row_at s b r l.0)) h.1))
+
+pub lone_row : (s : ℕ) (b : Book) (rs : List Record) → AllFine (Lone s) rs → get (after_all b rs) s ≡ row_after rs (get b s)
+lone_row s b [] l = refl
+lone_row s b (r ∷ rs) l = lone_row s (after b r) rs l.1 ∙ ap (row_after rs) (row_at s b r l.0)
+
+-- a record that gives back, of this session
+abbrev pub Giving : ℕ → Record → Type 0
+Giving s (Open t id c e) = ⊥
+Giving s (Close t id c e) = t ≡ s
+Giving s (Hold t a x) = ⊥
+Giving s (Free t a x) = t ≡ s
+Giving s (Add t a v) = ⊥
+Giving s (Drop t a v) = t ≡ s
+Giving s (Move t p q) = (t ≡ s) × (is_opening p ≡ false) × (q ≡ opening)
+Giving s (Touch t m n) = ⊥
+Giving s (Bind t c i) = ⊥
+Giving s (Unbind t c i) = t ≡ s
+
+pub giving_lone : (s : ℕ) (r : Record) → Giving s r → Lone s r
+giving_lone s (Open t id c e) h = absurd h
+giving_lone s (Close t id c e) h = h
+giving_lone s (Hold t a x) h = absurd h
+giving_lone s (Free t a x) h = h
+giving_lone s (Add t a v) h = absurd h
+giving_lone s (Drop t a v) h = h
+giving_lone s (Move t p q) h = h.0
+giving_lone s (Touch t m n) h = absurd h
+giving_lone s (Bind t c i) h = absurd h
+giving_lone s (Unbind t c i) h = h
+
+pub all_lone : (s : ℕ) (rs : List Record) → AllFine (Giving s) rs → AllFine (Lone s) rs
+all_lone s [] h = tt
+all_lone s (r ∷ rs) h = (giving_lone s r h.0, all_lone s rs h.1)
+
+pub fine-append : (P : Record → Type 0) (rs qs : List Record) → AllFine P rs → AllFine P qs → AllFine P (rs ++ qs)
+fine-append P [] qs h g = g
+fine-append P (r ∷ rs) qs h g = (h.0, fine-append P rs qs h.1 g)
+
+-- each settles one return that is owed
+pub settles : (s : ℕ) (r : Record) → Giving s r → gain returns (inverse_of r) ≡ gain returns r + 1
+settles s (Open t id c e) h = absurd h
+settles s (Close t id c e) h = refl
+settles s (Hold t a x) h = absurd h
+settles s (Free t a x) h = refl
+settles s (Add t a v) h = absurd h
+settles s (Drop t a v) h = refl
+settles s (Move t p q) h = omega (arith, ap returns.phase h.2, ap (λ t. one_if (not t)) h.1)
+settles s (Touch t m n) h = absurd h
+settles s (Bind t c i) h = absurd h
+settles s (Unbind t c i) h = refl
+
+pub owed_given : (w : Whole) (s : ℕ) (b : Book) (rs : List Record) → AllFine (Giving s) rs → AllAllowed w b rs → length rs + owed (after_all b rs) ≡ owed b
+owed_given w s b [] g h = omega arith
+owed_given w s b (r ∷ rs) g h = omega (arith, owed_given w s (after b r) rs g.1 h.1, balance returns b r h.0.0, settles s r g.0)
+
+-- Rows of a table one after another.
+
+both_parts : (a b : Bool) → T (a && b) → T a × T b
+both_parts true b h = (tt, h)
+both_parts false b h = absurd h
+
+not_eq : (r : Ordering) → T (is_lt r) → is_eq r ≡ false
+not_eq Less h = refl
+not_eq Equal h = absurd h
+not_eq Greater h = absurd h
+
+module _ {X : Type 0} where
+  pub sorted_parts : (e : ℕ × X) (es : List (ℕ × X)) → T (is_sorted nat_cmp (e ∷ es)) → T (below_all nat_cmp e.0 es) × T (is_sorted nat_cmp es)
+  sorted_parts e es h = both_parts _ _ h
+
+  -- a number below all isn't found
+  pub below_none : (k : ℕ) (es : List (ℕ × X)) → T (below_all nat_cmp k es) → find nat_cmp k es ≡ None
+  below_none k [] h = refl
+  below_none k (e ∷ es) h =
+      let parts = both_parts _ _ h in
+      ap (λ t. cond t (Some e.1) (find nat_cmp k es)) (not_eq (nat_cmp k e.0) parts.0) ∙ below_none k es parts.1

@@ -1,0 +1,260 @@
+-- A range is read exactly where it is spelled, and each fault found exactly where it is.
+use Rattle.std.proofs.Common.{◌≡◌, ℕ, ◌-◌, ◌⊎◌, Bool, true, false, cond, eqb, List, [], ◌∷◌, ◌++◌, length, take, drop, map, refl, sym, ap, subst, ◌∙◌, arith, inl, inr, Option, Some, None, Result, Ok, Err, nat_eq, nat_le}
+use Rattle.std.specs.Prelude.{not, ◌||◌, codes, ◌↔◌}
+use Rattle.std.specs.Char.{to_ascii_lowercase}
+use Rattle.std.specs.Option.{ok_or}
+use Rattle.std.specs.List.{list_all, starts_with, ends_with}
+use Rattle.std.specs.Cmp.Lexicographic.{same_text, bytes_decides}
+use Rattle.std.proofs.lemmas.Bool.{leb-true, le-leb, eqb-true}
+use Rattle.std.proofs.lemmas.List.{take-append-drop}
+use Rattle.std.proofs.lemmas.List.Prefix.{end_rest}
+use Rattle.std.proofs.lemmas.List.Folds.{list_all-append}
+use Rattle.rtsp_npt.specs.Bytes.{equals, dash, is_token_byte, IsToken, IsNpt}
+use Rattle.rtsp_npt.specs.Times.{SpellsTime}
+use Rattle.rtsp_npt.specs.Ranges.{HasTimes, SpellsRange, IsOtherUnit, IsNotNpt, HasNow, IsBadNpt, HasFault}
+use Rattle.rtsp_npt.specs.Reading.{◌>>=◌, split_once, time_of, is_npt, is_token, has_now, sides_of, times_of, spec_of, range_of}
+use Rattle.rtsp_npt.specs.declared.range.Range.{Range}
+use Rattle.rtsp_npt.specs.declared.range.Range.TheVariants as ranges
+use Rattle.rtsp_npt.specs.declared.fault.RangeFault.{RangeFault}
+use Rattle.rtsp_npt.specs.declared.fault.RangeFault.TheVariants as faults
+use Rattle.rtsp_npt.proofs.TextLemmas.{is_other, both_true, and_true, all_joined, all_other, split_found, split_none, split_parts}
+use Rattle.rtsp_npt.proofs.TimeLemmas.{or_left, or_right, is_time_byte, time_bytes, time_some, time_spells, time_reads}
+
+clash : (b : Bool) → b ≡ false → b ≡ true → ⊥
+clash b f t = absurd cc
+
+by_truth : (b : Bool) → (b ≡ true → ⊥) → b ≡ false
+by_truth true h = absurd (h refl)
+by_truth false h = refl
+
+-- ---- units
+
+npt_test : (unit : List ℕ) → IsNpt unit → is_npt unit ≡ true
+npt_test unit h = (bytes_decides (map to_ascii_lowercase unit) (codes "npt")).1 h
+
+npt_is : (unit : List ℕ) → is_npt unit ≡ true → IsNpt unit
+npt_is unit e = same_text (map to_ascii_lowercase unit) (codes "npt") (sym e)
+
+token_test : (text : List ℕ) → IsToken text → is_token text ≡ true
+token_test text h = and_true (nat_le 1 (length text)) (list_all is_token_byte text) (le-leb 1 (length text) h.some) h.bytes
+
+token_is : (text : List ℕ) → is_token text ≡ true → IsToken text
+token_is text e =
+    let t = both_true (nat_le 1 (length text)) (list_all is_token_byte text) e in
+    record { some = leb-true 1 (length text) t.0; bytes = t.1 }
+
+-- a letter's case doesn't make it `=`
+lower_equals : (b : ℕ) → is_other equals (to_ascii_lowercase b) ≡ true → is_other equals b ≡ true
+lower_equals b e = go (eqb b equals) refl where
+  go : (x : Bool) → eqb b equals ≡ x → not (eqb b equals) ≡ true
+  go true h =
+      let same : b ≡ equals = eqb-true b equals h in
+      let bad : is_other equals (to_ascii_lowercase equals) ≡ true = subst (λ (c : ℕ). is_other equals (to_ascii_lowercase c) ≡ true) same e in
+      absurd (clash false refl bad)
+  go false h = rw h refl
+
+lower_no_equals : (unit : List ℕ) → list_all (is_other equals) (map to_ascii_lowercase unit) ≡ true → list_all (is_other equals) unit ≡ true
+lower_no_equals [] e = refl
+lower_no_equals (b ∷ unit) e =
+    let t = both_true (is_other equals (to_ascii_lowercase b)) (list_all (is_other equals) (map to_ascii_lowercase unit)) e in
+    and_true (is_other equals b) (list_all (is_other equals) unit) (lower_equals b t.0) (lower_no_equals unit t.1)
+
+npt_no_equals : (unit : List ℕ) → IsNpt unit → list_all (is_other equals) unit ≡ true
+npt_no_equals unit h = lower_no_equals unit (subst (λ (t : List ℕ). list_all (is_other equals) t ≡ true) (sym h) refl)
+
+token_no_equals : (unit : List ℕ) → IsToken unit → list_all (is_other equals) unit ≡ true
+token_no_equals unit h = all_other is_token_byte equals unit refl h.bytes
+
+-- ---- what is spelled is read
+
+npt_alone : (text : List ℕ) → IsNpt text → range_of text ≡ Ok ranges.Rest
+unfolding range_of
+npt_alone text h = rw (split_none equals text (npt_no_equals text h), npt_test text h) refl
+
+times_read : (text times : List ℕ) → HasTimes text times → range_of text ≡ times_of times
+unfolding range_of
+times_read text times h =
+    let s : split_once equals text ≡ Some (h.unit, times) = ap (split_once equals) h.parts ∙ split_found equals h.unit times (npt_no_equals h.unit h.npt) in
+    rw (s, npt_test h.unit h.npt) refl
+
+other_fault : (unit : List ℕ) → IsOtherUnit unit → (is_npt unit ≡ false) × (is_token unit ≡ true)
+other_fault unit h = (by_truth (is_npt unit) (λ e. h.other (npt_is unit e)), token_test unit h.token)
+
+other_read : (text : List ℕ) → IsNotNpt text → range_of text ≡ Err faults.NotNpt
+unfolding range_of
+other_read text (inl h) =
+    let f = other_fault text h in
+    rw (split_none equals text (token_no_equals text h.token), f.0, f.1) refl
+other_read text (inr h) =
+    let f = other_fault h.unit h.other in
+    let s : split_once equals text ≡ Some (h.unit, h.rest) = ap (split_once equals) h.parts ∙ split_found equals h.unit h.rest (token_no_equals h.unit h.other.token) in
+    rw (s, f.0, f.1) refl
+
+-- `now` at either side
+
+now_first : (other : List ℕ) → has_now (codes "now" ++ dash ∷ other) ≡ true
+now_first other = or_left (starts_with nat_eq (codes "now" ++ dash ∷ other) (codes "now-")) (ends_with nat_eq (codes "now" ++ dash ∷ other) (codes "-now")) refl
+
+now_last : (other : List ℕ) → has_now (other ++ dash ∷ codes "now") ≡ true
+now_last other =
+    let times = other ++ dash ∷ codes "now" in
+    let e : drop (length times - 4) times ≡ codes "-now" = end_rest times (codes "-now") other refl in
+    or_right (starts_with nat_eq times (codes "now-")) (ends_with nat_eq times (codes "-now")) ((bytes_decides (codes "-now") (drop (length times - 4) times)).1 (sym e))
+
+now_times : (times : List ℕ) → has_now times ≡ true → times_of times ≡ Err faults.Now
+unfolding times_of
+now_times times e = rw e refl
+
+now_read : (text : List ℕ) → HasNow text → range_of text ≡ Err faults.Now
+now_read text h = go h.times where
+  go : HasTimes text (codes "now" ++ dash ∷ h.other) ⊎ HasTimes text (h.other ++ dash ∷ codes "now") → range_of text ≡ Err faults.Now
+  go (inl t) = times_read text (codes "now" ++ dash ∷ h.other) t ∙ now_times (codes "now" ++ dash ∷ h.other) (now_first h.other)
+  go (inr t) = times_read text (h.other ++ dash ∷ codes "now") t ∙ now_times (h.other ++ dash ∷ codes "now") (now_last h.other)
+
+-- a text of times has no `n`
+abbrev HasNoN : List ℕ → Type 0
+HasNoN times = list_all (is_other 110) times ≡ true
+
+no_n_parts : (k : ℕ) (times : List ℕ) → HasNoN times → HasNoN (take k times) × HasNoN (drop k times)
+no_n_parts k times h = both_true (list_all (is_other 110) (take k times)) (list_all (is_other 110) (drop k times)) (sym (list_all-append (is_other 110) (take k times) (drop k times)) ∙ ap (list_all (is_other 110)) (take-append-drop k times) ∙ h)
+
+no_now : (times : List ℕ) → HasNoN times → has_now times ≡ false
+no_now times h =
+    let first : starts_with nat_eq times (codes "now-") ≡ false = by_truth (starts_with nat_eq times (codes "now-")) (λ e.
+    let same : codes "now-" ≡ take 4 times = same_text (codes "now-") (take 4 times) (sym e) in
+    clash false refl (subst (λ (t : List ℕ). list_all (is_other 110) t ≡ true) (sym same) (no_n_parts 4 times h).0)) in
+    let last : ends_with nat_eq times (codes "-now") ≡ false = by_truth (ends_with nat_eq times (codes "-now")) (λ e.
+    let same : codes "-now" ≡ drop (length times - 4) times = same_text (codes "-now") (drop (length times - 4) times) (sym e) in
+    clash false refl (subst (λ (t : List ℕ). list_all (is_other 110) t ≡ true) (sym same) (no_n_parts (length times - 4) times h).1)) in
+    rw (first, last) refl
+
+time_no_n : (text : List ℕ) (t : ℕ) → SpellsTime text t → HasNoN text
+time_no_n text t h = all_other is_time_byte 110 text refl (time_bytes text t h)
+
+time_no_dash : (text : List ℕ) (t : ℕ) → SpellsTime text t → list_all (is_other dash) text ≡ true
+time_no_dash text t h = all_other is_time_byte dash text refl (time_bytes text t h)
+
+sides_read : (first last : List ℕ) (range : Range) → HasNoN first → list_all (is_other dash) first ≡ true → HasNoN last → sides_of first last ≡ Some range → times_of (first ++ dash ∷ last) ≡ Ok range
+unfolding times_of
+sides_read first last range f d l e =
+    let n = no_now (first ++ dash ∷ last) (all_joined (is_other 110) first (dash ∷ last) f l) in
+    rw (n, split_found dash first last d, e) refl
+
+from_side : (first : List ℕ) (start : ℕ) → SpellsTime first start → sides_of first [] ≡ Some (ranges.From (record { nanos = start }))
+from_side first start h = rw (time_reads first start h) refl
+
+until_side : (last : List ℕ) (stop : ℕ) → SpellsTime last stop → sides_of [] last ≡ Some (ranges.Until (record { nanos = stop }))
+until_side [] stop h = absurd (let some = time_some [] stop h in omega (arith, some))
+until_side (b ∷ last) stop h = rw (time_reads (b ∷ last) stop h) refl
+
+between_sides : (first last : List ℕ) (start stop : ℕ) → SpellsTime first start → SpellsTime last stop → sides_of first last ≡ Some (ranges.Between (record { nanos = start }) (record { nanos = stop }))
+between_sides [] last start stop f l = absurd (let some = time_some [] start f in omega (arith, some))
+between_sides (a ∷ first) [] start stop f l = absurd (let some = time_some [] stop l in omega (arith, some))
+between_sides (a ∷ first) (b ∷ last) start stop f l = rw (time_reads (a ∷ first) start f, time_reads (b ∷ last) stop l) refl
+
+pub spelled_read : (text : List ℕ) (range : Range) → SpellsRange text range → range_of text ≡ Ok range
+spelled_read text ranges.Rest h = npt_alone text h
+spelled_read text (ranges.From start) h =
+    times_read text (h.first ++ dash ∷ []) h.times ∙ sides_read h.first [] (ranges.From start) (time_no_n h.first start.nanos h.spells_start) (time_no_dash h.first start.nanos h.spells_start) refl (from_side h.first start.nanos h.spells_start)
+spelled_read text (ranges.Until stop) h =
+    times_read text (dash ∷ h.last) h.times ∙ sides_read [] h.last (ranges.Until stop) refl refl (time_no_n h.last stop.nanos h.spells_stop) (until_side h.last stop.nanos h.spells_stop)
+spelled_read text (ranges.Between start stop) h =
+    times_read text (h.first ++ dash ∷ h.last) h.times
+    ∙ sides_read h.first h.last (ranges.Between start stop) (time_no_n h.first start.nanos h.spells_start) (time_no_dash h.first start.nanos h.spells_start) (time_no_n h.last stop.nanos h.spells_stop) (between_sides h.first h.last start.nanos stop.nanos h.spells_start h.spells_stop)
+
+-- ---- what is read is spelled
+
+-- what the reading of a text tells of it, but for a text that is malformed
+abbrev Tells : List ℕ → Result Range RangeFault → Type 0
+Tells text (Ok range) = SpellsRange text range
+Tells text (Err faults.NotNpt) = IsNotNpt text
+Tells text (Err faults.Now) = HasNow text
+Tells text (Err faults.BadNpt) = Unit {0}
+
+sides_tell : (text first last : List ℕ) → HasTimes text (first ++ dash ∷ last) → Tells text (ok_or (sides_of first last) faults.BadNpt)
+sides_tell text first [] times = go (time_of first) refl where
+  go : (o : Option ℕ) → time_of first ≡ o → Tells text (ok_or (o >>= λ start. Some (ranges.From (record { nanos = start }))) faults.BadNpt)
+  go None e = tt
+  go (Some start) e = record { first = first; times = times; spells_start = time_spells first start e }
+sides_tell text [] (b ∷ last) times = go (time_of (b ∷ last)) refl where
+  go : (o : Option ℕ) → time_of (b ∷ last) ≡ o → Tells text (ok_or (o >>= λ stop. Some (ranges.Until (record { nanos = stop }))) faults.BadNpt)
+  go None e = tt
+  go (Some stop) e = record { last = b ∷ last; times = times; spells_stop = time_spells (b ∷ last) stop e }
+sides_tell text (a ∷ first) (b ∷ last) times = go (time_of (a ∷ first)) refl (time_of (b ∷ last)) refl where
+  go : (o : Option ℕ) → time_of (a ∷ first) ≡ o → (p : Option ℕ) → time_of (b ∷ last) ≡ p → Tells text (ok_or (o >>= λ start. p >>= λ stop. Some (ranges.Between (record { nanos = start }) (record { nanos = stop }))) faults.BadNpt)
+  go None e p f = tt
+  go (Some start) e None f = tt
+  go (Some start) e (Some stop) f = record { first = a ∷ first; last = b ∷ last; times = times; spells_start = time_spells (a ∷ first) start e; spells_stop = time_spells (b ∷ last) stop f }
+
+along : (text a b : List ℕ) → a ≡ b → HasTimes text a → HasTimes text b
+along text a b e h = subst (HasTimes text) e h
+
+now_tells : (text times : List ℕ) → HasTimes text times → has_now times ≡ true → HasNow text
+now_tells text times h e = go (starts_with nat_eq times (codes "now-")) refl e where
+  go : (x : Bool) → starts_with nat_eq times (codes "now-") ≡ x → (x || ends_with nat_eq times (codes "-now")) ≡ true → HasNow text
+  go true s e =
+      let same : codes "now-" ≡ take 4 times = same_text (codes "now-") (take 4 times) (sym s) in
+      let parts : times ≡ codes "now-" ++ drop 4 times = sym (take-append-drop 4 times) ∙ ap (λ (r : List ℕ). r ++ drop 4 times) (sym same) in
+      record { other = drop 4 times; times = inl (along text times (codes "now-" ++ drop 4 times) parts h) }
+  go false s e =
+      let k = length times - 4 in
+      let same : codes "-now" ≡ drop (length times - 4) times = same_text (codes "-now") (drop (length times - 4) times) (sym e) in
+      let parts : times ≡ take (length times - 4) times ++ codes "-now" = sym (take-append-drop (length times - 4) times) ∙ ap (λ (r : List ℕ). take (length times - 4) times ++ r) (sym same) in
+      record { other = take (length times - 4) times; times = inr (along text times (take (length times - 4) times ++ codes "-now") parts h) }
+
+times_tell : (text times : List ℕ) → HasTimes text times → Tells text (times_of times)
+unfolding times_of
+times_tell text times h = go (has_now times) refl where
+  split : (o : Option (List ℕ × List ℕ)) → split_once dash times ≡ o → Tells text (ok_or (o >>= λ parts. sides_of parts.0 parts.1) faults.BadNpt)
+  split None s = tt
+  split (Some parts) s = sides_tell text parts.0 parts.1 (along text times (parts.0 ++ dash ∷ parts.1) (split_parts dash times parts s) h)
+
+  go : (b : Bool) → has_now times ≡ b → Tells text (cond b (Err faults.Now) (ok_or (split_once dash times >>= λ parts. sides_of parts.0 parts.1) faults.BadNpt))
+  go true e = now_tells text times h e
+  go false e = split (split_once dash times) refl
+
+other_unit : (unit : List ℕ) → is_npt unit ≡ false → is_token unit ≡ true → IsOtherUnit unit
+other_unit unit n t = record { token = token_is unit t; other = λ h. clash (is_npt unit) n (npt_test unit h) }
+
+alone_tells : (text : List ℕ) (a b : Bool) → is_npt text ≡ a → is_token text ≡ b → Tells text (cond a (Ok ranges.Rest) (Err (cond b faults.NotNpt faults.BadNpt)))
+alone_tells text true b n t = npt_is text n
+alone_tells text false true n t = inl (other_unit text n t)
+alone_tells text false false n t = tt
+
+behind_tells : (text unit rest : List ℕ) (a b : Bool) → text ≡ unit ++ equals ∷ rest → is_npt unit ≡ a → is_token unit ≡ b → Tells text (cond a (times_of rest) (Err (cond b faults.NotNpt faults.BadNpt)))
+behind_tells text unit rest true b at n t = times_tell text rest (record { unit = unit; npt = npt_is unit n; parts = at })
+behind_tells text unit rest false true at n t = inr (record { unit = unit; rest = rest; other = other_unit unit n t; parts = at })
+behind_tells text unit rest false false at n t = tt
+
+range_tells : (text : List ℕ) → Tells text (range_of text)
+unfolding range_of
+range_tells text = go (split_once equals text) refl where
+  go : (o : Option (List ℕ × List ℕ)) → split_once equals text ≡ o → Tells text (spec_of text o)
+  go None s = alone_tells text (is_npt text) (is_token text) refl refl
+  go (Some parts) s = behind_tells text parts.0 parts.1 (is_npt parts.0) (is_token parts.0) (split_parts equals text parts s) refl refl
+
+read_tells : (text : List ℕ) (read : Result Range RangeFault) → range_of text ≡ read → Tells text read
+read_tells text read e = subst (Tells text) e (range_tells text)
+
+-- ---- both ways
+
+pub range_exact : (text : List ℕ) (range : Range) → (range_of text ≡ Ok range) ↔ SpellsRange text range
+range_exact text range = (λ e. read_tells text (Ok range) e, λ h. spelled_read text range h)
+
+bad_tells : (text : List ℕ) → range_of text ≡ Err faults.BadNpt → IsBadNpt text
+bad_tells text e = record {
+  not_other = λ h. let f = other_read text h in cc;
+  not_now = λ h. let f = now_read text h in cc;
+  no_range = λ range h. let f = spelled_read text range h in cc;
+}
+
+bad_read : (text : List ℕ) (read : Result Range RangeFault) → range_of text ≡ read → IsBadNpt text → read ≡ Err faults.BadNpt
+bad_read text (Ok range) e h = absurd (h.no_range range (read_tells text (Ok range) e))
+bad_read text (Err faults.NotNpt) e h = absurd (h.not_other (read_tells text (Err faults.NotNpt) e))
+bad_read text (Err faults.Now) e h = absurd (h.not_now (read_tells text (Err faults.Now) e))
+bad_read text (Err faults.BadNpt) e h = refl
+
+pub fault_exact : (text : List ℕ) (fault : RangeFault) → (range_of text ≡ Err fault) ↔ HasFault text fault
+fault_exact text faults.NotNpt = (λ e. read_tells text (Err faults.NotNpt) e, λ h. other_read text h)
+fault_exact text faults.Now = (λ e. read_tells text (Err faults.Now) e, λ h. now_read text h)
+fault_exact text faults.BadNpt = (λ e. bad_tells text e, λ h. bad_read text (range_of text) refl h)

@@ -1,0 +1,91 @@
+//! Reading a Range header.
+
+ghost use Rattle.std.specs.Prelude.{◌≡◌, ◌↔◌};
+ghost use Rattle.rtsp_npt.specs.Reading.{has_now, sides_of, times_of, fault_of, range_of};
+ghost use Rattle.rtsp_npt.specs.Ranges.{SpellsRange, HasFault};
+ghost use Rattle.rtsp_npt.specs.declared.range.Range.{Range};
+ghost use Rattle.rtsp_npt.specs.declared.fault.RangeFault.{RangeFault};
+
+use crate::bytes::{is_npt, is_token, split_once};
+use crate::fault::RangeFault;
+use crate::range::Range;
+use crate::time::{Time, read_nanos};
+
+/// The times at the sides of the dash, of which one may be missing.
+fn read_sides(first: &[u8], last: &[u8]) -> Option<Range>
+    ensures { result ≡ sides_of first.now last.now }
+{
+    if last.is_empty() {
+        let nanos = read_nanos(first)?;
+        return Some(Range::From {
+            start: Time { nanos },
+        });
+    }
+    if first.is_empty() {
+        let nanos = read_nanos(last)?;
+        return Some(Range::Until {
+            stop: Time { nanos },
+        });
+    }
+    let start = Time {
+        nanos: read_nanos(first)?,
+    };
+    let stop = Time {
+        nanos: read_nanos(last)?,
+    };
+    Some(Range::Between { start, stop })
+}
+
+/// What stands behind `npt=`.
+#[tactic(auto, unfolding(crate::specs::Reading::times_of))]
+fn read_times(times: &[u8]) -> Result<Range, RangeFault>
+    ensures { result ≡ times_of times.now }
+{
+    if times.starts_with(b"now-") || times.ends_with(b"-now") {
+        return Err(RangeFault::Now);
+    }
+    let Some((first, last)) = split_once(times, b'-') else {
+        return Err(RangeFault::BadNpt);
+    };
+    read_sides(first, last).ok_or(RangeFault::BadNpt)
+}
+
+/// Why a unit is not taken.
+fn unit_fault(unit: &[u8]) -> RangeFault
+    ensures { result ≡ fault_of unit.now }
+{
+    if is_token(unit) {
+        RangeFault::NotNpt
+    } else {
+        RangeFault::BadNpt
+    }
+}
+
+/// The range that the text is, or its fault.
+#[tactic(auto, unfolding(crate::specs::Reading::range_of))]
+fn range_of(text: &[u8]) -> Result<Range, RangeFault>
+    ensures { result ≡ range_of text.now }
+{
+    let Some((unit, times)) = split_once(text, b'=') else {
+        if is_npt(text) {
+            return Ok(Range::Rest);
+        }
+        return Err(unit_fault(text));
+    };
+    if is_npt(unit) {
+        return read_times(times);
+    }
+    Err(unit_fault(unit))
+}
+
+/// Reads the value of a Range header (RFC 7826, sections 18.40 and 20.2.3): `npt` alone, or with a
+/// start, a stop or both. A time has at most 19 digits of seconds or hours, and at most 9 after the
+/// point. It takes no memory.
+pub fn read_range(text: &[u8]) -> Result<Range, RangeFault>
+    ensures value { result ≡ range_of text.now }
+    // A range is given exactly where the text spells it, and a fault exactly where the text has it.
+    ensures range { (range : Range) → (result ≡ Ok range) ↔ SpellsRange text.now range }
+    ensures fault { (fault : RangeFault) → (result ≡ Err fault) ↔ HasFault text.now fault }
+{
+    range_of(text)
+}
