@@ -1,0 +1,4 @@
+pub mod Known
+pub mod Going
+pub mod Sizes
+pub mod HoldLemmas

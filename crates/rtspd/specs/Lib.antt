@@ -1,0 +1,5 @@
+pub mod Streams
+pub mod Complaints
+pub mod Served
+pub mod Causes
+pub mod Admitting
