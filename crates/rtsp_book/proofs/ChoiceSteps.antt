@@ -1,6 +1,6 @@
 -- The choices one pair further on.
-use Rattle.std.proofs.Common.{◌≡◌, ℕ, ◌+◌, ◌-◌, ◌*◌, ◌<◌, zero, suc, Bool, ◌&&◌, cond, refl, sym, ◌∙◌, ap, arith}
-use Rattle.std.specs.Prelude.{Option, Some, None, nat_le}
+use Rattle.std.proofs.Common.{◌≡◌, ℕ, ◌+◌, ◌-◌, ◌*◌, ◌<◌, zero, suc, ◌&&◌, cond, refl, ◌∙◌, ap, arith}
+use Rattle.std.specs.Prelude.{Some, None, nat_le}
 use Rattle.rtsp_record.specs.declared.holdings.Whole.{Whole}
 use Rattle.rtsp_record.specs.Books.{Book}
 use Rattle.rtsp_book.specs.Choices.{is_pair_free, least_pair_of, least_pair, is_chan_free, least_chan_of, least_chan}

@@ -1,5 +1,5 @@
 -- A sound book has room: an allowed record has its place, and the sums are small.
-use Rattle.std.proofs.Common.{◌≡◌, ℕ, ◌+◌, ◌*◌, ◌^◌, ◌<◌, ◌≤◌, ◌⊎◌, inl, inr, zero, suc, Bool, true, false, ◌||◌, not, List, [], ◌∷◌, length, get_or, refl, sym, ◌∙◌, ap, subst, arith}
+use Rattle.std.proofs.Common.{◌≡◌, ℕ, ◌*◌, ◌<◌, ◌≤◌, ◌⊎◌, inl, inr, suc, Bool, true, false, ◌||◌, not, List, [], ◌∷◌, length, get_or, refl, sym, ◌∙◌, ap, subst, arith}
 use Rattle.std.specs.Prelude.{Option, Some, None, IsSome, is_some, sum_by, count_by}
 use Rattle.std.specs.FinMap.{get, entries, entries_sorted, get-entries}
 use Rattle.std.proofs.lemmas.List.{get_or_default}
@@ -7,18 +7,17 @@ use Rattle.std.proofs.lemmas.List.Sums.{sum_by-cons}
 use Rattle.rtsp_record.specs.declared.holdings.Admission.{Admission}
 use Rattle.rtsp_record.specs.declared.holdings.Thing.{Thing}
 use Rattle.rtsp_record.specs.declared.holdings.Whole.{Whole}
-use Rattle.rtsp_record.specs.declared.phases.Phase.{Phase}
 use Rattle.rtsp_record.specs.declared.streams.Stream.{Stream}
 use Rattle.rtsp_record.specs.declared.changes.Record.{Record}
 use Rattle.rtsp_record.specs.declared.changes.Record.TheVariants.{Open, Close, Hold, Free, Add, Drop, Move, Touch, Bind, Unbind}
 use Rattle.rtsp_record.specs.Tables.{Table}
 use Rattle.rtsp_record.specs.Books.{Session, Book, row, kept, or_bare, under, after}
-use Rattle.rtsp_record.specs.Sums.{one_if, if_there, is_opening, is_holding, admissions_holding, others_holding, of_admission, of_session, amount, sessions, rates, returns, owed}
+use Rattle.rtsp_record.specs.Sums.{one_if, if_there, is_opening, is_holding, admissions_holding, others_holding, of_admission, of_session, sessions, returns, owed}
 use Rattle.rtsp_record.specs.Rules.{Living, MayHold, MayAdd, Allowed, AllAllowed}
 use Rattle.rtsp_record.specs.Sound.{SoundSession, SoundRow, Sound}
-use Rattle.rtsp_record.proofs.Sound.{at_most_one, holding-others, sound-after}
+use Rattle.rtsp_record.proofs.Sound.{holding-others, sound-after}
 use Rattle.rtsp_book.specs.Lookups.{TakesNoMemory}
-use Rattle.rtsp_book.specs.Plain.{InOrder, Stands, table_of, RoomUnder, RoomFor, FitsIn, AllFit, is_open}
+use Rattle.rtsp_book.specs.Plain.{InOrder, table_of, RoomUnder, RoomFor, FitsIn, AllFit, is_open}
 use Rattle.rtsp_book.proofs.SortedRows.{find_there, entries_of}
 
 -- one part of a row that is there and sound is a rate or an address

@@ -6,7 +6,7 @@ use Rattle.rtsp_record.specs.Tables.{Table}
 use Rattle.rtsp_book.specs.Plain.{InOrder, Stands, Belongs, table_of}
 use Rattle.rtsp_book.proofs.SortedRows.{Written, inserted, replaced, removed, absent, entries_of}
 use Rattle.std.specs.List.{insert, remove, copy_within}
-use Rattle.std.proofs.lemmas.List.{take-take, drop-take, length-take-le, length-take, length-drop, take-append-le, take_at, drop_at, set_split, set-append_left, drop_all}
+use Rattle.std.proofs.lemmas.List.{take-take, drop-take, length-take-le, length-take, length-drop, set_split, set-append_left, drop_all}
 use Rattle.std.proofs.lemmas.List.Edits.{take-paste}
 
 module _ {X : Type 0} where

@@ -1,13 +1,13 @@
 -- What is in the whole and free, as tests.
-use Rattle.std.proofs.Common.{◌≡◌, ◌==◌, ℕ, ◌+◌, ◌-◌, ◌*◌, ◌/◌, ◌%◌, ◌<◌, ◌≤◌, Bool, true, false, ◌&&◌, ◌||◌, refl, sym, ◌∙◌, ap, arith}
+use Rattle.std.proofs.Common.{◌≡◌, ◌==◌, ℕ, ◌+◌, ◌-◌, ◌/◌, ◌%◌, ◌<◌, ◌≤◌, Bool, true, false, ◌&&◌, ◌||◌, refl, sym, ◌∙◌, ap, arith}
 use Rattle.std.specs.Prelude.{IsTrue, nat_eq, nat_lt}
 use Rattle.std.proofs.lemmas.Bool.Decides.{nat_tests}
-use Rattle.rtsp_record.specs.declared.holdings.Thing.TheVariants.{Pair, Chan, Rate}
+use Rattle.rtsp_record.specs.declared.holdings.Thing.TheVariants.{Pair, Chan}
 use Rattle.rtsp_record.specs.declared.holdings.Whole.{Whole}
 use Rattle.rtsp_record.specs.Books.{Book}
-use Rattle.rtsp_record.specs.Sums.{Spot, Port, Channel, amount, covers, covering}
+use Rattle.rtsp_record.specs.Sums.{Port, Channel, amount, covering}
 use Rattle.rtsp_record.specs.Rules.{InWhole, IsFree}
-use Rattle.rtsp_book.specs.Choices.{is_free, is_pair_free, is_chan_free}
+use Rattle.rtsp_book.specs.Choices.{is_pair_free, is_chan_free}
 use Rattle.rtsp_book.proofs.Choices.{pair_is_free, chan_is_free}
 
 pub zero_is : (n m : ℕ) → n ≡ m → (IsTrue (nat_eq n 0) → m ≡ 0) × (m ≡ 0 → IsTrue (nat_eq n 0))

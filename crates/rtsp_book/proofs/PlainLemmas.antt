@@ -1,5 +1,5 @@
 -- Rows as a book.
-use Rattle.std.proofs.Common.{◌≡◌, ℕ, ◌+◌, List, length, get_or, refl, sym, ◌∙◌, ap, subst, arith}
+use Rattle.std.proofs.Common.{◌≡◌, ℕ, ◌+◌, List, length, get_or, sym, ◌∙◌, ap, subst}
 use Rattle.std.specs.Prelude.{Option, Some, None, IsSome, option_map, count_by, insert as list_insert, remove as list_remove, set as list_set}
 use Rattle.rtsp_book.specs.Plain.{InOrder, table_of, Stands, Belongs}
 use Rattle.rtsp_book.proofs.SortedRows.{Written, inserted, replaced, removed, found, absent}

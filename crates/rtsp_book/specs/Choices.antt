@@ -1,8 +1,12 @@
 -- What is chosen of what is free.
-use Rattle.std.specs.Prelude.{◌==◌, ℕ, ◌+◌, zero, suc, Bool, ◌&&◌, nat_le, if◌then◌else◌, Option, Some, None}
+use Rattle.std.specs.Prelude.{◌==◌, ℕ, ◌+◌, ◌*◌, ◌^◌, ◌≤◌, zero, suc, Bool, ◌&&◌, nat_le, if◌then◌else◌, Option, Some, None}
 use Rattle.rtsp_record.specs.declared.holdings.Whole.{Whole}
 use Rattle.rtsp_record.specs.Books.{Book}
 use Rattle.rtsp_record.specs.Sums.{Spot, Port, Channel, amount, covering}
+
+-- each pair of the whole has a port number, and so has its second port
+abbrev pub HasPorts : Whole → Type 0
+HasPorts w = w.first_port + 2 * w.pairs ≤ 2 ^ 16
 
 -- nothing that is held covers it
 abbrev pub is_free : Book → Spot → Bool

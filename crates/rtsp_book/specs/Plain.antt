@@ -14,6 +14,7 @@ use Rattle.rtsp_record.specs.Books.{Session, Book, after}
 use Rattle.rtsp_record.specs.Rules.{Living}
 use Rattle.rtsp_record.specs.Sound.{Sound}
 use Rattle.rtsp_book.specs.Codes.{admissions_code}
+use Rattle.rtsp_book.specs.Choices.{HasPorts}
 
 -- each number is below those after it
 abbrev pub InOrder : {X : Type 0} → List (ℕ × X) → Type 0
@@ -68,10 +69,6 @@ one_session_code admission phase =
 abbrev pub plain_code : Coded Whole → Coded Admission → Coded Phase → Coded PlainState
 plain_code whole admission phase =
     code_by (Whole × Book) (coded× whole (code coded_ℕ (one_session_code admission phase))) (λ v. (v.whole, v.book)) (λ p. record { whole = p.0; book = p.1 }) (λ _. refl)
-
--- the first port after the pairs is at most 65,536
-abbrev pub HasPorts : Whole → Type 0
-HasPorts w = w.first_port + 2 * w.pairs ≤ 2 ^ 16
 
 -- a record for which there is a place: an Open of a session that doesn't live, or a change of one that lives and has room for it
 abbrev pub FitsIn : Book → Record → Type 0

@@ -2,7 +2,8 @@
 ghost use Rattle.std.specs.Prelude.{◌≡◌, ◌<◌, ◌^◌, length};
 ghost use Rattle.std.specs.FinMap.{entries};
 ghost use Rattle.rtsp_record.specs.Sums.{living, held_rate, owed};
-ghost use Rattle.rtsp_book.specs.Plain.{InOrder, table_of, HasPorts};
+ghost use Rattle.rtsp_book.specs.Choices.{HasPorts};
+ghost use Rattle.rtsp_book.specs.Plain.{InOrder, table_of};
 
 mod amounts;
 mod choices;
@@ -18,7 +19,7 @@ use rtsp_record::{Record, Whole};
 use std::alloc::{AllocError, Global};
 use std::marker::Model;
 
-/// A book as a vector of its sessions. Each question looks at them all.
+/// A book as a vector of its sessions. A session is found by its number in a few steps; other questions look at all.
 #[derive(Drop)]
 pub struct PlainBook {
     whole: Whole,
@@ -70,10 +71,6 @@ impl BookRep for PlainBook {
     ghost whole_of = { λ b. b.whole };
 
     fn open(alloc: Global, whole: &Whole) -> Result<Self, AllocError> {
-        // No pair ends beyond the last port.
-        if u32::from(whole.first_port) + 2 * u32::from(whole.pairs) > 65_536 {
-            return Err(AllocError);
-        }
         Ok(PlainBook {
             whole: *whole,
             rows: Vec::new(alloc),

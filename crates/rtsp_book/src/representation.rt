@@ -5,7 +5,7 @@ ghost use Rattle.rtsp_record.specs.declared.holdings.Whole.{Whole};
 ghost use Rattle.rtsp_record.specs.Books.{Book, after_all};
 ghost use Rattle.rtsp_record.specs.Sums.{held_rate, owed, living};
 ghost use Rattle.rtsp_record.specs.Rules.{Allowed, AllAllowed};
-ghost use Rattle.rtsp_book.specs.Choices.{least_pair, chosen_chan};
+ghost use Rattle.rtsp_book.specs.Choices.{HasPorts, least_pair, chosen_chan};
 ghost use Rattle.rtsp_book.specs.Lookups.{TakesNoMemory, session_at, first_from, with_id_in, with_startup_in, expired_in, on_conn_in};
 
 use crate::views::SessionView;
@@ -21,8 +21,9 @@ pub trait BookRep: Drop {
     /// What there is to hold.
     ghost whole_of: { Self → Whole };
 
-    /// The book of no session.
+    /// The book of no session. Each pair of the whole has to have its two port numbers.
     fn open(alloc: Global, whole: &Whole) -> Result<Self, AllocError>
+        requires { HasPorts whole.now }
         ensures contents { IfOk result (λ b. contents b ≡ empty) }
         ensures whole { IfOk result (λ b. whole_of b ≡ whole.now) };
 

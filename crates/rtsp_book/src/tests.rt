@@ -1,3 +1,5 @@
+ghost use Rattle.rtsp_book.specs.Choices.{HasPorts};
+
 use crate::*;
 use rtsp_record::{Entry, Record, Stream, Thing, Whole};
 use std::test::Fail;
@@ -84,7 +86,9 @@ fn close(session: u64, id: u128) -> Record {
 }
 
 // A session with a stream of a track over a pair, under admission 3.
-fn with_stream(rt: &HostRuntime, whole: &Whole) -> Result<Kept<PlainBook>, Fail> {
+fn with_stream(rt: &HostRuntime, whole: &Whole) -> Result<Kept<PlainBook>, Fail>
+    requires { HasPorts whole.now }
+{
     let mut kept: Kept<PlainBook> = Kept::open(rt.alloc(), whole)?;
     kept.act(0, &open(2, 1))?;
     kept.act(0, &rate(2, 3))?;

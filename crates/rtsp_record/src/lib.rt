@@ -17,7 +17,7 @@ pub use changes::{Entry, Record};
 pub use holdings::{Admission, Thing, Whole};
 pub use inverses::inverse;
 pub use laws::law_last_words;
-pub use phases::{Phase, due, point};
+pub use phases::{Phase, due, point, sent_with_due};
 pub use streams::Stream;
 
 #[cfg(test)]

@@ -1,7 +1,7 @@
 //! What a plain book chooses of what is free.
 ghost use Rattle.std.specs.Prelude.{◌≡◌, ◌<◌, ◌^◌, ◌&&◌, nat_le, length};
-ghost use Rattle.rtsp_book.specs.Choices.{is_pair_free, least_pair, least_chan, chosen_chan};
-ghost use Rattle.rtsp_book.specs.Plain.{InOrder, table_of, HasPorts};
+ghost use Rattle.rtsp_book.specs.Choices.{is_pair_free, least_pair, least_chan, chosen_chan, HasPorts};
+ghost use Rattle.rtsp_book.specs.Plain.{InOrder, table_of};
 
 use super::amounts::{is_chan_free, is_pair_free};
 use crate::views::SessionView;

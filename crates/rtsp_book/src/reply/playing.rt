@@ -1,7 +1,6 @@
 //! The answers to what moves a session in its play, and to a Touch.
 ghost use Rattle.std.specs.Prelude.{◌≡◌, ◌+◌, ◌≤◌, ◌<◌};
 ghost use Rattle.rtsp_record.specs.Sums.{owed};
-ghost use Rattle.rtsp_record.specs.Moments.{sent_with_due};
 ghost use Rattle.rtsp_book.specs.Made.{start_of};
 ghost use Rattle.rtsp_book.specs.Sessions.{has_stream};
 ghost use Rattle.rtsp_book.specs.Replies.{answer};
@@ -14,23 +13,12 @@ use crate::representation::BookRep;
 use crate::steps::Step;
 use crate::tallies::Tally;
 use crate::views::SessionView;
-use rtsp_record::{Phase, Record, Whole, due, point};
+use rtsp_record::{Phase, Record, Whole, due, point, sent_with_due};
 
 fn has_stream(view: &SessionView) -> bool
     ensures { result ≡ has_stream view.now.1 }
 {
     view.count(&Tally::Streams) > 0
-}
-
-// The units sent in all plays, with what is due of the present one, modulo 2^32.
-fn sent_with_due(phase: &Phase, unit_ms: u32, now: u64) -> u32
-    requires { 0 < unit_ms }
-    ensures { result ≡ sent_with_due phase.now unit_ms now }
-{
-    let before = match *phase {
-        Phase::Ready { sent, .. } | Phase::Playing { sent, .. } | Phase::Ended { sent, .. } => sent,
-    };
-    before.wrapping_add(due(phase, unit_ms, now))
 }
 
 // The unit where a play begins.

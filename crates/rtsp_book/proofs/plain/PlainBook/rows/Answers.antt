@@ -1,4 +1,4 @@
-use Rattle.std.proofs.Common.{◌≡◌, ◌≤◌, List, ℕ, length, sym, ap, subst, ◌∙◌, arith}
+use Rattle.std.proofs.Common.{List, ℕ, length, sym, ap, ◌∙◌, arith}
 use Rattle.std.specs.FinMap.{entries}
 use Rattle.rtsp_record.specs.Books.{Session}
 use Rattle.rtsp_record.specs.Sums.{living, held_rate, owed}

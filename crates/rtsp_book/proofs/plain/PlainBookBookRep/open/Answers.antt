@@ -11,7 +11,7 @@ invariant_of-result c =
     record {
       in_order = subst (λ (es : List (ℕ × Session)). InOrder es) (sym c.new.ensures.items) refl;
       sound = subst (λ (es : List (ℕ × Session)). Sound c.args.whole.now (table_of es)) (sym c.new.ensures.items) (subst (Sound c.args.whole.now) (sym (no_rows {X = Session})) (sound-empty c.args.whole.now));
-      ports = omega (arith, c.from.ensures, c.from-2.ensures);
+      ports = c.requires;
     }
 
 pub returns-clause-contents : goal.returns-clause-contents

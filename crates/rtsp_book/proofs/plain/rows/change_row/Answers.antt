@@ -1,9 +1,8 @@
-use Rattle.std.proofs.Common.{◌≡◌, ℕ, sym, ap, subst, ◌∙◌}
-use Rattle.std.specs.Prelude.{Some, Option}
-use Rattle.std.specs.FinMap.{get}
+use Rattle.std.proofs.Common.{ℕ, sym, ap, subst, ◌∙◌}
+use Rattle.std.specs.Prelude.{Some}
 use Rattle.rtsp_record.specs.Rules.{Living}
 use Rattle.rtsp_record.specs.Books.{Session, effect}
-use Rattle.rtsp_book.specs.Plain.{table_of, RoomFor}
+use Rattle.rtsp_book.specs.Plain.{RoomFor}
 use Rattle.rtsp_book.proofs.PlainLemmas.{row_none, row_some, changed_row}
 use Rattle.rtsp_book.proofs.plain.rows.change_row.Goals as goal
 

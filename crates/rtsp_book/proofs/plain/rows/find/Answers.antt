@@ -1,5 +1,5 @@
-use Rattle.std.proofs.Common.{ℕ, sym, ap, subst, ◌∙◌, refl}
-use Rattle.std.specs.Prelude.{Some, option_map}
+use Rattle.std.proofs.Common.{sym, ap, refl}
+use Rattle.std.specs.Prelude.{option_map}
 use Rattle.rtsp_record.specs.Books.{Session}
 use Rattle.rtsp_book.proofs.PlainLemmas.{session_there, row_none}
 use Rattle.rtsp_book.proofs.plain.rows.find.Goals as goal

@@ -1,6 +1,3 @@
-use Rattle.std.proofs.Common.{sym, ap, ◌∙◌}
-use Rattle.std.specs.FinMap.{get}
-use Rattle.rtsp_book.specs.Plain.{table_of}
 use Rattle.rtsp_record.specs.Books.{Session}
 use Rattle.rtsp_book.proofs.PlainLemmas.{row_some, opened_row}
 use Rattle.rtsp_book.proofs.plain.rows.open_row.Goals as goal

@@ -1,4 +1,4 @@
-use Rattle.std.proofs.Common.{◌≡◌, ◌-◌, ◌%◌, arith}
+use Rattle.std.proofs.Common.{arith}
 use Rattle.std.proofs.lemmas.Bool.Decides.{nat_tests}
 use Rattle.rtsp_book.proofs.FreeLemmas.{pair_in}
 use Rattle.rtsp_book.proofs.plain.rules.has_pair.Goals as goal

@@ -1,5 +1,5 @@
-use Rattle.std.proofs.Common.{◌≡◌, ℕ, sym, ap, ◌∙◌, arith}
-use Rattle.rtsp_record.specs.Books.{Session, under}
+use Rattle.std.proofs.Common.{ℕ, sym, ap, ◌∙◌, arith}
+use Rattle.rtsp_record.specs.Books.{Session}
 use Rattle.rtsp_record.specs.Sums.{one_if, is_holding}
 use Rattle.rtsp_book.proofs.PlainLemmas.{count_others}
 use Rattle.rtsp_book.proofs.views.SessionView.others_holding.Goals as goal
