@@ -1,0 +1,14 @@
+pub mod Fault
+pub mod Form
+pub mod Keys
+pub mod Server
+pub mod Distinct
+pub mod TrackValue
+pub mod Track
+pub mod PresentationValue
+pub mod Presentation
+pub mod Paths
+pub mod Rate
+pub mod Sdp
+pub mod TableValue
+pub mod Table

@@ -1,0 +1,23 @@
+-- The table of what is served, and the configuration that states it.
+use Rattle.std.specs.Prelude.{[], codes, Option, Some, None, Ok, Err}
+use Rattle.toml.specs.Data.{Members, get_member}
+use Rattle.rtsp_content.specs.declared.fault.TableFault.TheVariants.{NotToml}
+use Rattle.rtsp_content.specs.Fault.{Read, ◌>>=◌}
+use Rattle.rtsp_content.specs.Keys.{table_in, list_in}
+use Rattle.rtsp_content.specs.Server.{server_of}
+use Rattle.rtsp_content.specs.Presentation.{presentations_from}
+use Rattle.rtsp_content.specs.TableValue.{TableValue}
+
+-- what the whole of a document says
+abbrev pub table_of : Members → Read TableValue
+table_of ms = do
+  numbers ← table_in (get_member (codes "server") ms)
+  server ← server_of numbers
+  items ← list_in 256 (get_member (codes "presentation") ms)
+  presentations ← presentations_from [] items
+  Ok (record { server = server; presentations = presentations })
+
+-- the same of a text, by what TOML makes of it
+abbrev pub table_of_document : Option Members → Read TableValue
+table_of_document None = Err NotToml
+table_of_document (Some ms) = table_of ms

@@ -1,0 +1,201 @@
+//! What the keys of a TOML table say.
+
+ghost use Rattle.std.specs.Prelude.{◌≡◌, ◌≤◌, true, Some, IfOk, string_bytes, option_map};
+ghost use Rattle.std.specs.List.{list_all};
+ghost use Rattle.toml.specs.Data.{get_member};
+ghost use Rattle.toml.specs.View.{view, table_view, array_view};
+ghost use Rattle.rtsp_content.specs.Fault.{GivesBy};
+ghost use Rattle.rtsp_content.specs.Form as form;
+ghost use Rattle.rtsp_content.specs.Form.{has_form};
+ghost use Rattle.rtsp_content.specs.Keys as keys;
+ghost use Rattle.rtsp_content.specs.Keys.{as_number, number_in, number_in_or, as_text, text_in, table_in, item_count, few, list_in};
+
+use crate::fault::TableFault;
+use std::alloc::Global;
+use toml::value::Array;
+use toml::{Table, Value};
+
+/// The form that a text has to have.
+#[derive(Clone, Copy, Debug)]
+pub enum Form {
+    /// 1 to 64 of `a` to `z`, digits, `-` and `_`.
+    Name,
+
+    /// 1 to 32 letters, digits and `-`.
+    Encoding,
+
+    /// Any text.
+    Path,
+}
+
+fn is_name_byte(byte: u8) -> bool
+    ensures { result ≡ form.is_name_byte byte }
+{
+    byte.is_ascii_lowercase() || byte.is_ascii_digit() || byte == b'-' || byte == b'_'
+}
+
+fn is_encoding_byte(byte: u8) -> bool
+    ensures { result ≡ form.is_encoding_byte byte }
+{
+    byte.is_ascii_alphanumeric() || byte == b'-'
+}
+
+fn has_name_bytes(text: &str) -> bool
+    ensures { result ≡ list_all form.is_name_byte text.now }
+{
+    text.as_bytes().iter().all(|b| is_name_byte(*b))
+}
+
+fn has_encoding_bytes(text: &str) -> bool
+    ensures { result ≡ list_all form.is_encoding_byte text.now }
+{
+    text.as_bytes().iter().all(|b| is_encoding_byte(*b))
+}
+
+fn has_form(text: &str, form: Form) -> bool
+    ensures { result ≡ has_form form text.now }
+{
+    match form {
+        Form::Name => 1 <= text.len() && text.len() <= 64 && has_name_bytes(text),
+        Form::Encoding => 1 <= text.len() && text.len() <= 32 && has_encoding_bytes(text),
+        Form::Path => true,
+    }
+}
+
+/// The value at a key.
+pub fn value_at<'a>(table: &'a Table, key: &str) -> Option<&'a Value>
+    ensures { option_map (λ v. view v.now) result ≡ get_member key.now (table_view table.entry.now) }
+{
+    table.get(key)
+}
+
+fn number(value: &Value, least: u64, most: u64) -> Result<u64, TableFault>
+    ensures value { result ≡ as_number least most (view value.now) }
+    ensures range { IfOk result (λ n. (least ≤ n) × (n ≤ most)) }
+{
+    let Some(number) = value.as_integer() else {
+        return Err(TableFault::BadValue);
+    };
+    let Ok(number) = u64::try_from(number) else {
+        return Err(TableFault::BadValue);
+    };
+    if least <= number && number <= most {
+        Ok(number)
+    } else {
+        Err(TableFault::BadValue)
+    }
+}
+
+/// A number from `least` to `most`.
+pub fn number_at(table: &Table, key: &str, least: u64, most: u64) -> Result<u64, TableFault>
+    ensures value { result ≡ keys.number_at key.now least most (table_view table.now) }
+    ensures range { IfOk result (λ n. (least ≤ n) × (n ≤ most)) }
+{
+    match value_at(table, key) {
+        Some(value) => number(value, least, most),
+        None => Err(TableFault::Missing),
+    }
+}
+
+/// A number from `least` to `most`, or the default where the key is missing.
+pub fn number_at_or(
+    table: &Table,
+    key: &str,
+    least: u64,
+    most: u64,
+    default: u64,
+) -> Result<u64, TableFault>
+    requires { (least ≤ default) × (default ≤ most) }
+    ensures value { result ≡ keys.number_at_or key.now least most default (table_view table.now) }
+    ensures range { IfOk result (λ n. (least ≤ n) × (n ≤ most)) }
+{
+    match value_at(table, key) {
+        Some(value) => number(value, least, most),
+        None => Ok(default),
+    }
+}
+
+fn text(alloc: Global, value: &Value, form: Form) -> Result<String, TableFault>
+    ensures value { GivesBy (λ s. string_bytes s) result (as_text form (view value.now)) }
+    ensures form { IfOk result (λ s. has_form form (string_bytes s) ≡ true) }
+{
+    let Some(text) = value.as_str() else {
+        return Err(TableFault::BadValue);
+    };
+    if !has_form(text, form) {
+        return Err(TableFault::BadValue);
+    }
+    match String::from_str(alloc, text) {
+        Ok(text) => Ok(text),
+        Err(_) => Err(TableFault::OutOfMemory),
+    }
+}
+
+/// A text of the form.
+pub fn text_at(alloc: Global, table: &Table, key: &str, form: Form) -> Result<String, TableFault>
+    ensures value { GivesBy (λ s. string_bytes s) result (keys.text_at key.now form (table_view table.now)) }
+    ensures form { IfOk result (λ s. has_form form (string_bytes s) ≡ true) }
+{
+    match value_at(table, key) {
+        Some(value) => text(alloc, value, form),
+        None => Err(TableFault::Missing),
+    }
+}
+
+fn table(value: &Value) -> Result<&Table, TableFault>
+    ensures { GivesBy (λ t. table_view t.now) result (table_in (Some (view value.now))) }
+{
+    match value.as_table() {
+        Some(table) => Ok(table),
+        None => Err(TableFault::BadValue),
+    }
+}
+
+/// The table at a key.
+pub fn table_at<'a>(table: &'a Table, key: &str) -> Result<&'a Table, TableFault>
+    ensures { GivesBy (λ t. table_view t.now) result (table_in (get_member key.now (table_view table.entry.now))) }
+{
+    match value_at(table, key) {
+        Some(value) => self::table(value),
+        None => Err(TableFault::Missing),
+    }
+}
+
+fn item_count(items: &Array) -> usize
+    ensures { result ≡ item_count (array_view items.now) }
+{
+    items.as_slice().len()
+}
+
+fn few(items: &Array, most: usize) -> Result<&Array, TableFault>
+    ensures value { GivesBy (λ v. array_view v.now) result (few most (array_view items.entry.now)) }
+    ensures count { IfOk result (λ v. (1 ≤ item_count (array_view v.now)) × (item_count (array_view v.now) ≤ most)) }
+{
+    let count = item_count(items);
+    if 1 <= count && count <= most {
+        Ok(items)
+    } else {
+        Err(TableFault::BadValue)
+    }
+}
+
+fn list(value: &Value, most: usize) -> Result<&Array, TableFault>
+    ensures value { GivesBy (λ v. array_view v.now) result (list_in most (Some (view value.now))) }
+    ensures count { IfOk result (λ v. (1 ≤ item_count (array_view v.now)) × (item_count (array_view v.now) ≤ most)) }
+{
+    match value.as_array() {
+        Some(items) => few(items, most),
+        None => Err(TableFault::BadValue),
+    }
+}
+
+/// The items at a key, of which there are 1 to `most`.
+pub fn list_at<'a>(table: &'a Table, key: &str, most: usize) -> Result<&'a Array, TableFault>
+    ensures value { GivesBy (λ v. array_view v.now) result (list_in most (get_member key.now (table_view table.entry.now))) }
+    ensures count { IfOk result (λ v. (1 ≤ item_count (array_view v.now)) × (item_count (array_view v.now) ≤ most)) }
+{
+    match value_at(table, key) {
+        Some(value) => list(value, most),
+        None => Err(TableFault::Missing),
+    }
+}

@@ -1,0 +1,24 @@
+//! What the server serves: its configuration, the presentations and tracks in it, and how they are described.
+#![tactic(auto)]
+
+mod fault;
+mod found;
+mod keys;
+mod pieces;
+mod presentation;
+mod reading;
+mod sdp;
+mod server;
+mod table;
+mod track;
+
+pub use fault::TableFault;
+pub use found::Found;
+pub use presentation::Presentation;
+pub use sdp::write_sdp;
+pub use server::Server;
+pub use table::Table;
+pub use track::{Media, Track};
+
+#[cfg(test)]
+mod tests;

@@ -1,0 +1,90 @@
+//! A presentation: tracks that are played together.
+
+ghost use Rattle.std.specs.Prelude.{◌≡◌, ◌≤◌, ◌+◌, ◌*◌, ◌<◌, true, length, option_copied, slice_get};
+ghost use Rattle.rtsp_content.specs.Distinct.{AreDistinct};
+ghost use Rattle.rtsp_content.specs.TrackValue.{track_names};
+ghost use Rattle.rtsp_content.specs.Form.{is_name};
+ghost use Rattle.rtsp_content.specs.Rate.{rate_of, IsRate};
+
+use crate::track::Track;
+use std::marker::Model;
+
+/// Tracks that are played together, in units of one length: each track has one packet a unit.
+#[derive(Debug, Drop)]
+pub struct Presentation {
+    pub(crate) name: String,
+    pub(crate) units: u32,
+    pub(crate) unit_ms: u32,
+    pub(crate) tracks: Vec<Track>,
+}
+
+impl Model for Presentation {
+    ghost use Rattle.std.specs.Prelude.{string_bytes};
+    ghost use Rattle.rtsp_content.specs.PresentationValue.{PresentationValue, IsPresentationWithin};
+
+    ghost Value = { PresentationValue };
+
+    ghost view = { λ p. record { name = string_bytes p.name; units = p.units; unit_ms = p.unit_ms; tracks = p.tracks.items } };
+
+    ghost invariant = { λ p. IsPresentationWithin (record { name = string_bytes p.name; units = p.units; unit_ms = p.unit_ms; tracks = p.tracks.items }) };
+}
+
+impl Presentation {
+    /// The name, which is its path without the slash.
+    pub fn name(&self) -> &str
+        ensures value { result.now ≡ self.now.name }
+        ensures form { is_name result.now ≡ true }
+    {
+        self.name.as_str()
+    }
+
+    /// How many units it has.
+    pub fn units(&self) -> u32
+        ensures value { result ≡ self.now.units }
+        ensures least { 1 ≤ result }
+        ensures most { result ≤ 10000000 }
+    {
+        self.units
+    }
+
+    /// How many milliseconds a unit lasts.
+    pub fn unit_ms(&self) -> u32
+        ensures value { result ≡ self.now.unit_ms }
+        ensures least { 1 ≤ result }
+        ensures most { result ≤ 1000 }
+    {
+        self.unit_ms
+    }
+
+    /// How long it lasts, in milliseconds.
+    pub fn length_ms(&self) -> u64
+        ensures { result ≡ self.now.units * self.now.unit_ms }
+    {
+        u64::from(self.units) * u64::from(self.unit_ms)
+    }
+
+    /// The tracks in the order of the configuration.
+    pub fn tracks(&self) -> &[Track]
+        ensures value { result.now ≡ self.now.tracks }
+        ensures least { 1 ≤ length result.now }
+        ensures most { length result.now ≤ 8 }
+        ensures distinct { AreDistinct (track_names result.now) }
+    {
+        self.tracks.as_slice()
+    }
+
+    /// The track with this index, counted from 0.
+    pub fn track(&self, index: u16) -> Option<&Track>
+        ensures { option_copied result ≡ slice_get self.now.tracks index }
+    {
+        self.tracks.get(usize::from(index))
+    }
+
+    /// The bits per second that a stream of one of its tracks takes: a packet a unit, with 40 bytes of headers.
+    pub fn rate(&self, track: &Track) -> u64
+        ensures value { result ≡ rate_of self.now.unit_ms track.now.octets }
+        ensures least { IsRate self.now.unit_ms track.now.octets result }
+    {
+        ((u64::from(track.octets()) + 40) * 8000).div_ceil(u64::from(self.unit_ms))
+    }
+}

@@ -1,0 +1,175 @@
+//! Reading tracks and presentations from a configuration.
+
+ghost use Rattle.std.specs.Prelude.{◌≡◌, [], false, Some, length, IfOk};
+ghost use Rattle.toml.specs.Data.{get_member};
+ghost use Rattle.toml.specs.View.{view, table_view, array_view};
+ghost use Rattle.rtsp_content.specs.Distinct.{AreDistinct};
+ghost use Rattle.rtsp_content.specs.TrackValue.{track_names};
+ghost use Rattle.rtsp_content.specs.PresentationValue.{presentation_names};
+ghost use Rattle.rtsp_content.specs.Fault.{Gives, GivesBy};
+ghost use Rattle.rtsp_content.specs.Keys.{item_count};
+ghost use Rattle.rtsp_content.specs.Track as track;
+ghost use Rattle.rtsp_content.specs.Track.{as_media, media_in, track_of, as_track};
+ghost use Rattle.rtsp_content.specs.Presentation as presentation;
+ghost use Rattle.rtsp_content.specs.Presentation.{tracks_from, presentation_of, as_presentation, presentations_from};
+
+use crate::fault::{TableFault, must};
+use crate::keys::{Form, list_at, number_at, text_at, value_at};
+use crate::presentation::Presentation;
+use crate::track::{Media, Track};
+use std::alloc::Global;
+use toml::value::Array;
+use toml::{Table, Value};
+
+fn media(value: &Value) -> Result<Media, TableFault>
+    ensures { result ≡ as_media (view value.now) }
+{
+    let Some(word) = value.as_str() else {
+        return Err(TableFault::BadValue);
+    };
+    if word == "audio" {
+        Ok(Media::Audio)
+    } else if word == "video" {
+        Ok(Media::Video)
+    } else {
+        Err(TableFault::BadValue)
+    }
+}
+
+fn media_at(table: &Table, key: &str) -> Result<Media, TableFault>
+    ensures { result ≡ media_in (get_member key.now (table_view table.now)) }
+{
+    match value_at(table, key) {
+        Some(value) => media(value),
+        None => Err(TableFault::Missing),
+    }
+}
+
+fn has_track(name: &str, tracks: &[Track]) -> bool
+    ensures { result ≡ track.has_track name.now tracks.now }
+{
+    tracks.iter().any(|track| track.name() == name)
+}
+
+fn read_track(alloc: Global, table: &Table, before: &[Track]) -> Result<Track, TableFault>
+    ensures value { Gives result (track_of before.now (table_view table.now)) }
+    ensures fresh { IfOk result (λ t. track.has_track t.name before.now ≡ false) }
+{
+    let name = text_at(alloc, table, "name", Form::Name)?;
+    must(!has_track(name.as_str(), before), TableFault::Duplicate)?;
+    let media = media_at(table, "media")?;
+    let payload_type = number_at(table, "pt", 0, 127)?;
+    let encoding = text_at(alloc, table, "encoding", Form::Encoding)?;
+    let clock = number_at(table, "clock", 1, 1_000_000)?;
+    let octets = number_at(table, "octets", 1, 1400)?;
+    let ticks = number_at(table, "ticks", 1, 1_000_000)?;
+    let file = text_at(alloc, table, "file", Form::Path)?;
+    Ok(Track {
+        name,
+        media,
+        payload_type: payload_type as u8,
+        encoding,
+        clock: clock as u32,
+        octets: octets as u16,
+        ticks: ticks as u32,
+        file,
+    })
+}
+
+fn track_in(alloc: Global, value: &Value, before: &[Track]) -> Result<Track, TableFault>
+    ensures value { Gives result (as_track before.now (view value.now)) }
+    ensures fresh { IfOk result (λ t. track.has_track t.name before.now ≡ false) }
+{
+    match value.as_table() {
+        Some(table) => read_track(alloc, table, before),
+        None => Err(TableFault::BadValue),
+    }
+}
+
+fn read_tracks(alloc: Global, values: &Array) -> Result<Vec<Track>, TableFault>
+    ensures value { GivesBy (λ v. v.items) result (tracks_from [] (array_view values.now)) }
+    ensures distinct { IfOk result (λ v. AreDistinct (track_names v.items)) }
+    ensures count { IfOk result (λ v. length v.items ≡ item_count (array_view values.now)) }
+{
+    let mut tracks = Vec::new(alloc);
+    for value in values {
+        let track = match track_in(alloc, value, tracks.as_slice()) {
+            Ok(track) => track,
+            Err(fault) => return Err(fault),
+        };
+        match tracks.push(track) {
+            Ok(()) => {}
+            Err(_) => return Err(TableFault::OutOfMemory),
+        }
+    }
+    Ok(tracks)
+}
+
+fn has_presentation(name: &str, presentations: &[Presentation]) -> bool
+    ensures { result ≡ presentation.has_presentation name.now presentations.now }
+{
+    presentations
+        .iter()
+        .any(|presentation| presentation.name() == name)
+}
+
+fn read_presentation(
+    alloc: Global,
+    table: &Table,
+    before: &[Presentation],
+) -> Result<Presentation, TableFault>
+    ensures value { Gives result (presentation_of before.now (table_view table.now)) }
+    ensures fresh { IfOk result (λ p. presentation.has_presentation p.name before.now ≡ false) }
+{
+    let name = text_at(alloc, table, "name", Form::Name)?;
+    must(
+        !has_presentation(name.as_str(), before),
+        TableFault::Duplicate,
+    )?;
+    let units = number_at(table, "units", 1, 10_000_000)?;
+    let unit_ms = number_at(table, "unit_ms", 1, 1000)?;
+    let tracks = read_tracks(alloc, list_at(table, "track", 8)?)?;
+    Ok(Presentation {
+        name,
+        units: units as u32,
+        unit_ms: unit_ms as u32,
+        tracks,
+    })
+}
+
+fn presentation_in(
+    alloc: Global,
+    value: &Value,
+    before: &[Presentation],
+) -> Result<Presentation, TableFault>
+    ensures value { Gives result (as_presentation before.now (view value.now)) }
+    ensures fresh { IfOk result (λ p. presentation.has_presentation p.name before.now ≡ false) }
+{
+    match value.as_table() {
+        Some(table) => read_presentation(alloc, table, before),
+        None => Err(TableFault::BadValue),
+    }
+}
+
+/// Reads the tables `[[presentation]]`.
+pub(crate) fn read_presentations(
+    alloc: Global,
+    values: &Array,
+) -> Result<Vec<Presentation>, TableFault>
+    ensures value { GivesBy (λ v. v.items) result (presentations_from [] (array_view values.now)) }
+    ensures distinct { IfOk result (λ v. AreDistinct (presentation_names v.items)) }
+    ensures count { IfOk result (λ v. length v.items ≡ item_count (array_view values.now)) }
+{
+    let mut presentations = Vec::new(alloc);
+    for value in values {
+        let presentation = match presentation_in(alloc, value, presentations.as_slice()) {
+            Ok(presentation) => presentation,
+            Err(fault) => return Err(fault),
+        };
+        match presentations.push(presentation) {
+            Ok(()) => {}
+            Err(_) => return Err(TableFault::OutOfMemory),
+        }
+    }
+    Ok(presentations)
+}

@@ -1,0 +1,58 @@
+//! The numbers of the server.
+
+ghost use Rattle.std.specs.Prelude.{◌≡◌, IfOk};
+ghost use Rattle.toml.specs.View.{table_view};
+ghost use Rattle.rtsp_content.specs.Server.{server_of, IsWithinLimits};
+
+use crate::fault::{TableFault, must};
+use crate::keys::{number_at, number_at_or};
+
+/// The numbers of the server.
+#[derive(Clone, Copy, Debug, PartialEq, Eq)]
+pub struct Server {
+    /// The first of the UDP ports that are given out in pairs. It is even.
+    pub first_port: u16,
+
+    /// How many pairs of ports there are.
+    pub pairs: u16,
+
+    /// Bits per second that all streams together may take.
+    pub uplink: u64,
+
+    /// How many sessions may live at once.
+    pub sessions: u16,
+
+    /// Seconds that a session lives without a request.
+    pub timeout: u32,
+
+    /// How many entries the journal may have, owed ones included.
+    pub journal: u32,
+
+    /// How many threads serve connections.
+    pub workers: u8,
+}
+
+/// Reads the table `[server]`.
+pub(crate) fn read_server(table: &toml::Table) -> Result<Server, TableFault>
+    ensures value { result ≡ server_of (table_view table.now) }
+    ensures limits { IfOk result IsWithinLimits }
+{
+    let first_port = number_at(table, "first_port", 1024, 65535)?;
+    must(first_port % 2 == 0, TableFault::BadValue)?;
+    let pairs = number_at(table, "pairs", 0, 4096)?;
+    must(first_port + 2 * pairs <= 65536, TableFault::BadValue)?;
+    let uplink = number_at(table, "uplink", 0, 1_000_000_000_000)?;
+    let sessions = number_at(table, "sessions", 1, 4096)?;
+    let timeout = number_at_or(table, "timeout", 1, 86_400, 60)?;
+    let journal = number_at_or(table, "journal", 1, 1_000_000, 1_000_000)?;
+    let workers = number_at_or(table, "workers", 1, 64, 4)?;
+    Ok(Server {
+        first_port: first_port as u16,
+        pairs: pairs as u16,
+        uplink,
+        sessions: sessions as u16,
+        timeout: timeout as u32,
+        journal: journal as u32,
+        workers: workers as u8,
+    })
+}

@@ -1,0 +1,99 @@
+//! The table of what is served.
+
+ghost use Rattle.std.specs.Prelude.{◌≡◌, ◌≤◌, ◌⊎◌, Err, length, IsUtf8, option_copied, slice_get};
+ghost use Rattle.toml.specs.Parse.{parse_document};
+ghost use Rattle.toml.specs.View.{table_view};
+ghost use Rattle.rtsp_content.specs.Distinct.{AreDistinct};
+ghost use Rattle.rtsp_content.specs.PresentationValue.{presentation_names};
+ghost use Rattle.rtsp_content.specs.Fault.{Gives};
+ghost use Rattle.rtsp_content.specs.Paths.{find_of, Names};
+ghost use Rattle.rtsp_content.specs.Server.{IsWithinLimits};
+ghost use Rattle.rtsp_content.specs.Table.{table_of, table_of_document};
+
+use crate::fault::TableFault;
+use crate::found::{Found, find_among};
+use crate::keys::{list_at, table_at};
+use crate::presentation::Presentation;
+use crate::reading::read_presentations;
+use crate::server::{Server, read_server};
+use std::alloc::Global;
+use std::marker::Model;
+
+/// What the server serves, and its own numbers.
+#[derive(Debug, Drop)]
+pub struct Table {
+    server: Server,
+    presentations: Vec<Presentation>,
+}
+
+impl Model for Table {
+    ghost use Rattle.rtsp_content.specs.TableValue.{TableValue, IsTableWithin};
+
+    ghost Value = { TableValue };
+
+    ghost view = { λ t. record { server = t.server; presentations = t.presentations.items } };
+
+    ghost invariant = { λ t. IsTableWithin (record { server = t.server; presentations = t.presentations.items }) };
+}
+
+fn read_table(alloc: Global, table: &toml::Table) -> Result<Table, TableFault>
+    ensures { Gives result (table_of (table_view table.now)) }
+{
+    let server = read_server(table_at(table, "server")?)?;
+    let presentations = read_presentations(alloc, list_at(table, "presentation", 256)?)?;
+    Ok(Table {
+        server,
+        presentations,
+    })
+}
+
+impl Table {
+    /// Reads a configuration from the bytes of a TOML document. Keys that it does not know are ignored.
+    pub fn read(alloc: Global, bytes: &[u8]) -> Result<Table, TableFault>
+        ensures text { IsUtf8 bytes.now → Gives result (table_of_document (parse_document bytes.now)) }
+        ensures other { ¬ IsUtf8 bytes.now → (result ≡ Err TableFault.NotToml) ⊎ (result ≡ Err TableFault.OutOfMemory) }
+    {
+        match toml::table_from_slice(alloc, bytes) {
+            Ok(table) => read_table(alloc, &table),
+            Err(error) => Err(if error.is_memory() {
+                TableFault::OutOfMemory
+            } else {
+                TableFault::NotToml
+            }),
+        }
+    }
+
+    /// The server's own numbers.
+    pub fn server(&self) -> Server
+        ensures value { result ≡ self.now.server }
+        ensures limits { IsWithinLimits result }
+    {
+        self.server
+    }
+
+    /// The presentations in the order of the configuration.
+    pub fn presentations(&self) -> &[Presentation]
+        ensures value { result.now ≡ self.now.presentations }
+        ensures least { 1 ≤ length result.now }
+        ensures most { length result.now ≤ 256 }
+        ensures distinct { AreDistinct (presentation_names result.now) }
+    {
+        self.presentations.as_slice()
+    }
+
+    /// The presentation with this index, counted from 0.
+    pub fn presentation(&self, index: u16) -> Option<&Presentation>
+        ensures { option_copied result ≡ slice_get self.now.presentations index }
+    {
+        self.presentations.get(usize::from(index))
+    }
+
+    /// What a path names: `/name` and `/name/` a presentation, `/name/track` a track. Names are compared byte for
+    /// byte, and nothing in the path is decoded.
+    pub fn find(&self, path: &[u8]) -> Found
+        ensures value { result ≡ find_of self.now path.now }
+        ensures names { Names self.now path.now result }
+    {
+        find_among(self.presentations.as_slice(), path)
+    }
+}

@@ -1,0 +1,124 @@
+//! One media stream of a presentation.
+
+ghost use Rattle.std.specs.Prelude.{◌≡◌, ◌≤◌, ◌^◌, ◌<◌, true};
+ghost use Rattle.rtsp_content.specs.Form.{is_name, is_encoding};
+ghost use Rattle.rtsp_content.specs.Track.{media_text};
+
+use std::marker::Model;
+
+/// What kind of media a track has.
+#[derive(Clone, Copy, Debug, PartialEq, Eq)]
+pub enum Media {
+    Audio,
+    Video,
+}
+
+impl Media {
+    /// Its name in a configuration and in SDP.
+    pub fn as_str(self) -> &'static str
+        ensures { result.now ≡ media_text self }
+    {
+        match self {
+            Media::Audio => "audio",
+            Media::Video => "video",
+        }
+    }
+}
+
+/// One media stream of a presentation: a raw file of units of one size, each sent as one RTP packet.
+#[derive(Debug, Drop)]
+pub struct Track {
+    pub(crate) name: String,
+    pub(crate) media: Media,
+    pub(crate) payload_type: u8,
+    pub(crate) encoding: String,
+    pub(crate) clock: u32,
+    pub(crate) octets: u16,
+    pub(crate) ticks: u32,
+    pub(crate) file: String,
+}
+
+impl Model for Track {
+    ghost use Rattle.std.specs.Prelude.{string_bytes};
+    ghost use Rattle.rtsp_content.specs.TrackValue.{TrackValue, IsTrackWithin};
+
+    ghost Value = { TrackValue };
+
+    ghost view = { λ t. record { name = string_bytes t.name; media = t.media; payload_type = t.payload_type; encoding = string_bytes t.encoding; clock = t.clock; octets = t.octets; ticks = t.ticks; file = string_bytes t.file } };
+
+    ghost invariant = { λ t. IsTrackWithin (record { name = string_bytes t.name; media = t.media; payload_type = t.payload_type; encoding = string_bytes t.encoding; clock = t.clock; octets = t.octets; ticks = t.ticks; file = string_bytes t.file }) };
+}
+
+impl Track {
+    /// The name, which stands in a path after its presentation's.
+    pub fn name(&self) -> &str
+        ensures value { result.now ≡ self.now.name }
+        ensures form { is_name result.now ≡ true }
+    {
+        self.name.as_str()
+    }
+
+    /// What kind of media it has.
+    pub fn media(&self) -> Media
+        ensures { result ≡ self.now.media }
+    {
+        self.media
+    }
+
+    /// The name of its media, which lives as long as the track.
+    pub(crate) fn media_name(&self) -> &str
+        ensures { result.now ≡ media_text self.now.media }
+    {
+        self.media.as_str()
+    }
+
+    /// The payload type of its RTP packets.
+    pub fn payload_type(&self) -> u8
+        ensures value { result ≡ self.now.payload_type }
+        ensures most { result ≤ 127 }
+    {
+        self.payload_type
+    }
+
+    /// The name of its encoding, as SDP has it.
+    pub fn encoding(&self) -> &str
+        ensures value { result.now ≡ self.now.encoding }
+        ensures form { is_encoding result.now ≡ true }
+    {
+        self.encoding.as_str()
+    }
+
+    /// Clock ticks per second.
+    pub fn clock(&self) -> u32
+        ensures value { result ≡ self.now.clock }
+        ensures least { 1 ≤ result }
+        ensures most { result ≤ 1000000 }
+    {
+        self.clock
+    }
+
+    /// How many bytes of media a unit has.
+    pub fn octets(&self) -> u16
+        ensures value { result ≡ self.now.octets }
+        ensures least { 1 ≤ result }
+        ensures most { result ≤ 1400 }
+    {
+        self.octets
+    }
+
+    /// How many clock ticks a unit lasts.
+    pub fn ticks(&self) -> u32
+        ensures value { result ≡ self.now.ticks }
+        ensures least { 1 ≤ result }
+        ensures most { result ≤ 1000000 }
+    {
+        self.ticks
+    }
+
+    /// The path of the file that has its units, as the configuration has it.
+    pub fn file(&self) -> &str
+        ensures { result.now ≡ self.now.file }
+    {
+        self.file.as_str()
+    }
+}

@@ -1,0 +1,38 @@
+//! The length of a body.
+
+ghost use Rattle.std.specs.Prelude.{◌≡◌};
+ghost use Rattle.rtsp_grammar.specs.Reading.{length_of_value, body_length};
+
+use crate::bytes::is_number;
+use crate::fault::MessageFault;
+use crate::header::Headers;
+use crate::version::number;
+
+const BODY_LIMIT: u32 = 65_536;
+
+fn length_of_value(value: &[u8]) -> Result<usize, MessageFault>
+    ensures { result ≡ length_of_value value.now }
+{
+    if !is_number(value) || value.len() > 10 {
+        return Err(MessageFault::BadLength);
+    }
+    let length = number(value);
+    if length > BODY_LIMIT {
+        return Err(MessageFault::BodyTooLong);
+    }
+    Ok(length as usize)
+}
+
+/// The length of the body of a message with these headers.
+#[tactic(auto, unfolding(crate::specs::Reading::body_length))]
+pub fn body_length(headers: &Headers) -> Result<usize, MessageFault>
+    ensures { result ≡ body_length headers.now }
+{
+    let Some(value) = headers.nth_value(b"Content-Length", 0) else {
+        return Ok(0);
+    };
+    if headers.nth_value(b"Content-Length", 1).is_some() {
+        return Err(MessageFault::BadLength);
+    }
+    length_of_value(value)
+}

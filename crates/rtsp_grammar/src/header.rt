@@ -1,0 +1,176 @@
+//! Headers of a message, kept in one buffer.
+
+ghost use Rattle.std.specs.Prelude.{◌≡◌, ◌<◌, ◌≤◌, ◌+◌, [], ◌∷◌, ◌++◌, length, OnOk, OnErr, IfOk, slice_get, option_map, Some, IsOk, IsTrue, ◌↔◌};
+ghost use Rattle.rtsp_grammar.specs.Draft.{Takes, HasRoom};
+ghost use Rattle.rtsp_grammar.specs.Header.{is_named, values_of};
+
+use std::alloc::{AllocError, Global};
+use std::marker::Model;
+
+/// Where a header stands in the buffer: its name from `start`, its value from `middle` to `stop`.
+#[derive(Clone, Copy, Debug)]
+struct Place {
+    start: usize,
+    middle: usize,
+    stop: usize,
+}
+
+/// One header of a message.
+#[derive(Clone, Copy, Debug)]
+pub struct Header<'a> {
+    pub name: &'a [u8],
+    pub value: &'a [u8],
+}
+
+impl Header<'_> {
+    /// Whether this is the header's name, without regard to ASCII case.
+    pub fn is_named(&self, name: &[u8]) -> bool
+        ensures { result ≡ is_named self.now.name.now name.now }
+    {
+        self.name.eq_ignore_ascii_case(name)
+    }
+}
+
+/// The headers of a message, in order.
+#[derive(Debug, Drop)]
+pub struct Headers {
+    bytes: Vec<u8>,
+    places: Vec<Place>,
+}
+
+impl Model for Headers {
+    ghost use Rattle.std.specs.Prelude.{List};
+    ghost use Rattle.rtsp_grammar.specs.Header.{HeaderText};
+    ghost use Rattle.rtsp_grammar.specs.Headers.{headers_at, AreWithin};
+
+    ghost Value = { List HeaderText };
+
+    ghost view = { λ h. headers_at h.bytes.items h.places.items };
+
+    ghost invariant = { λ h. AreWithin h.bytes.items h.places.items };
+}
+
+impl Headers {
+    ghost use Rattle.rtsp_grammar.specs.HeaderView.{shown};
+
+    pub fn len(&self) -> usize
+        ensures { result ≡ length self.now }
+    {
+        self.places.len()
+    }
+
+    pub fn is_empty(&self) -> bool
+        ensures { IsTrue result ↔ (self.now ≡ []) }
+    {
+        self.places.is_empty()
+    }
+
+    pub fn get(&self, index: usize) -> Header<'_>
+        requires { index < length self.now }
+        ensures { slice_get self.now index ≡ Some (shown result) }
+    {
+        let place = self.places[index];
+        let (front, _) = self.bytes.split_at(place.stop);
+        let (front, value) = front.split_at(place.middle);
+        let (_, name) = front.split_at(place.start);
+        Header { name, value }
+    }
+
+    /// How many headers have this name, without regard to ASCII case.
+    pub fn count_of(&self, name: &[u8]) -> usize
+        ensures { result ≡ length (values_of name.now self.now) }
+    {
+        let mut count = 0;
+        for index in 0..self.len() {
+            if self.get(index).is_named(name) {
+                count += 1;
+            }
+        }
+        count
+    }
+
+    /// The value of the header of this name that stands after `before` others of that name.
+    pub fn nth_value(&self, name: &[u8], before: usize) -> Option<&[u8]>
+        ensures { option_map (λ v. v.now) result ≡ slice_get (values_of name.now self.now) before }
+    {
+        let mut left = before;
+        for index in 0..self.len() {
+            let header = self.get(index);
+            if header.is_named(name) {
+                if left == 0 {
+                    return Some(header.value);
+                }
+                left -= 1;
+            }
+        }
+        None
+    }
+}
+
+/// Headers that are being made, and the room that is left for more.
+#[derive(Debug, Drop)]
+pub struct Draft {
+    bytes: Vec<u8>,
+    places: Vec<Place>,
+}
+
+impl Model for Draft {
+    ghost use Rattle.std.specs.Prelude.{◌-◌, length, vec_capacity};
+    ghost use Rattle.rtsp_grammar.specs.Draft.{DraftText};
+    ghost use Rattle.rtsp_grammar.specs.Headers.{headers_at, AreWithin};
+
+    ghost Value = { DraftText };
+
+    ghost view = { λ d. record { headers = headers_at d.bytes.items d.places.items; lines = vec_capacity d.places - length d.places.items; bytes = vec_capacity d.bytes - length d.bytes.items } };
+
+    ghost invariant = { λ d. AreWithin d.bytes.items d.places.items };
+}
+
+impl Draft {
+    pub fn new(alloc: Global) -> Draft
+        ensures { result.headers ≡ [] }
+    {
+        Draft {
+            bytes: Vec::new(alloc),
+            places: Vec::new(alloc),
+        }
+    }
+
+    /// An empty draft with room for so many headers, and for so many bytes of their names and values.
+    pub fn with_room(alloc: Global, lines: usize, bytes: usize) -> Result<Draft, AllocError>
+        ensures { IfOk result (λ d. (d.headers ≡ []) × (lines ≤ d.lines) × (bytes ≤ d.bytes)) }
+    {
+        let mut draft = Draft::new(alloc);
+        draft.places.reserve(lines)?;
+        draft.bytes.reserve(bytes)?;
+        Ok(draft)
+    }
+
+    /// Adds a header at the end, or nothing. It takes no memory where there is room.
+    pub fn push(&mut self, name: &[u8], value: &[u8]) -> Result<(), AllocError>
+        ensures ok { OnOk result (Takes self.old self.new (record { name = name.now; value = value.now })) }
+        ensures err { OnErr result (self.new.headers ≡ self.old.headers) }
+        ensures succeeds { HasRoom self.old (record { name = name.now; value = value.now }) → IsOk result }
+    {
+        self.places.reserve(1)?;
+        self.bytes.reserve(name.len() + value.len())?;
+        let start = self.bytes.len();
+        self.bytes.extend_from_slice(name).unwrap();
+        let middle = self.bytes.len();
+        self.bytes.extend_from_slice(value).unwrap();
+        let stop = self.bytes.len();
+        self.places.push_reserved(Place {
+            start,
+            middle,
+            stop,
+        });
+        Ok(())
+    }
+
+    pub fn into_headers(self) -> Headers
+        ensures { result ≡ self.headers }
+    {
+        let Draft { bytes, places } = self;
+        Headers { bytes, places }
+    }
+}

@@ -1,0 +1,37 @@
+//! Messages and interleaved frames of RTSP 2.0, read and written exactly by their grammar.
+#![tactic(auto)]
+
+mod bytes;
+mod content_length;
+mod cut;
+mod fault;
+mod folds;
+mod frame;
+mod head;
+mod head_lines;
+mod header;
+mod header_line;
+mod laws;
+mod line;
+mod message;
+mod read;
+mod start_line;
+mod text;
+mod version;
+mod write;
+mod written_len;
+
+pub use fault::MessageFault;
+pub use header::{Draft, Header, Headers};
+pub use laws::{
+    law_keeps_items, law_no_answer, law_one_answer, law_opens_out, law_reads_back, law_reads_rules,
+    law_stays,
+};
+pub use message::{Frame, Item, Request, Response};
+pub use read::read_item;
+pub use text::Text;
+pub use version::is_version_2_0;
+pub use write::{write_frame, write_request, write_response};
+
+#[cfg(test)]
+mod tests;

@@ -1,0 +1,131 @@
+//! Reading the item at the front of the input.
+
+ghost use Rattle.std.specs.Prelude.{◌≡◌, ◌<◌, ◌≤◌, ◌⊎◌, length, take, drop, IfOk, IfErr, IfSome, IfNone, ℕ, Result};
+ghost use Rattle.rtsp_grammar.specs.Answer.{HasFault, IsUndecided, Decides, Answers, FindsNothing};
+ghost use Rattle.rtsp_grammar.specs.Frame.{BeginsFrame};
+ghost use Rattle.rtsp_grammar.specs.Item.{IsBlank, HasBlank, Spells};
+ghost use Rattle.rtsp_grammar.specs.declared.message.Item.{Item};
+ghost use Rattle.rtsp_grammar.specs.declared.fault.MessageFault.{MessageFault};
+ghost use Rattle.rtsp_grammar.specs.declared.fault.MessageFault.TheVariants.{OutOfMemory};
+
+use crate::fault::MessageFault;
+use crate::frame::read_frame;
+use crate::head::head_of;
+use crate::head_lines::{HeadLines, head_at};
+use crate::message::Item;
+use crate::text::Text;
+use std::alloc::Global;
+
+/// The bytes that a head may have, with the empty lines before it.
+const HEAD_LIMIT: usize = 8192;
+
+/// How many bytes of empty lines stand at the front.
+fn blank_len(bytes: &[u8]) -> usize
+    ensures { HasBlank bytes.now result }
+{
+    let mut at = 0;
+    'blank: while bytes.len() - at >= 2 && bytes[at] == b'\r' && bytes[at + 1] == b'\n' {
+        at += 2;
+    }
+    at
+}
+
+/// The bytes among which a head ends, if it does.
+fn head_window(bytes: &[u8]) -> &[u8]
+    ensures { result.now ≡ take 8192 bytes.now }
+{
+    if bytes.len() < HEAD_LIMIT {
+        return bytes;
+    }
+    &bytes[..HEAD_LIMIT]
+}
+
+/// The frame after this many bytes of empty lines.
+fn frame_item(
+    alloc: Global,
+    bytes: &[u8],
+    blank: usize,
+) -> Result<Option<(Item, usize)>, MessageFault>
+    requires front { IsBlank bytes.now blank }
+    requires few { blank < 8192 }
+    requires frame { BeginsFrame (drop blank bytes.now) }
+    ensures length { IfOk result (λ found. IfSome found (λ x. x.1 ≤ length bytes.now)) }
+    ensures item { IfOk result (λ found. IfSome found (λ x. Spells (take x.1 bytes.now) x.0)) }
+    ensures none { IfOk result (λ found. IfNone found (IsUndecided bytes.now)) }
+    ensures fault { IfErr result (λ f. f ≡ OutOfMemory) }
+{
+    let (_, frame) = bytes.split_at(blank);
+    match read_frame(alloc, frame)? {
+        Some((frame, len)) => Ok(Some((Item::Frame(frame), blank + len))),
+        None => Ok(None),
+    }
+}
+
+/// The message after this many bytes of empty lines; `message` is the window after them.
+fn message_item(
+    alloc: Global,
+    bytes: &[u8],
+    blank: usize,
+    message: &[u8],
+) -> Result<Option<(Item, usize)>, MessageFault>
+    requires front { HasBlank (take 8192 bytes.now) blank }
+    requires message { message.now ≡ drop blank (take 8192 bytes.now) }
+    requires no_frame { ¬ BeginsFrame message.now }
+    ensures length { IfOk result (λ found. IfSome found (λ x. x.1 ≤ length bytes.now)) }
+    ensures item { IfOk result (λ found. IfSome found (λ x. Spells (take x.1 bytes.now) x.0)) }
+    ensures none { IfOk result (λ found. IfNone found (IsUndecided bytes.now)) }
+    ensures fault { IfErr result (λ f. (f ≡ OutOfMemory) ⊎ HasFault bytes.now f) }
+{
+    match head_at(alloc, message)? {
+        HeadLines::Broken => Err(MessageFault::BadLine),
+        HeadLines::Open => {
+            if bytes.len() >= HEAD_LIMIT {
+                return Err(MessageFault::HeadTooLong);
+            }
+            Ok(None)
+        }
+        HeadLines::Ended { lines, len } => {
+            let (head, announced) = head_of(alloc, &lines)?;
+            let (_, rest) = bytes.split_at(blank + len);
+            if rest.len() < announced {
+                return Ok(None);
+            }
+            let body = Text::from_slice(alloc, &rest[..announced])?;
+            Ok(Some((head.with_body(body), blank + len + announced)))
+        }
+    }
+}
+
+fn item_at(alloc: Global, bytes: &[u8]) -> Result<Option<(Item, usize)>, MessageFault>
+    ensures length { IfOk result (λ found. IfSome found (λ x. x.1 ≤ length bytes.now)) }
+    ensures item { IfOk result (λ found. IfSome found (λ x. Spells (take x.1 bytes.now) x.0)) }
+    ensures none { IfOk result (λ found. IfNone found (IsUndecided bytes.now)) }
+    ensures fault { IfErr result (λ f. (f ≡ OutOfMemory) ⊎ HasFault bytes.now f) }
+{
+    let window = head_window(bytes);
+    let blank = blank_len(window);
+    let (_, message) = window.split_at(blank);
+    if !message.is_empty() && message[0] == b'$' {
+        return frame_item(alloc, bytes, blank);
+    }
+    message_item(alloc, bytes, blank, message)
+}
+
+/// Reads the item at the front of the bytes, and how many of them it takes.
+///
+/// None says that more bytes are needed to tell. Any other answer is that of each longer input
+/// too, but for want of memory. A fault is of the first rule that the bytes break: line ends,
+/// the head's length, the first line, folds, headers, the body's length.
+pub fn read_item(alloc: Global, bytes: &[u8]) -> Result<Option<(Item, usize)>, MessageFault>
+    // The first bytes spell the item.
+    ensures length { IfOk result (λ found. IfSome found (λ x. x.1 ≤ length bytes.now)) }
+    ensures item { IfOk result (λ found. IfSome found (λ x. Spells (take x.1 bytes.now) x.0)) }
+    // A longer text is needed to decide.
+    ensures none { IfOk result (λ found. IfNone found (IsUndecided bytes.now)) }
+    ensures fault { IfErr result (λ f. (f ≡ OutOfMemory) ⊎ HasFault bytes.now f) }
+    // Nothing else is answered where the text has an answer, or leaves it open.
+    ensures only { (a : Result (Item × ℕ) MessageFault) → Decides bytes.now a → Answers result a }
+    ensures open { IsUndecided bytes.now → FindsNothing result }
+{
+    item_at(alloc, bytes)
+}

@@ -1,0 +1,87 @@
+//! The first line of a message.
+
+ghost use Rattle.rtsp_grammar.specs.Gives.{Gives};
+ghost use Rattle.rtsp_grammar.specs.Reading.{start_of, request_line_of, status_line_of, status_of};
+
+use crate::bytes::{is_method, is_uri};
+use crate::cut::cut_at;
+use crate::fault::MessageFault;
+use crate::text::Text;
+use crate::version::is_version;
+use std::alloc::Global;
+
+const URI_LIMIT: usize = 1024;
+
+/// What a first line says.
+#[derive(Debug, Drop)]
+pub enum StartLine {
+    Request {
+        method: Text,
+        uri: Text,
+        version: Text,
+    },
+    Status {
+        version: Text,
+        status: u16,
+        reason: Text,
+    },
+}
+
+#[tactic(auto, unfolding(crate::specs::Reading::request_line_of))]
+fn request_line_of(alloc: Global, line: &[u8]) -> Result<StartLine, MessageFault>
+    ensures { Gives result (request_line_of line.now) }
+{
+    let (method, rest) = cut_at(line, b' ');
+    let (uri, version) = cut_at(rest, b' ');
+    if !(is_method(method) && is_uri(uri) && is_version(version)) {
+        return Err(MessageFault::BadLine);
+    }
+    if uri.len() > URI_LIMIT {
+        return Err(MessageFault::UriTooLong);
+    }
+    Ok(StartLine::Request {
+        method: Text::from_slice(alloc, method)?,
+        uri: Text::from_slice(alloc, uri)?,
+        version: Text::from_slice(alloc, version)?,
+    })
+}
+
+/// The three digits, the space and the reason after a version and a space.
+fn status_of(alloc: Global, version: &[u8], rest: &[u8]) -> Result<StartLine, MessageFault>
+    ensures { Gives result (status_of version.now rest.now) }
+{
+    let [a, b, c, space, reason @ ..] = rest else {
+        return Err(MessageFault::BadLine);
+    };
+    if !(a.is_ascii_digit() && b.is_ascii_digit() && c.is_ascii_digit() && *space == b' ') {
+        return Err(MessageFault::BadLine);
+    }
+    let status = 100 * u16::from(a - b'0') + 10 * u16::from(b - b'0') + u16::from(c - b'0');
+    Ok(StartLine::Status {
+        version: Text::from_slice(alloc, version)?,
+        status,
+        reason: Text::from_slice(alloc, reason)?,
+    })
+}
+
+#[tactic(auto, unfolding(crate::specs::Reading::status_line_of))]
+fn status_line_of(alloc: Global, line: &[u8]) -> Result<StartLine, MessageFault>
+    ensures { Gives result (status_line_of line.now) }
+{
+    let (version, rest) = cut_at(line, b' ');
+    if !is_version(version) {
+        return Err(MessageFault::BadLine);
+    }
+    status_of(alloc, version, rest)
+}
+
+/// Reads a request line or a status line.
+#[tactic(auto, unfolding(crate::specs::Reading::start_of))]
+pub fn start_of(alloc: Global, line: &[u8]) -> Result<StartLine, MessageFault>
+    ensures { Gives result (start_of line.now) }
+{
+    if line.starts_with(b"RTSP/") {
+        return status_line_of(alloc, line);
+    }
+    request_line_of(alloc, line)
+}

@@ -1,0 +1,66 @@
+//! Bytes of a message, which a contract sees as a list.
+
+ghost use Rattle.std.specs.Prelude.{◌≡◌, IfOk};
+
+use std::alloc::{AllocError, Global};
+use std::marker::Model;
+
+/// Bytes that were read or made, or that stand in the program.
+#[derive(Debug, Drop)]
+enum Bytes {
+    Owned(Vec<u8>),
+    Fixed(&'static [u8]),
+}
+
+/// A part of a message: bytes of its own, or bytes of the program.
+#[derive(Debug, Drop)]
+pub struct Text {
+    bytes: Bytes,
+}
+
+impl Model for Text {
+    ghost use Rattle.std.specs.Prelude.{List, ℕ};
+    ghost use Rattle.rtsp_grammar.specs.Text.{bytes_in};
+
+    ghost Value = { List ℕ };
+
+    ghost view = { λ t. bytes_in t.bytes };
+}
+
+impl Text {
+    /// A copy of the bytes.
+    pub fn from_slice(alloc: Global, bytes: &[u8]) -> Result<Text, AllocError>
+        ensures { IfOk result (λ t. t ≡ bytes.now) }
+    {
+        Ok(Text {
+            bytes: Bytes::Owned(Vec::from_slice(alloc, bytes)?),
+        })
+    }
+
+    /// The bytes themselves, which takes no memory.
+    pub fn from_vec(bytes: Vec<u8>) -> Text
+        ensures { result ≡ bytes.items }
+    {
+        Text {
+            bytes: Bytes::Owned(bytes),
+        }
+    }
+
+    /// A text of the program, which takes no memory.
+    pub fn fixed(bytes: &'static [u8]) -> Text
+        ensures { result ≡ bytes.now }
+    {
+        Text {
+            bytes: Bytes::Fixed(bytes),
+        }
+    }
+
+    pub fn as_bytes(&self) -> &[u8]
+        ensures { result.now ≡ self.now }
+    {
+        match &self.bytes {
+            Bytes::Owned(bytes) => bytes.as_slice(),
+            Bytes::Fixed(bytes) => bytes,
+        }
+    }
+}
