@@ -1,4 +1,5 @@
 ghost use Rattle.rtsp_book.specs.Choices.{HasPorts};
+ghost use Rattle.rtsp_book.specs.Replies.{IsAskable};
 
 use crate::*;
 use rtsp_record::{Entry, Record, Stream, Thing, Whole};
@@ -34,7 +35,9 @@ const OVER_CHANNELS: Stream = Stream {
     rtcp_port: 0,
 };
 
-fn open(session: u64, id: u128) -> Step {
+fn open(session: u64, id: u128) -> Step
+    ensures { IsAskable result }
+{
     Step::Open {
         session,
         id,
@@ -43,7 +46,9 @@ fn open(session: u64, id: u128) -> Step {
     }
 }
 
-fn rate(session: u64, admission: u64) -> Step {
+fn rate(session: u64, admission: u64) -> Step
+    ensures { IsAskable result }
+{
     Step::HoldRate {
         session,
         admission,
@@ -51,7 +56,9 @@ fn rate(session: u64, admission: u64) -> Step {
     }
 }
 
-fn pair(session: u64, admission: u64) -> Step {
+fn pair(session: u64, admission: u64) -> Step
+    ensures { IsAskable result }
+{
     Step::HoldPair {
         session,
         admission,
@@ -59,7 +66,9 @@ fn pair(session: u64, admission: u64) -> Step {
     }
 }
 
-fn commit(session: u64, admission: u64, stream: Stream) -> Step {
+fn commit(session: u64, admission: u64, stream: Stream) -> Step
+    ensures { IsAskable result }
+{
     Step::Commit {
         session,
         admission,
