@@ -6,3 +6,12 @@ pub mod Back
 pub mod Trims
 pub mod Strands
 pub mod LastWords
+pub mod HexLemmas
+pub mod AfterLemmas
+pub mod ReaderLemmas
+pub mod NumberLemmas
+pub mod EntryLemmas
+pub mod JournalLemmas
+pub mod WriteLemmas
+pub mod FieldLemmas
+pub mod LineLemmas

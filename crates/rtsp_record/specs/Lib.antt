@@ -7,3 +7,8 @@ pub mod Sound
 pub mod Moments
 pub mod LastWord
 pub mod Journals
+pub mod JournalText
+pub mod JournalReading
+pub mod JournalAnswers
+pub mod JournalWriting
+pub mod JournalFields

@@ -1,5 +1,9 @@
-use crate::{Phase, Record, due, inverse, point};
-use std::runtime::HostRuntime;
+use crate::fields::{Field, write_line};
+use crate::{
+    Entry, JournalFault, Phase, Record, Stream, Thing, due, inverse, point, read_journal,
+    write_journal,
+};
+use std::test::Fail;
 
 const PLAY: Phase = Phase::Playing {
     since: 0,
@@ -32,4 +36,176 @@ fn a_move_is_taken_back(rt: HostRuntime) {
         new: ready,
     };
     assert_eq!(rt; inverse(&change), back);
+}
+
+const STREAM: Stream = Stream {
+    presentation: 0,
+    track: 0,
+    ssrc: 1,
+    seq: 0,
+    rtptime: 0,
+    peer: 0x7f00_0001,
+    rtp_port: 0,
+    rtcp_port: 0,
+};
+
+const CHAN: Thing = Thing::Chan(1, 0);
+
+const RATE: Thing = Thing::Rate(80_000);
+
+const TEXT: &[u8] = b"0 open 2 00000000000000000000000000000001 1 60000
+0 hold 2 3 rate 80000
+0 hold 2 3 chan 1 0
+0 add 2 3 0 0 00000001 0 0 7f000001 0 0
+0 move 2 playing:0:0:500:0 ready:1:1
+0 touch 2 60000 70000
+0 bind 2 1 7
+0 drop 2 3 0 0 00000001 0 0 7f000001 0 0
+0 free 2 3 chan 1 0
+0 free 2 3 rate 80000
+0 close 2 00000000000000000000000000000001 1 60000
+";
+
+fn by_server(change: Record) -> Entry {
+    Entry { actor: 0, change }
+}
+
+fn first_path() -> [Entry; 11] {
+    let session = 2;
+    let admission = 3;
+    [
+        by_server(Record::Open {
+            session,
+            id: 1,
+            conn: 1,
+            expires: 60_000,
+        }),
+        by_server(Record::Hold {
+            session,
+            admission,
+            thing: RATE,
+        }),
+        by_server(Record::Hold {
+            session,
+            admission,
+            thing: CHAN,
+        }),
+        by_server(Record::Add {
+            session,
+            admission,
+            stream: STREAM,
+        }),
+        by_server(Record::Move {
+            session,
+            old: PLAY,
+            new: Phase::Ready { at: 1, sent: 1 },
+        }),
+        by_server(Record::Touch {
+            session,
+            old: 60_000,
+            new: 70_000,
+        }),
+        by_server(Record::Bind {
+            session,
+            conn: 1,
+            number: 7,
+        }),
+        by_server(Record::Drop {
+            session,
+            admission,
+            stream: STREAM,
+        }),
+        by_server(Record::Free {
+            session,
+            admission,
+            thing: CHAN,
+        }),
+        by_server(Record::Free {
+            session,
+            admission,
+            thing: RATE,
+        }),
+        by_server(Record::Close {
+            session,
+            id: 1,
+            conn: 1,
+            expires: 60_000,
+        }),
+    ]
+}
+
+#[test]
+fn a_journal_is_read_and_written_back(rt: HostRuntime) -> Result<(), Fail> {
+    let entries = read_journal(rt.alloc(), TEXT)?;
+    assert_eq!(rt; entries.as_slice(), first_path().as_slice());
+    let mut text = Vec::new(rt.alloc());
+    write_journal(&mut text, &entries)?;
+    assert_eq!(rt; text.as_slice(), TEXT);
+    assert_eq!(rt; read_journal(rt.alloc(), b"")?.len(), 0);
+    Ok(())
+}
+
+#[test]
+fn the_first_bad_line_is_named(rt: HostRuntime) {
+    let cut = &TEXT[..TEXT.len() - 1];
+    assert_eq!(rt;
+        read_journal(rt.alloc(), cut).err(),
+        Some(JournalFault::NotARecord(11))
+    );
+    let lines: [&[u8]; 13] = [
+        b"18446744073709551616 touch 2 1 1\n",
+        b"0 bind 2 1 4294967296\n",
+        b"0 hold 2 3 pair 65536\n",
+        b"0 hold 2 3 chan 1 256\n",
+        b"0 open 2 100000000000000000000000000000001 1 60000\n",
+        b"0 add 2 3 0 0 100000001 0 0 7f000001 0 0\n",
+        b"0 add 2 3 0 0 00000001 0 0 7F000001 0 0\n",
+        b"0 touch 02 1 1\n",
+        b"0  touch 2 1 1\n",
+        b"0 touch 2 1 1 \n",
+        b"0 touch 2 1 1\r\n",
+        b"0 move 2 ready:0:0 paused:0:0\n",
+        b"\n",
+    ];
+    for line in lines {
+        assert_eq!(rt;
+            read_journal(rt.alloc(), line).err(),
+            Some(JournalFault::NotARecord(1))
+        );
+    }
+}
+
+#[test]
+fn more_than_a_million_lines_are_refused(rt: HostRuntime) -> Result<(), Fail> {
+    let mut text = Vec::new(rt.alloc());
+    for _ in 0..1_000_000 {
+        text.extend_from_slice(b"0 touch 0 0 0\n")?;
+    }
+    assert_eq!(rt; read_journal(rt.alloc(), &text)?.len(), 1_000_000);
+    text.push(b'x')?;
+    assert_eq!(rt;
+        read_journal(rt.alloc(), &text).err(),
+        Some(JournalFault::TooLong)
+    );
+    Ok(())
+}
+
+#[test]
+fn a_line_is_written_from_its_fields(rt: HostRuntime) -> Result<(), Fail> {
+    let mut text = Vec::new(rt.alloc());
+    write_line(
+        &mut text,
+        &[
+            Field::Word(b"session"),
+            Field::Id(0xab),
+            Field::Hex(0xc),
+            Field::Number(7),
+            Field::Phase(PLAY),
+        ],
+    )?;
+    assert_eq!(rt;
+        text.as_slice(),
+        b"session 000000000000000000000000000000ab 0000000c 7 playing:0:0:500:0\n".as_slice()
+    );
+    Ok(())
 }
