@@ -1,0 +1,17 @@
+pub mod Method
+pub mod Status
+pub mod Fault
+pub mod Writing
+pub mod Words
+pub mod Lines
+pub mod Response
+pub mod Values
+pub mod Asked
+pub mod Screen
+pub mod Scene
+pub mod Options
+pub mod Describe
+pub mod Setup
+pub mod Teardown
+pub mod Decide
+pub mod Answer

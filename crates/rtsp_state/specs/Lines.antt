@@ -1,0 +1,124 @@
+-- The headers of a response (RFC 7826 section 18).
+use Rattle.std.specs.Prelude.{◌≡◌, ℕ, ◌+◌, ◌*◌, ◌≤◌, List, [], ◌∷◌, ◌++◌, length, codes, decimal, vec_capacity, Option, Some, None}
+use Rattle.std.specs.List.{AllByRecursion}
+use Rattle.rtsp_grammar.specs.Header.{HeaderText}
+use Rattle.rtsp_grammar.specs.Draft.{size, Takes, HasRoom}
+use Rattle.rtsp_transport.specs.Hex.{hex_text}
+use Rattle.rtsp_npt.specs.Printed.{time_text, range_text}
+use Rattle.rtsp_record.specs.declared.holdings.Thing.{Thing}
+use Rattle.rtsp_record.specs.declared.holdings.Thing.TheVariants.{Pair, Chan, Rate}
+use Rattle.rtsp_record.specs.declared.streams.Stream.{Stream}
+use Rattle.rtsp_state.specs.Words.{name_of_field, text_of}
+use Rattle.rtsp_state.specs.declared.words.Field.TheVariants as fields
+use Rattle.rtsp_state.specs.declared.words.Word.TheVariants as words
+use Rattle.rtsp_state.specs.declared.lines.Lines.{Lines}
+use Rattle.rtsp_state.specs.declared.lines.Front.{Front}
+use Rattle.rtsp_state.specs.declared.lines.Timing.{Timing}
+
+-- the request's number, as a number
+abbrev pub cseq_line : ℕ → HeaderText
+cseq_line cseq = record { name = name_of_field fields.CSeq; value = decimal cseq }
+
+-- a session's id is 32 hexadecimal digits
+abbrev pub session_line : ℕ → HeaderText
+session_line id = record { name = name_of_field fields.Session; value = hex_text 32 id }
+
+-- a session with the seconds that it lives without a request
+abbrev pub opened_line : ℕ → ℕ → HeaderText
+opened_line id timeout = record { name = name_of_field fields.Session; value = hex_text 32 id ++ text_of words.Timeout ++ decimal timeout }
+
+-- all methods
+abbrev pub public_line : HeaderText
+public_line = record { name = name_of_field fields.Public; value = text_of words.AllMethods }
+
+-- the methods that are refused in no state
+abbrev pub allow_line : HeaderText
+allow_line = record { name = name_of_field fields.Allow; value = text_of words.AlwaysMethods }
+
+-- the option tags that are not known
+abbrev pub unsupported_line : List ℕ → HeaderText
+unsupported_line tags = record { name = name_of_field fields.Unsupported; value = tags }
+
+abbrev pub accept_ranges_line : HeaderText
+accept_ranges_line = record { name = name_of_field fields.AcceptRanges; value = text_of words.Npt }
+
+-- a play may start at each unit; the media doesn't change, and is there for ever
+abbrev pub properties_line : ℕ → HeaderText
+properties_line unit_ms = record { name = name_of_field fields.MediaProperties; value = text_of words.RandomAccess ++ time_text 1 unit_ms ++ text_of words.Immutable }
+
+-- the whole of the media
+abbrev pub media_range_line : Timing → HeaderText
+media_range_line timing = record { name = name_of_field fields.MediaRange; value = range_text 0 timing.units timing.unit_ms }
+
+-- from a unit on, and before another
+abbrev pub range_line : ℕ → ℕ → ℕ → HeaderText
+range_line from stop unit_ms = record { name = name_of_field fields.Range; value = range_text from stop unit_ms }
+
+-- two ports of one side
+unfoldable pub ports_text : ℕ → ℕ → List ℕ
+ports_text rtp rtcp = decimal rtp ++ text_of words.PortJoint ++ decimal rtcp
+
+-- two channels
+unfoldable pub channels_text : ℕ → List ℕ
+channels_text k = decimal k ++ text_of words.Dash ++ decimal (k + 1)
+
+unfoldable pub source_text : ℕ → List ℕ
+source_text ssrc = text_of words.Source ++ hex_text 8 ssrc
+
+-- interleaved on two channels of the connection
+unfoldable pub over_channels : ℕ → ℕ → List ℕ
+over_channels k ssrc = text_of words.OverChannels ++ channels_text k ++ source_text ssrc
+
+-- from two ports of the server to two of the client, whose host isn't shown
+unfoldable pub over_ports : ℕ → Stream → List ℕ
+over_ports p stream =
+    text_of words.OverPorts ++ ports_text stream.rtp_port stream.rtcp_port ++ text_of words.ServerPorts ++ ports_text p (p + 1) ++ text_of words.PortsEnd ++ source_text stream.ssrc
+
+-- the transport that a stream was given; bandwidth alone is none
+abbrev pub transport_text : Thing → Stream → List ℕ
+transport_text (Pair p) stream = over_ports p stream
+transport_text (Chan c k) stream = over_channels k stream.ssrc
+transport_text (Rate n) stream = []
+
+abbrev pub transport_line : Thing → Stream → HeaderText
+transport_line address stream = record { name = name_of_field fields.Transport; value = transport_text address stream }
+
+-- the URI of the request with a slash at its end
+abbrev pub base_line : List ℕ → HeaderText
+base_line base = record { name = name_of_field fields.ContentBase; value = base }
+
+abbrev pub type_line : HeaderText
+type_line = record { name = name_of_field fields.ContentType; value = text_of words.Sdp }
+
+abbrev pub length_line : List ℕ → HeaderText
+length_line body = record { name = name_of_field fields.ContentLength; value = decimal (length body) }
+
+-- a living session is shown
+abbrev pub session_lines : Option ℕ → List HeaderText
+session_lines None = []
+session_lines (Some id) = session_line id ∷ []
+
+-- what stands first in each response
+abbrev pub front_lines : Front → List HeaderText
+front_lines front = cseq_line front.cseq ∷ session_lines front.session
+
+-- a header was added, within its room
+abbrev pub Puts : Lines → Lines → HeaderText → Type 0
+Puts old new h = Takes old.draft new.draft h × (vec_capacity old.value ≤ vec_capacity new.value)
+
+-- there is room for a header and its value
+abbrev pub Fits : Lines → HeaderText → Type 0
+Fits lines h = HasRoom lines.draft h × (length h.value ≤ vec_capacity lines.value)
+
+-- the bytes of headers together
+abbrev pub size_all : List HeaderText → ℕ
+size_all [] = 0
+size_all (h ∷ hs) = size h + size_all hs
+
+-- the headers were added, within their room
+abbrev pub PutsAll : Lines → Lines → List HeaderText → Type 0
+PutsAll old new hs = (new.draft.headers ≡ old.draft.headers ++ hs) × (old.draft.lines ≤ new.draft.lines + length hs) × (old.draft.bytes ≤ new.draft.bytes + size_all hs) × (vec_capacity old.value ≤ vec_capacity new.value)
+
+-- there is room for all of them: how many, how many bytes together, and how long a value may be
+abbrev pub FitsAll : Lines → List HeaderText → Type 0
+FitsAll lines hs = (length hs ≤ lines.draft.lines) × (size_all hs ≤ lines.draft.bytes) × AllByRecursion (λ h. length h.value ≤ vec_capacity lines.value) hs

@@ -1,0 +1,99 @@
+//! The statuses of responses (RFC 7826 section 17).
+
+ghost use Rattle.std.specs.Prelude.{◌≡◌};
+ghost use Rattle.rtsp_state.specs.Status.{code, reason, status_of};
+
+use rtsp_book::Refusal;
+
+#[derive(Clone, Copy, Debug, PartialEq, Eq)]
+pub enum Status {
+    Success,
+    BadRequest,
+    NotFound,
+    ParameterNotUnderstood,
+    NotEnoughBandwidth,
+    SessionNotFound,
+    MethodNotValid,
+    HeaderNotValid,
+    InvalidRange,
+    AggregateNotAllowed,
+    OnlyAggregateAllowed,
+    UnsupportedTransport,
+    DestinationProhibited,
+    ServerError,
+    NotImplemented,
+    Unavailable,
+    VersionNotSupported,
+    OptionNotSupported,
+}
+
+pub fn code(status: Status) -> u16
+    ensures { result ≡ code status }
+{
+    match status {
+        Status::Success => 200,
+        Status::BadRequest => 400,
+        Status::NotFound => 404,
+        Status::ParameterNotUnderstood => 451,
+        Status::NotEnoughBandwidth => 453,
+        Status::SessionNotFound => 454,
+        Status::MethodNotValid => 455,
+        Status::HeaderNotValid => 456,
+        Status::InvalidRange => 457,
+        Status::AggregateNotAllowed => 459,
+        Status::OnlyAggregateAllowed => 460,
+        Status::UnsupportedTransport => 461,
+        Status::DestinationProhibited => 463,
+        Status::ServerError => 500,
+        Status::NotImplemented => 501,
+        Status::Unavailable => 503,
+        Status::VersionNotSupported => 505,
+        Status::OptionNotSupported => 551,
+    }
+}
+
+pub fn reason(status: Status) -> &'static [u8]
+    ensures { result.now ≡ reason status }
+{
+    match status {
+        Status::Success => b"OK",
+        Status::BadRequest => b"Bad Request",
+        Status::NotFound => b"Not Found",
+        Status::ParameterNotUnderstood => b"Parameter Not Understood",
+        Status::NotEnoughBandwidth => b"Not Enough Bandwidth",
+        Status::SessionNotFound => b"Session Not Found",
+        Status::MethodNotValid => b"Method Not Valid in This State",
+        Status::HeaderNotValid => b"Header Field Not Valid for Resource",
+        Status::InvalidRange => b"Invalid Range",
+        Status::AggregateNotAllowed => b"Aggregate Operation Not Allowed",
+        Status::OnlyAggregateAllowed => b"Only Aggregate Operation Allowed",
+        Status::UnsupportedTransport => b"Unsupported Transport",
+        Status::DestinationProhibited => b"Destination Prohibited",
+        Status::ServerError => b"Internal Server Error",
+        Status::NotImplemented => b"Not Implemented",
+        Status::Unavailable => b"Service Unavailable",
+        Status::VersionNotSupported => b"RTSP Version Not Supported",
+        Status::OptionNotSupported => b"Option Not Supported",
+    }
+}
+
+/// The status of a refused step.
+pub fn status_of(refusal: Refusal) -> Status
+    ensures { result ≡ status_of refusal }
+{
+    match refusal {
+        Refusal::NoSession => Status::SessionNotFound,
+        Refusal::NoBandwidth => Status::NotEnoughBandwidth,
+        Refusal::WrongState => Status::MethodNotValid,
+        Refusal::NotHeld => Status::MethodNotValid,
+        Refusal::TooManySessions => Status::Unavailable,
+        Refusal::NoPair => Status::Unavailable,
+        Refusal::NoChannel => Status::Unavailable,
+        Refusal::JournalFull => Status::Unavailable,
+        Refusal::NumbersSpent => Status::Unavailable,
+        Refusal::IdTaken => Status::ServerError,
+        Refusal::StartupTaken => Status::ServerError,
+        Refusal::OutOfMemory => Status::ServerError,
+        Refusal::NothingDue => Status::ServerError,
+    }
+}

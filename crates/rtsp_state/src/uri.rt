@@ -1,0 +1,49 @@
+//! Request URIs.
+
+ghost use Rattle.std.specs.Prelude.{◌≡◌, ◌++◌, IfOk};
+ghost use Rattle.rtsp_state.specs.Values.{rtsp_url, uri_of, bare_text, with_slash};
+
+use std::alloc::{AllocError, Global};
+use std::str;
+use url::{ParseError, Position, Url};
+
+/// The rtsp URL that a text is, or `None` where it is none.
+fn read_url(alloc: Global, text: &str) -> Result<Option<Url>, AllocError>
+    ensures { IfOk result (λ url. url ≡ rtsp_url text.now) }
+{
+    match Url::parse(alloc, text) {
+        Ok(url) => {
+            if url.scheme() == "rtsp" {
+                Ok(Some(url))
+            } else {
+                Ok(None)
+            }
+        }
+        Err(ParseError::OutOfMemory) => Err(AllocError),
+        Err(ParseError::Overflow) => Err(AllocError),
+        Err(_) => Ok(None),
+    }
+}
+
+/// Reads a request URI: the rtsp URL that it is, or `None` where it is none.
+pub fn read_uri(alloc: Global, text: &[u8]) -> Result<Option<Url>, AllocError>
+    ensures { IfOk result (λ url. url ≡ uri_of text.now) }
+{
+    match str::from_utf8(text) {
+        Ok(text) => read_url(alloc, text),
+        Err(_) => Ok(None),
+    }
+}
+
+/// The URL without query and fragment, with one slash at its end: what the names of tracks are joined to.
+#[tactic(auto, unfolding(crate::specs::Values::with_slash))]
+pub fn base_of(alloc: Global, url: &Url) -> Result<Vec<u8>, AllocError>
+    ensures { IfOk result (λ text. text.items ≡ with_slash (bare_text url.now)) }
+{
+    let base = url.slice(Position::BeforeScheme, Position::AfterPath);
+    let mut text = Vec::from_slice(alloc, base.as_bytes())?;
+    if !base.ends_with('/') {
+        text.push(b'/')?;
+    }
+    Ok(text)
+}

@@ -1,0 +1,105 @@
+//! Fixed texts of responses.
+
+ghost use Rattle.std.specs.Prelude.{◌≡◌};
+ghost use Rattle.rtsp_state.specs.Words.{name_of_field, text_of};
+
+/// Headers of a response, in their order.
+#[derive(Clone, Copy, Debug)]
+pub enum Field {
+    CSeq,
+    Session,
+    Public,
+    Allow,
+    Unsupported,
+    Transport,
+    AcceptRanges,
+    MediaProperties,
+    MediaRange,
+    Range,
+    SeekStyle,
+    RtpInfo,
+    ContentBase,
+    ContentType,
+    ContentLength,
+}
+
+#[tactic(auto, unfolding(crate::specs::Words::name_of_field))]
+pub fn name_of_field(of: Field) -> &'static [u8]
+    ensures { result.now ≡ name_of_field of }
+{
+    match of {
+        Field::CSeq => b"CSeq",
+        Field::Session => b"Session",
+        Field::Public => b"Public",
+        Field::Allow => b"Allow",
+        Field::Unsupported => b"Unsupported",
+        Field::Transport => b"Transport",
+        Field::AcceptRanges => b"Accept-Ranges",
+        Field::MediaProperties => b"Media-Properties",
+        Field::MediaRange => b"Media-Range",
+        Field::Range => b"Range",
+        Field::SeekStyle => b"Seek-Style",
+        Field::RtpInfo => b"RTP-Info",
+        Field::ContentBase => b"Content-Base",
+        Field::ContentType => b"Content-Type",
+        Field::ContentLength => b"Content-Length",
+    }
+}
+
+/// Fixed parts of values.
+#[derive(Clone, Copy, Debug)]
+pub enum Word {
+    AllMethods,
+    AlwaysMethods,
+    Npt,
+    Dash,
+    Timeout,
+    RandomAccess,
+    Immutable,
+    OverChannels,
+    OverPorts,
+    PortJoint,
+    ServerPorts,
+    PortsEnd,
+    Source,
+    Rap,
+    Sdp,
+    UrlIs,
+    SsrcIs,
+    SeqIs,
+    RtptimeIs,
+    Comma,
+    Slash,
+    CommaSpace,
+}
+
+#[tactic(auto, unfolding(crate::specs::Words::text_of))]
+pub fn text_of(of: Word) -> &'static [u8]
+    ensures { result.now ≡ text_of of }
+{
+    match of {
+        Word::AllMethods =>
+            b"OPTIONS, DESCRIBE, SETUP, PLAY, PAUSE, TEARDOWN, GET_PARAMETER, SET_PARAMETER",
+        Word::AlwaysMethods => b"OPTIONS, DESCRIBE, GET_PARAMETER, SET_PARAMETER",
+        Word::Npt => b"npt",
+        Word::Dash => b"-",
+        Word::Timeout => b";timeout=",
+        Word::RandomAccess => b"Random-Access=",
+        Word::Immutable => b", Immutable, Unlimited",
+        Word::OverChannels => b"RTP/AVP/TCP;unicast;interleaved=",
+        Word::OverPorts => b"RTP/AVP;unicast;dest_addr=\":",
+        Word::PortJoint => b"\"/\":",
+        Word::ServerPorts => b"\";src_addr=\":",
+        Word::PortsEnd => b"\"",
+        Word::Source => b";ssrc=",
+        Word::Rap => b"RAP",
+        Word::Sdp => b"application/sdp",
+        Word::UrlIs => b"url=\"",
+        Word::SsrcIs => b"\" ssrc=",
+        Word::SeqIs => b":seq=",
+        Word::RtptimeIs => b";rtptime=",
+        Word::Comma => b",",
+        Word::Slash => b"/",
+        Word::CommaSpace => b", ",
+    }
+}
