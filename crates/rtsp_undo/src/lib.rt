@@ -1,13 +1,28 @@
-// A library with one function.
+//! Journals replayed, taken back and with entries left out, the book printed, and the laws over whole journals.
+//!
+//! The definitions of `specs/` read in this order: Laws (what holds of every legal journal), Pools (what is held and
+//! what is free, counted), Replays (why a journal is refused, and what is left of one that is taken back), Strands
+//! (journals compared session by session), BookText (the book as it is printed). What a journal is, when it is legal and
+//! what is left without some entries is said in rtsp_record.
 #![tactic(auto)]
 
-ghost use Rattle.std.specs.Prelude.{◌≡◌};
-ghost use Rattle.rtsp_undo.specs.Echo.{echo_of};
+mod laws;
+mod omissions;
+mod replays;
+mod rewinds;
+mod strands;
+mod text;
 
-// The `ensures` clause is the contract: what `echo` returns is `echo_of` of its argument, a definition
-// in `specs/Echo.antt`, which a caller's clause can cite too.
-pub fn echo(x: usize) -> usize
-    ensures { result ≡ echo_of x }
-{
-    x
-}
+pub use laws::{
+    law_admission_fits, law_back, law_ended, law_exchange, law_less_admission, law_less_gone,
+    law_less_session, law_one_back, law_pairs, law_returning, law_session_fits, law_strands,
+    law_whole,
+};
+pub use omissions::{without_admission, without_session};
+pub use replays::{AuditFault, replay, replay_without_admission, replay_without_session};
+pub use rewinds::{Cut, rewind};
+pub use strands::same_strands;
+pub use text::book_text;
+
+#[cfg(test)]
+mod tests;

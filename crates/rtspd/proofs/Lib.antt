@@ -2,3 +2,5 @@ pub mod Known
 pub mod Going
 pub mod Sizes
 pub mod HoldLemmas
+pub mod Numbers
+pub mod Conducting

@@ -11,7 +11,11 @@ use rtsp_book::{Admitted, Ask, BookRep, Chain, Kept, Receipt, Refusal, Step, Wan
 use rtsp_record::{Record, Thing};
 
 // Does one step.
-fn act<B: BookRep>(kept: &mut Kept<B>, actor: u64, step: &Step) -> Result<Receipt, Refusal>
+pub(crate) fn act<B: BookRep>(
+    kept: &mut Kept<B>,
+    actor: u64,
+    step: &Step,
+) -> Result<Receipt, Refusal>
     requires { IsAskable step.now }
     ensures { Acts actor kept.old step.now result kept.new }
 {

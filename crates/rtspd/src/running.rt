@@ -1,10 +1,14 @@
-//! The programs that need no socket: a conversation over standard input and output, and an audit of a journal.
-use crate::desk::Desk;
+//! The programs that need no socket: a conversation over standard input and output, and the audit of a journal.
+ghost use Rattle.rtsp_book.specs.Choices.{HasPorts};
+
+use crate::conversing::Asker;
+use crate::desk::{Desk, stdio_core};
 use crate::example::EXAMPLE;
 use crate::exit::Exit;
-use crate::serving::{ServeEnd, TURNS, serve_turns};
-use crate::streams::{CountedReader, CountedWriter};
+use crate::serving::ServeEnd;
+use crate::streams::{ByteOut, CountedReader, CountedWriter, StreamFault};
 use crate::words::{CommandLine, read_words};
+use crate::words_given::Words;
 use rtsp_book::{Kept, PlainBook};
 use rtsp_content::{Table, TableFault};
 use rtsp_grammar::MessageFault;
@@ -15,7 +19,10 @@ use std::fs;
 use std::io::{Read, Write};
 use std::rt::Files;
 
-/// Runs the words of a command line, and tells how that ended: the words first, then the configuration, then the
+/// The address of the player that stands at standard input: 127.0.0.1.
+const PEER: u32 = 0x7f00_0001;
+
+/// Runs the words of a command line, and tells how that ended. The words come first, then the configuration, then the
 /// journal or the conversation; the first fault met is told.
 pub fn run_words<R: Files + AllocGlobal, I: Read + Drop, O: Write + Drop>(
     rt: &R,
@@ -23,8 +30,195 @@ pub fn run_words<R: Files + AllocGlobal, I: Read + Drop, O: Write + Drop>(
     reader: I,
     writer: O,
 ) -> Exit {
-    match run(rt, words, reader, writer) {
+    let ended = match read_words(rt.alloc(), words) {
+        Ok(Some(CommandLine::Stdio { config, journal })) => {
+            run_stdio(rt, config, journal, reader, writer)
+        }
+        Ok(
+            Some(
+                CommandLine::Audit {
+                    config,
+                    journal,
+                    back,
+                    without_session,
+                    without_admission,
+                },
+            ),
+        ) => {
+            let omitted = Omitted {
+                session: without_session,
+                admission: without_admission,
+            };
+            run_audit(rt, config, journal, back, omitted, writer)
+        }
+        Ok(None) => Err(Exit::BadCommandLine),
+        Err(_) => Err(Exit::OutOfMemory),
+    };
+    match ended {
         Ok(()) => Exit::Done,
         Err(exit) => exit,
+    }
+}
+
+// What an audit leaves out of the journal.
+#[derive(Clone, Copy)]
+struct Omitted {
+    session: Option<u64>,
+    admission: Option<u64>,
+}
+
+// The configuration of a file, or the example where none is named.
+fn read_table<R: Files + AllocGlobal>(rt: &R, config: Option<&str>) -> Result<Table, Exit> {
+    let read = match config {
+        Some(path) => match fs::read(rt, path) {
+            Ok(text) => Table::read(rt.alloc(), &text),
+            Err(_) => return Err(Exit::DeviceFailed),
+        },
+        None => Table::read(rt.alloc(), EXAMPLE.as_bytes()),
+    };
+    match read {
+        Ok(table) => Ok(table),
+        Err(TableFault::OutOfMemory) => Err(Exit::OutOfMemory),
+        Err(_) => Err(Exit::BadConfiguration),
+    }
+}
+
+// What there is to hold by a configuration.
+fn whole_of(table: &Table) -> Whole
+    ensures { HasPorts result }
+{
+    let server = table.server();
+    Whole {
+        first_port: server.first_port,
+        pairs: server.pairs,
+        uplink: server.uplink,
+        sessions: server.sessions,
+        journal: server.journal,
+    }
+}
+
+// A desk at which nothing was asked yet. Its connection has the first number.
+fn open_desk(alloc: Global, table: Table) -> Result<Desk<PlainBook>, Exit> {
+    let whole = whole_of(&table);
+    let Ok(mut kept) = Kept::open(alloc, &whole) else {
+        return Err(Exit::OutOfMemory);
+    };
+    let Ok(conn) = kept.draw() else {
+        return Err(Exit::OutOfMemory);
+    };
+    let asker = Asker {
+        conn,
+        peer: PEER,
+        moment: 0,
+    };
+    Ok(Desk {
+        kept,
+        words: Words { ids: 0, ssrcs: 0 },
+        table,
+        asker,
+    })
+}
+
+fn run_stdio<R: Files + AllocGlobal, I: Read + Drop, O: Write + Drop>(
+    rt: &R,
+    config: Option<&str>,
+    journal: Option<&str>,
+    reader: I,
+    writer: O,
+) -> Result<(), Exit> {
+    let table = read_table(rt, config)?;
+    let mut desk = open_desk(rt.alloc(), table)?;
+    let mut reader = CountedReader::new(reader);
+    let mut writer = CountedWriter::new(writer);
+    let served = served(&stdio_core(rt.alloc(), &mut desk, &mut reader, &mut writer));
+    // The journal is written however serving ended; the first fault is told.
+    let written = match journal {
+        Some(path) => write_out(rt, path, desk.kept.journal()),
+        None => Ok(()),
+    };
+    served?;
+    written
+}
+
+// What an end of serving means to the program.
+fn served(end: &ServeEnd) -> Result<(), Exit> {
+    match end {
+        ServeEnd::Closed => Ok(()),
+        ServeEnd::Fault(MessageFault::OutOfMemory) => Err(Exit::OutOfMemory),
+        ServeEnd::Fault(_) => Err(Exit::BadMessage),
+        ServeEnd::ReadFault | ServeEnd::WriteFault | ServeEnd::TurnsSpent => {
+            Err(Exit::DeviceFailed)
+        }
+    }
+}
+
+fn write_out<R: Files + AllocGlobal>(rt: &R, path: &str, journal: &[Entry]) -> Result<(), Exit> {
+    let mut text = Vec::new(rt.alloc());
+    if write_journal(&mut text, journal).is_err() {
+        return Err(Exit::OutOfMemory);
+    }
+    match fs::write(rt, path, text.as_slice()) {
+        Ok(()) => Ok(()),
+        Err(_) => Err(Exit::DeviceFailed),
+    }
+}
+
+fn read_in<R: Files + AllocGlobal>(rt: &R, path: &str) -> Result<Vec<Entry>, Exit> {
+    let Ok(text) = fs::read(rt, path) else {
+        return Err(Exit::DeviceFailed);
+    };
+    match read_journal(rt.alloc(), &text) {
+        Ok(journal) => Ok(journal),
+        Err(JournalFault::NotARecord(n)) => Err(Exit::NotARecord(n as u64)),
+        Err(JournalFault::TooLong) => Err(Exit::JournalTooLong),
+        Err(JournalFault::OutOfMemory) => Err(Exit::OutOfMemory),
+    }
+}
+
+// The journal without what is left out, the session first.
+fn omit(alloc: Global, journal: Vec<Entry>, omitted: &Omitted) -> Result<Vec<Entry>, Exit> {
+    let mut journal = journal;
+    if let Some(session) = omitted.session {
+        journal = match without_session(alloc, &journal, session) {
+            Ok(less) => less,
+            Err(_) => return Err(Exit::OutOfMemory),
+        };
+    }
+    if let Some(admission) = omitted.admission {
+        journal = match without_admission(alloc, &journal, admission) {
+            Ok(less) => less,
+            Err(_) => return Err(Exit::OutOfMemory),
+        };
+    }
+    Ok(journal)
+}
+
+fn run_audit<R: Files + AllocGlobal, O: Write + Drop>(
+    rt: &R,
+    config: Option<&str>,
+    journal: &str,
+    back: u64,
+    omitted: Omitted,
+    writer: O,
+) -> Result<(), Exit> {
+    let table = read_table(rt, config)?;
+    let journal = omit(rt.alloc(), read_in(rt, journal)?, &omitted)?;
+    let mut kept = match replay::<PlainBook>(rt.alloc(), &whole_of(&table), journal) {
+        Ok(kept) => kept,
+        Err(AuditFault::NotAllowed(n)) => return Err(Exit::NotAllowed(n as u64)),
+        Err(AuditFault::TooLong) => return Err(Exit::JournalTooLong),
+        Err(AuditFault::OutOfMemory) => return Err(Exit::OutOfMemory),
+    };
+    if rewind(&mut kept, back as usize).is_err() {
+        return Err(Exit::OutOfMemory);
+    }
+    let mut text = Vec::new(rt.alloc());
+    if book_text(&mut text, &kept).is_err() {
+        return Err(Exit::OutOfMemory);
+    }
+    let mut writer = CountedWriter::new(writer);
+    match writer.write(text.as_slice()) {
+        Ok(()) => Ok(()),
+        Err(StreamFault) => Err(Exit::DeviceFailed),
     }
 }

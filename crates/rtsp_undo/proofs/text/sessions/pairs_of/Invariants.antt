@@ -1,0 +1,13 @@
+use Rattle.std.proofs.Common.{◌≡◌, ◌+◌, ℕ, ◌^◌, ◌<◌, drop}
+use Rattle.std.specs.Prelude.{sum_by}
+use Rattle.std.specs.FinMap.{entries}
+use Rattle.rtsp_record.specs.declared.holdings.Admission.{Admission}
+use Rattle.rtsp_record.specs.Sums.{of_admission, of_session}
+use Rattle.rtsp_undo.specs.Pools.{pairs}
+use Rattle.rtsp_undo.proofs.text.sessions.pairs_of.Given as goal
+
+abbrev pub invariant-loop-index : goal.invariant-loop-index
+invariant-loop-index l = record {
+  counted : l.held + sum_by (λ (e : ℕ × Admission). of_admission pairs e.1) (drop l.index (entries l.admissions)) ≡ of_session pairs l.view.1;
+  small : of_session pairs l.view.1 < 2 ^ 16;
+}

@@ -1,0 +1,61 @@
+-- The text of a book: a line for each part of each living session, and then what is held and what is free.
+use Rattle.std.specs.Prelude.{ℕ, ◌-◌, List, [], ◌∷◌, ◌++◌, Option, Some, None, codes, decimal}
+use Rattle.std.specs.List.{flat_map}
+use Rattle.std.specs.FinMap.{entries}
+use Rattle.rtsp_record.specs.declared.holdings.Admission.{Admission}
+use Rattle.rtsp_record.specs.declared.holdings.Thing.{Thing}
+use Rattle.rtsp_record.specs.declared.holdings.Thing.TheVariants.{Rate}
+use Rattle.rtsp_record.specs.declared.holdings.Whole.{Whole}
+use Rattle.rtsp_record.specs.declared.streams.Stream.{Stream}
+use Rattle.rtsp_record.specs.Books.{Session, Book}
+use Rattle.rtsp_record.specs.Sums.{amount, held_rate}
+use Rattle.rtsp_record.specs.JournalText.{hex_digits, line_text, phase_text, stream_fields, thing_fields}
+use Rattle.rtsp_undo.specs.Pools.{pairs, free_pairs}
+
+-- the line of a thing that a session holds under an admission
+abbrev pub hold_line : ℕ → ℕ → Thing → List ℕ
+hold_line s a x = line_text (codes "hold" ∷ decimal s ∷ decimal a ∷ thing_fields x)
+
+-- the line of the rate, where there is one
+abbrev pub rate_lines : ℕ → ℕ → Option ℕ → List ℕ
+rate_lines s a None = []
+rate_lines s a (Some bits) = hold_line s a (Rate bits)
+
+-- the line of the pair of ports or of the channels, where there are such
+abbrev pub address_lines : ℕ → ℕ → Option Thing → List ℕ
+address_lines s a None = []
+address_lines s a (Some x) = hold_line s a x
+
+-- the line of the stream, where there is one
+abbrev pub stream_lines : ℕ → ℕ → Option Stream → List ℕ
+stream_lines s a None = []
+stream_lines s a (Some v) = line_text (codes "stream" ∷ decimal s ∷ decimal a ∷ stream_fields v)
+
+-- the lines of an admission of a session
+abbrev pub admission_text : ℕ → ℕ × Admission → List ℕ
+admission_text s e = rate_lines s e.0 e.1.rate ++ (address_lines s e.0 e.1.address ++ stream_lines s e.0 e.1.stream)
+
+-- the line of the binding, where there is one
+abbrev pub binding_lines : ℕ → Option (ℕ × ℕ) → List ℕ
+binding_lines s None = []
+binding_lines s (Some k) = line_text (codes "bind" ∷ decimal s ∷ decimal k.0 ∷ decimal k.1 ∷ [])
+
+-- the first line of a session: its number, id, connection, expiry and phase
+abbrev pub session_line : ℕ → Session → List ℕ
+session_line s f = line_text (codes "session" ∷ decimal s ∷ hex_digits 32 f.id ∷ decimal f.conn ∷ decimal f.expires ∷ phase_text f.phase ∷ [])
+
+-- the lines of a session: its own, those of its admissions in ascending order, and its binding's
+abbrev pub session_text : ℕ × Session → List ℕ
+session_text e = session_line e.0 e.1 ++ (flat_map (admission_text e.0) (entries e.1.admissions) ++ binding_lines e.0 e.1.binding)
+
+-- the line of the bits per second that are held and free
+abbrev pub rate_line : Whole → Book → List ℕ
+rate_line w b = line_text (codes "rate" ∷ decimal (held_rate b) ∷ decimal (w.uplink - held_rate b) ∷ [])
+
+-- the line of the pairs of ports that are held and free
+abbrev pub pairs_line : Whole → Book → List ℕ
+pairs_line w b = line_text (codes "pairs" ∷ decimal (amount pairs b) ∷ decimal (free_pairs w b) ∷ [])
+
+-- the lines of all living sessions in ascending order, and then those of what is held and free
+abbrev pub book_text : Whole → Book → List ℕ
+book_text w b = flat_map session_text (entries b) ++ (rate_line w b ++ pairs_line w b)

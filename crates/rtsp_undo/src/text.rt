@@ -1,0 +1,68 @@
+//! The text of a book.
+ghost use Rattle.std.specs.Prelude.{◌≡◌, ◌++◌, ◌≤◌, OnOk, OnErr};
+ghost use Rattle.std.specs.List.{AllByRecursion};
+ghost use Rattle.rtsp_record.specs.Records.{session_of};
+ghost use Rattle.rtsp_record.specs.Books.{book_of};
+ghost use Rattle.rtsp_record.specs.JournalWriting.{Appends};
+ghost use Rattle.rtsp_undo.specs.BookText.{book_text};
+
+mod lines;
+mod sessions;
+
+use crate::omissions::session_of;
+use rtsp_book::{BookRep, Kept};
+use rtsp_record::Entry;
+use rtsp_record::fields::{Field, write_line};
+use sessions::write_sessions;
+use std::alloc::AllocError;
+
+/// Writes the text of the book at the end: for each living session its lines, by ascending number, and then the bits
+/// per second and the pairs of ports that are held and that are free. A refused one leaves the bytes as they were.
+pub fn book_text<B: BookRep>(out: &mut Vec<u8>, kept: &Kept<B>) -> Result<(), AllocError>
+    ensures ok { OnOk result (out.new.items ≡ out.old.items ++ book_text kept.now.whole (book_of kept.now.journal)) }
+    ensures err { OnErr result (out.new.items ≡ out.old.items) }
+{
+    let len = out.len();
+    let written = write_book(out, kept);
+    if written.is_err() {
+        out.truncate(len);
+    }
+    written
+}
+
+// Each pair of the whole is held or free, so the free ones need no count of their own.
+fn write_book<B: BookRep>(out: &mut Vec<u8>, kept: &Kept<B>) -> Result<(), AllocError>
+    ensures { Appends result out.old.items out.new.items (book_text kept.now.whole (book_of kept.now.journal)) }
+{
+    let book = kept.book();
+    let whole = kept.whole();
+    let pairs = write_sessions(out, book, last_session(kept.journal()))?;
+    let rate = book.held_rate();
+    write_line(
+        out,
+        &[
+            Field::Word(b"rate"),
+            Field::Number(rate),
+            Field::Number(whole.uplink - rate),
+        ],
+    )?;
+    write_line(
+        out,
+        &[
+            Field::Word(b"pairs"),
+            Field::Number(u64::from(pairs)),
+            Field::Number(u64::from(whole.pairs - pairs)),
+        ],
+    )
+}
+
+// The greatest number of a session in the journal, or 0. No living session is above it.
+fn last_session(journal: &[Entry]) -> u64
+    ensures { AllByRecursion (λ e. session_of e.change ≤ result) journal.now }
+{
+    let mut last = 0;
+    for entry in journal {
+        last = last.max(session_of(&entry.change));
+    }
+    last
+}

@@ -1,0 +1,134 @@
+//! The lines of the sessions of a book. Each function appends; after a refusal a part may stand at the end.
+ghost use Rattle.std.specs.Prelude.{◌≡◌, ℕ, ◌≤◌, ◌<◌, ◌^◌, ◌++◌, length, take, None, IfOk, OnOk, OnErr, nat_le};
+ghost use Rattle.std.specs.List.{flat_map};
+ghost use Rattle.std.specs.FinMap.{get, entries};
+ghost use Rattle.rtsp_record.specs.Sums.{amount, of_admission, of_session};
+ghost use Rattle.rtsp_record.specs.JournalWriting.{Appends};
+ghost use Rattle.rtsp_book.specs.Lookups.{as_binding};
+ghost use Rattle.rtsp_book.specs.Sessions.{first_with};
+ghost use Rattle.rtsp_undo.specs.Pools.{pairs};
+ghost use Rattle.rtsp_undo.specs.BookText.{admission_text, binding_lines, session_line, session_text};
+
+use crate::text::lines::write_admission;
+use rtsp_book::{Admissions, BookRep, SessionView, Startup};
+use rtsp_record::fields::{Field, write_line};
+use rtsp_record::{Admission, Thing};
+use std::alloc::AllocError;
+
+fn write_admissions(
+    out: &mut Vec<u8>,
+    session: u64,
+    admissions: &Admissions,
+) -> Result<(), AllocError>
+    ensures { Appends result out.old.items out.new.items (flat_map (admission_text session) (entries admissions.now)) }
+{
+    for index in 0..admissions.len() {
+        write_admission(out, session, &admissions.at(index))?;
+    }
+    Ok(())
+}
+
+fn write_binding(
+    out: &mut Vec<u8>,
+    session: u64,
+    binding: Option<Startup>,
+) -> Result<(), AllocError>
+    ensures { Appends result out.old.items out.new.items (binding_lines session (as_binding binding)) }
+{
+    match binding {
+        Some(startup) => write_line(
+            out,
+            &[
+                Field::Word(b"bind"),
+                Field::Number(session),
+                Field::Number(startup.conn),
+                Field::Number(u64::from(startup.number)),
+            ],
+        ),
+        None => Ok(()),
+    }
+}
+
+fn write_own(out: &mut Vec<u8>, view: &SessionView) -> Result<(), AllocError>
+    ensures { Appends result out.old.items out.new.items (session_line view.now.0 view.now.1) }
+{
+    write_line(
+        out,
+        &[
+            Field::Word(b"session"),
+            Field::Number(view.session()),
+            Field::Id(view.id()),
+            Field::Number(view.conn()),
+            Field::Number(view.expires()),
+            Field::Phase(view.phase()),
+        ],
+    )
+}
+
+// The lines of a session.
+fn write_session(out: &mut Vec<u8>, view: &SessionView) -> Result<(), AllocError>
+    ensures { Appends result out.old.items out.new.items (session_text view.now) }
+{
+    write_own(out, view)?;
+    write_admissions(out, view.session(), view.admissions())?;
+    write_binding(out, view.session(), view.binding())
+}
+
+// A pair of ports under an admission.
+fn pairs_under(held: &Admission) -> u16
+    ensures value { result ≡ of_admission pairs held.now }
+    ensures small { result ≤ 1 }
+{
+    match held.address {
+        Some(Thing::Pair(_)) => 1,
+        _ => 0,
+    }
+}
+
+// The pairs of ports that a session holds.
+fn pairs_of(view: &SessionView) -> u16
+    requires { of_session pairs view.now.1 < 2 ^ 16 }
+    ensures { result ≡ of_session pairs view.now.1 }
+{
+    let admissions = view.admissions();
+    let mut held = 0;
+    for index in 0..admissions.len() {
+        held += pairs_under(&admissions.at(index).1);
+    }
+    held
+}
+
+// The first session not below a number.
+fn next_view<B: BookRep>(book: &B, from: u64) -> Option<SessionView>
+    ensures { result ≡ first_with (λ e. nat_le from e.0) (entries (B.contents book.now)) }
+{
+    match book.next_session(from) {
+        Some(session) => book.session(session),
+        None => None,
+    }
+}
+
+/// The lines of all sessions of a book, of which none is above `last`; and how many pairs of ports they hold.
+pub(super) fn write_sessions<B: BookRep>(
+    out: &mut Vec<u8>,
+    book: &B,
+    last: u64,
+) -> Result<u16, AllocError>
+    requires last { (session : ℕ) → last < session → get (B.contents book.now) session ≡ None }
+    requires few { amount pairs (B.contents book.now) < 2 ^ 16 }
+    ensures text { OnOk result (out.new.items ≡ out.old.items ++ flat_map session_text (entries (B.contents book.now))) }
+    ensures front { OnErr result (take (length out.old.items) out.new.items ≡ out.old.items) }
+    ensures held { IfOk result (λ held. held ≡ amount pairs (B.contents book.now)) }
+{
+    let mut from = 0;
+    let mut held = 0;
+    while let Some(view) = next_view(book, from) {
+        write_session(out, &view)?;
+        held += pairs_of(&view);
+        if last <= view.session() {
+            return Ok(held);
+        }
+        from = view.session() + 1;
+    }
+    Ok(held)
+}
