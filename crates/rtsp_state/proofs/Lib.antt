@@ -4,3 +4,6 @@ pub mod ListLemmas
 pub mod IdLemmas
 pub mod PickLemmas
 pub mod LineLemmas
+pub mod ParameterLemmas
+pub mod InfoLemmas
+pub mod LawLemmas

@@ -8,7 +8,7 @@ use Rattle.rtsp_book.specs.declared.steps.Step.{Step}
 use Rattle.rtsp_book.specs.declared.steps.Step.TheVariants as steps
 use Rattle.rtsp_state.specs.declared.method.Method.{Method}
 use Rattle.rtsp_state.specs.declared.method.Method.TheVariants as methods
-use Rattle.rtsp_state.specs.declared.status.Status.TheVariants.{BadRequest, SessionNotFound, NotImplemented}
+use Rattle.rtsp_state.specs.declared.status.Status.TheVariants.{BadRequest, SessionNotFound}
 use Rattle.rtsp_state.specs.declared.fault.Fault.{Fault}
 use Rattle.rtsp_state.specs.declared.fault.Fault.TheVariants.{Refused}
 use Rattle.rtsp_state.specs.declared.asked.Aim.{Aim}
@@ -26,7 +26,11 @@ use Rattle.rtsp_state.specs.Scene.{SceneValue, Living, expiry}
 use Rattle.rtsp_state.specs.Options.{options}
 use Rattle.rtsp_state.specs.Describe.{describe}
 use Rattle.rtsp_state.specs.Setup.{setup}
+use Rattle.rtsp_state.specs.Play.{play}
+use Rattle.rtsp_state.specs.Pause.{pause}
 use Rattle.rtsp_state.specs.Teardown.{teardown}
+use Rattle.rtsp_state.specs.GetParameter.{get_parameter}
+use Rattle.rtsp_state.specs.SetParameter.{set_parameter}
 
 -- 6. the session that is named by its id lives; an unbound startup number names none
 abbrev pub present : Method → Option Name → Option Living → Result (Unit {0}) Fault
@@ -47,10 +51,14 @@ row scene methods.Setup view name aim = setup scene view name aim
 row scene methods.Teardown view name aim = do
   living ← in_session view
   teardown scene living aim
-row scene methods.Play view name aim = Err (Refused NotImplemented)
-row scene methods.Pause view name aim = Err (Refused NotImplemented)
-row scene methods.GetParameter view name aim = Err (Refused NotImplemented)
-row scene methods.SetParameter view name aim = Err (Refused NotImplemented)
+row scene methods.Play view name aim = do
+  living ← in_session view
+  play scene living aim
+row scene methods.Pause view name aim = do
+  living ← in_session view
+  pause scene living aim
+row scene methods.GetParameter view name aim = get_parameter scene view aim
+row scene methods.SetParameter view name aim = set_parameter scene
 
 abbrev pub cell : SceneValue → Asked → Option Living → Result Plan Fault
 cell scene asked view = do

@@ -9,13 +9,14 @@ use Rattle.rtsp_state.specs.declared.plan.Plan.{Plan}
 use Rattle.rtsp_state.specs.declared.plan.Plan.TheVariants as plans
 use Rattle.rtsp_state.specs.Fault.{◌>>=◌, must}
 use Rattle.rtsp_content.specs.Sdp.{sdp_of}
+use Rattle.rtsp_state.specs.declared.words.Word.TheVariants as words
 use Rattle.rtsp_state.specs.Lines.{base_line, type_line, length_line}
 use Rattle.rtsp_state.specs.Scene.{SceneValue, known, plainly}
 
 abbrev pub describe_presentation : SceneValue → List ℕ → ℕ → Result Plan Fault
 describe_presentation scene base p = do
   presentation ← known (slice_get scene.table.presentations p)
-  Ok (plainly scene (base_line base ∷ type_line ∷ length_line (sdp_of presentation) ∷ []) (sdp_of presentation))
+  Ok (plainly scene (base_line base ∷ type_line words.Sdp ∷ length_line (sdp_of presentation) ∷ []) (sdp_of presentation))
 
 abbrev pub describe : SceneValue → Aim → Result Plan Fault
 describe scene (aims.Presentation base p) = describe_presentation scene base p

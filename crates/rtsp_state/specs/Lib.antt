@@ -4,6 +4,7 @@ pub mod Fault
 pub mod Writing
 pub mod Words
 pub mod Lines
+pub mod Info
 pub mod Response
 pub mod Values
 pub mod Asked
@@ -12,6 +13,11 @@ pub mod Scene
 pub mod Options
 pub mod Describe
 pub mod Setup
+pub mod Play
+pub mod Pause
 pub mod Teardown
+pub mod GetParameter
+pub mod SetParameter
 pub mod Decide
 pub mod Answer
+pub mod Laws

@@ -10,6 +10,7 @@ use Rattle.rtsp_record.specs.declared.holdings.Thing.TheVariants.{Pair, Chan, Ra
 use Rattle.rtsp_record.specs.declared.streams.Stream.{Stream}
 use Rattle.rtsp_state.specs.Words.{name_of_field, text_of}
 use Rattle.rtsp_state.specs.declared.words.Field.TheVariants as fields
+use Rattle.rtsp_state.specs.declared.words.Word.{Word}
 use Rattle.rtsp_state.specs.declared.words.Word.TheVariants as words
 use Rattle.rtsp_state.specs.declared.lines.Lines.{Lines}
 use Rattle.rtsp_state.specs.declared.lines.Front.{Front}
@@ -54,6 +55,10 @@ media_range_line timing = record { name = name_of_field fields.MediaRange; value
 abbrev pub range_line : ℕ → ℕ → ℕ → HeaderText
 range_line from stop unit_ms = record { name = name_of_field fields.Range; value = range_text from stop unit_ms }
 
+-- a play starts at a point where the media may be entered
+abbrev pub seek_line : HeaderText
+seek_line = record { name = name_of_field fields.SeekStyle; value = text_of words.Rap }
+
 -- two ports of one side
 unfoldable pub ports_text : ℕ → ℕ → List ℕ
 ports_text rtp rtcp = decimal rtp ++ text_of words.PortJoint ++ decimal rtcp
@@ -87,8 +92,8 @@ transport_line address stream = record { name = name_of_field fields.Transport; 
 abbrev pub base_line : List ℕ → HeaderText
 base_line base = record { name = name_of_field fields.ContentBase; value = base }
 
-abbrev pub type_line : HeaderText
-type_line = record { name = name_of_field fields.ContentType; value = text_of words.Sdp }
+abbrev pub type_line : Word → HeaderText
+type_line media = record { name = name_of_field fields.ContentType; value = text_of media }
 
 abbrev pub length_line : List ℕ → HeaderText
 length_line body = record { name = name_of_field fields.ContentLength; value = decimal (length body) }

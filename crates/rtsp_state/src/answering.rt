@@ -2,26 +2,111 @@
 
 ghost use Rattle.std.specs.Prelude.{◌≡◌, ◌≤◌, ◌++◌, ◌∷◌, [], OnOk, IfOk, IsOk, vec_capacity};
 ghost use Rattle.rtsp_state.specs.Lines.{Puts, PutsAll, FitsAll, Fits};
-ghost use Rattle.rtsp_state.specs.Answer.{done, id_shown, admitted, granted_lines, media_lines, admitted_lines, answer};
+ghost use Rattle.rtsp_state.specs.Answer.{moved, paused_at, played_in, played_lines, shown_lines, done, id_shown, admitted, granted_lines, media_lines, admitted_lines, answer};
 
 use crate::fault::Fault;
+use crate::info::put_info;
 use crate::lines::{
     Lines, Timing, no_lines, put_accept_ranges, put_cseq, put_front, put_media_range, put_opened,
-    put_properties, put_transport,
+    put_properties, put_range, put_seek, put_transport,
 };
-use crate::plan::{Admission, Outcome, Plan, Stepping};
+use crate::plan::{Admission, Outcome, Part, Plan, Shows, Stepping};
 use crate::response::{finish, refused, turned_down};
 use crate::status::Status;
 use rtsp_book::{Admitted, Opening, Receipt};
 use rtsp_grammar::{Response, Text};
+use rtsp_record::{Phase, Record};
 use std::alloc::{AllocError, Global};
 
+/// The phase that a step moved to.
+fn moved(receipt: &Receipt) -> Option<Phase>
+    ensures { result ≡ moved receipt.now }
+{
+    match receipt.records().first() {
+        Some(Record::Move { new, .. }) => Some(*new),
+        _ => None,
+    }
+}
+
+fn paused_at(at: u32, phase: Option<Phase>) -> u32
+    ensures { result ≡ paused_at at phase }
+{
+    match phase {
+        Some(Phase::Ready { at, .. }) => at,
+        _ => at,
+    }
+}
+
+/// What is played, and how many units were sent in earlier plays.
+#[derive(Clone, Copy)]
+struct Play {
+    from: u32,
+    stop: u32,
+    sent: u32,
+}
+
+fn played_in(phase: Option<Phase>) -> Play
+    ensures { record { from = result.from; stop = result.stop; sent = result.sent } ≡ played_in phase }
+{
+    match phase {
+        Some(
+            Phase::Playing {
+                from,
+                stop,
+                sent,
+                ..
+            },
+        ) => Play { from, stop, sent },
+        _ => Play {
+            from: 0,
+            stop: 0,
+            sent: 0,
+        },
+    }
+}
+
+fn put_played(
+    lines: &mut Lines,
+    timing: Timing,
+    parts: &[Part],
+    play: Play,
+) -> Result<(), AllocError>
+    ensures ok { OnOk result (PutsAll lines.old lines.new (played_lines timing parts.now (record { from = play.from; stop = play.stop; sent = play.sent }))) }
+    ensures succeeds { FitsAll lines.old (played_lines timing parts.now (record { from = play.from; stop = play.stop; sent = play.sent })) → IsOk result }
+{
+    put_range(lines, play.from, play.stop, timing.unit_ms)?;
+    put_seek(lines)?;
+    put_info(lines, parts, play.sent)
+}
+
+fn put_shown(lines: &mut Lines, shows: &Shows, phase: Option<Phase>) -> Result<(), AllocError>
+    ensures ok { OnOk result (PutsAll lines.old lines.new (shown_lines shows.now phase)) }
+    ensures succeeds { FitsAll lines.old (shown_lines shows.now phase) → IsOk result }
+{
+    match shows {
+        Shows::Nothing => Ok(()),
+        Shows::Paused { timing, at } => put_range(
+            lines,
+            paused_at(*at, phase),
+            timing.units,
+            timing.unit_ms,
+        ),
+        Shows::Played { timing, parts } => put_played(
+            lines,
+            *timing,
+            parts.as_slice(),
+            played_in(phase),
+        ),
+    }
+}
+
 /// The response to a step that was made.
-fn done(alloc: Global, stepping: &Stepping, _receipt: &Receipt) -> Result<Response, AllocError>
-    ensures { IfOk result (λ r. r ≡ done stepping.now _receipt.now) }
+fn done(alloc: Global, stepping: &Stepping, receipt: &Receipt) -> Result<Response, AllocError>
+    ensures { IfOk result (λ r. r ≡ done stepping.now receipt.now) }
 {
     let mut lines = no_lines(alloc);
     put_front(&mut lines, stepping.done)?;
+    put_shown(&mut lines, &stepping.shows, moved(receipt))?;
     Ok(finish(Status::Success, lines, Text::fixed(b"")))
 }
 

@@ -8,12 +8,16 @@ ghost use Rattle.rtsp_state.specs.Decide.{present, row, cell, shown_id, decide, 
 use crate::asked::{Asked, Name, asked_of, cseq_of};
 use crate::describe::describe;
 use crate::fault::{Fault, must};
+use crate::get_parameter::get_parameter;
 use crate::lines::{Front, no_lines};
 use crate::method::{Method, method_of, needs_session};
 use crate::options::options;
+use crate::pause::pause;
 use crate::plan::{Plan, Scene};
+use crate::play::play;
 use crate::response::{finish, refused, turned_down};
 use crate::scene::expiry;
+use crate::set_parameter::set_parameter;
 use crate::setup::setup;
 use crate::status::Status;
 use crate::teardown::teardown;
@@ -51,9 +55,16 @@ fn row(
             Some(view) => teardown(alloc, scene, view, aim),
             None => Err(Fault::Refused(Status::SessionNotFound)),
         },
-        Method::Play | Method::Pause | Method::GetParameter | Method::SetParameter => Err(
-            Fault::Refused(Status::NotImplemented),
-        ),
+        Method::Play => match view {
+            Some(view) => play(alloc, scene, view, aim),
+            None => Err(Fault::Refused(Status::SessionNotFound)),
+        },
+        Method::Pause => match view {
+            Some(view) => pause(alloc, scene, view, aim),
+            None => Err(Fault::Refused(Status::SessionNotFound)),
+        },
+        Method::GetParameter => get_parameter(alloc, scene, view, aim),
+        Method::SetParameter => set_parameter(alloc, scene),
     }
 }
 

@@ -11,6 +11,7 @@ use crate::lines::{no_lines, put_base, put_front, put_length, put_type};
 use crate::plan::{Plan, Scene};
 use crate::response::finish;
 use crate::status::Status;
+use crate::words::Word;
 use rtsp_content::write_sdp;
 use rtsp_grammar::Text;
 use std::alloc::Global;
@@ -31,7 +32,7 @@ fn describe_presentation(
     let mut lines = no_lines(alloc);
     put_front(&mut lines, scene.front)?;
     put_base(&mut lines, base)?;
-    put_type(&mut lines)?;
+    put_type(&mut lines, Word::Sdp)?;
     put_length(&mut lines, &body)?;
     Ok(Plan::Answer(finish(Status::Success, lines, Text::from_vec(body))))
 }

@@ -5,7 +5,7 @@ ghost use Rattle.rtsp_grammar.specs.Draft.{Takes, HasRoom};
 ghost use Rattle.rtsp_transport.specs.Hex.{hex_text};
 ghost use Rattle.rtsp_npt.specs.Printed.{time_text, range_text};
 ghost use Rattle.rtsp_state.specs.Writing.{Appends};
-ghost use Rattle.rtsp_state.specs.Lines.{accept_ranges_line, public_line, PutsAll, FitsAll, base_line, type_line, length_line, Puts, Fits, cseq_line, session_line, opened_line, properties_line, media_range_line, range_line, ports_text, transport_text, over_channels, over_ports, channels_text, source_text, transport_line, session_lines, front_lines};
+ghost use Rattle.rtsp_state.specs.Lines.{accept_ranges_line, public_line, PutsAll, FitsAll, base_line, type_line, length_line, Puts, Fits, cseq_line, session_line, opened_line, properties_line, media_range_line, range_line, seek_line, ports_text, transport_text, over_channels, over_ports, channels_text, source_text, transport_line, session_lines, front_lines};
 ghost use Rattle.rtsp_state.specs.Words.{name_of_field, text_of};
 ghost use Rattle.rtsp_state.specs.declared.words.Word.TheVariants as words;
 
@@ -225,6 +225,15 @@ pub fn put_range(lines: &mut Lines, from: u32, stop: u32, unit_ms: u32) -> Resul
     lines.draft.push(name_of_field(Field::Range), &lines.value)
 }
 
+pub fn put_seek(lines: &mut Lines) -> Result<(), AllocError>
+    ensures ok { OnOk result (Puts lines.old lines.new seek_line) }
+    ensures succeeds { Fits lines.old seek_line → IsOk result }
+{
+    lines
+        .draft
+        .push(name_of_field(Field::SeekStyle), text_of(Word::Rap))
+}
+
 pub fn put_base(lines: &mut Lines, base: &[u8]) -> Result<(), AllocError>
     ensures ok { OnOk result (Puts lines.old lines.new (base_line base.now)) }
     ensures succeeds { Fits lines.old (base_line base.now) → IsOk result }
@@ -232,13 +241,13 @@ pub fn put_base(lines: &mut Lines, base: &[u8]) -> Result<(), AllocError>
     lines.draft.push(name_of_field(Field::ContentBase), base)
 }
 
-pub fn put_type(lines: &mut Lines) -> Result<(), AllocError>
-    ensures ok { OnOk result (Puts lines.old lines.new type_line) }
-    ensures succeeds { Fits lines.old type_line → IsOk result }
+pub fn put_type(lines: &mut Lines, media: Word) -> Result<(), AllocError>
+    ensures ok { OnOk result (Puts lines.old lines.new (type_line media)) }
+    ensures succeeds { Fits lines.old (type_line media) → IsOk result }
 {
     lines
         .draft
-        .push(name_of_field(Field::ContentType), text_of(Word::Sdp))
+        .push(name_of_field(Field::ContentType), text_of(media))
 }
 
 pub fn put_length(lines: &mut Lines, body: &[u8]) -> Result<(), AllocError>

@@ -64,13 +64,16 @@ pub enum Word {
     Source,
     Rap,
     Sdp,
+    Parameters,
     UrlIs,
     SsrcIs,
     SeqIs,
     RtptimeIs,
     Comma,
     Slash,
-    CommaSpace,
+    PositionIs,
+    DurationIs,
+    LineEnd,
 }
 
 #[tactic(auto, unfolding(crate::specs::Words::text_of))]
@@ -94,12 +97,15 @@ pub fn text_of(of: Word) -> &'static [u8]
         Word::Source => b";ssrc=",
         Word::Rap => b"RAP",
         Word::Sdp => b"application/sdp",
+        Word::Parameters => b"text/parameters",
         Word::UrlIs => b"url=\"",
         Word::SsrcIs => b"\" ssrc=",
         Word::SeqIs => b":seq=",
         Word::RtptimeIs => b";rtptime=",
         Word::Comma => b",",
         Word::Slash => b"/",
-        Word::CommaSpace => b", ",
+        Word::PositionIs => b"position: ",
+        Word::DurationIs => b"duration: ",
+        Word::LineEnd => b"\r\n",
     }
 }

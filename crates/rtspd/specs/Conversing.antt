@@ -1,5 +1,5 @@
 -- How one item is answered, from the book and the words given out before it.
-use Rattle.std.specs.Prelude.{◌≡◌, ◌==◌, ◌⊎◌, ℕ, ◌+◌, ◌-◌, ◌^◌, ◌%◌, Bool, true, false, ◌&&◌, nat_le, if◌then◌else◌, List, [], ◌∷◌, is_some, option_and_then, Option, Some, None, Result, Ok, Err}
+use Rattle.std.specs.Prelude.{◌≡◌, ◌==◌, ◌⊎◌, ℕ, ◌+◌, ◌-◌, ◌^◌, ◌%◌, Bool, true, false, ◌&&◌, nat_le, nat_lt, if◌then◌else◌, List, [], ◌∷◌, is_some, option_and_then, Option, Some, None, Result, Ok, Err}
 use Rattle.std.specs.FinMap.{entries}
 use Rattle.rtsp_grammar.specs.declared.message.Item.{Item}
 use Rattle.rtsp_grammar.specs.declared.message.Item.TheVariants as items
@@ -127,10 +127,16 @@ abbrev pub ask_outcome : Result Admitted Refusal → Outcome
 ask_outcome (Ok made) = outcomes.Admitted made
 ask_outcome (Err r) = outcomes.Refused r
 
--- the steps that a plan has by now
+-- milliseconds that a unit may last
+abbrev pub is_unit : ℕ → Bool
+is_unit unit_ms = nat_lt 0 unit_ms && nat_le unit_ms 1000
+
+-- the steps of plans, within the bounds of the content
 abbrev pub is_conducted : Step → Bool
 is_conducted (step.End s) = true
 is_conducted (step.DropTrack s t) = true
+is_conducted (step.Play s from stop unit_ms now) = is_unit unit_ms && nat_le stop 10000000
+is_conducted (step.Pause s unit_ms now) = is_unit unit_ms
 is_conducted other = false
 
 -- a step is acted by the first actor, and its outcome is answered

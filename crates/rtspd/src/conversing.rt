@@ -5,7 +5,7 @@ ghost use Rattle.rtsp_record.specs.Books.{book_of};
 ghost use Rattle.rtsp_book.specs.Replies.{IsAskable, IsWish};
 ghost use Rattle.rtsp_state.specs.declared.plan.Plan.TheVariants as plans;
 ghost use Rattle.rtspd.specs.Admitting.{WishesWell};
-ghost use Rattle.rtspd.specs.Conversing.{standing, Renews, Conducts, ConductsStep, ConductsWith, ConductsWanted, Responds, RespondsNamed, named, living_at, numbers_of, filled, wish_on, wanted_on, opening_on, startup_on, is_conducted, step_outcome, ask_outcome, renewal_named};
+ghost use Rattle.rtspd.specs.Conversing.{standing, Renews, Conducts, ConductsStep, ConductsWith, ConductsWanted, Responds, RespondsNamed, named, living_at, numbers_of, filled, wish_on, wanted_on, opening_on, startup_on, is_unit, is_conducted, step_outcome, ask_outcome, renewal_named};
 
 use crate::admitting::{act, admit};
 use crate::words_given::{Words, words_after};
@@ -68,13 +68,22 @@ fn renew<B: BookRep>(kept: &mut Kept<B>, step: Option<Step>) -> Result<(), Refus
     }
 }
 
-// The steps that a plan has by now.
+// Milliseconds that a unit may last.
+fn is_unit(unit_ms: u32) -> bool
+    ensures { result ≡ is_unit unit_ms }
+{
+    0 < unit_ms && unit_ms <= 1000
+}
+
+// The steps of plans, within the bounds of the content.
 fn is_conducted(step: &Step) -> bool
     ensures value { result ≡ is_conducted step.now }
     ensures askable { IsTrue result → IsAskable step.now }
 {
-    match step {
+    match *step {
         Step::End { .. } | Step::DropTrack { .. } => true,
+        Step::Play { stop, unit_ms, .. } => is_unit(unit_ms) && stop <= 10_000_000,
+        Step::Pause { unit_ms, .. } => is_unit(unit_ms),
         _ => false,
     }
 }

@@ -29,4 +29,6 @@ pub use words::{CommandLine, read_words};
 pub use words_given::{Words, words_after};
 
 #[cfg(test)]
+mod tests;
+#[cfg(test)]
 mod words_tests;

@@ -68,7 +68,10 @@ struct Omitted {
 }
 
 // The configuration of a file, or the example where none is named.
-fn read_table<R: Files + AllocGlobal>(rt: &R, config: Option<&str>) -> Result<Table, Exit> {
+pub(crate) fn read_table<R: Files + AllocGlobal>(
+    rt: &R,
+    config: Option<&str>,
+) -> Result<Table, Exit> {
     let read = match config {
         Some(path) => match fs::read(rt, path) {
             Ok(text) => Table::read(rt.alloc(), &text),
@@ -98,7 +101,7 @@ fn whole_of(table: &Table) -> Whole
 }
 
 // A desk at which nothing was asked yet. Its connection has the first number.
-fn open_desk(alloc: Global, table: Table) -> Result<Desk<PlainBook>, Exit> {
+pub(crate) fn open_desk(alloc: Global, table: Table) -> Result<Desk<PlainBook>, Exit> {
     let whole = whole_of(&table);
     let Ok(mut kept) = Kept::open(alloc, &whole) else {
         return Err(Exit::OutOfMemory);

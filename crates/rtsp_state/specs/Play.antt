@@ -1,0 +1,95 @@
+-- PLAY (RFC 7826 section 13.4): a track; a presentation.
+use Rattle.std.specs.Prelude.{◌≡◌, ℕ, ◌+◌, ◌==◌, ◌||◌, Bool, not, nat_le, List, [], ◌∷◌, ◌++◌, length, codes, slice_get, Option, Some, None, Result, Ok, Err, if◌then◌else◌}
+use Rattle.rtsp_state.specs.declared.status.Status.TheVariants.{BadRequest, SessionNotFound, MethodNotValid, HeaderNotValid, InvalidRange, OnlyAggregateAllowed}
+use Rattle.rtsp_state.specs.declared.fault.Fault.{Fault}
+use Rattle.rtsp_state.specs.declared.fault.Fault.TheVariants.{Refused}
+use Rattle.rtsp_state.specs.declared.asked.Aim.{Aim}
+use Rattle.rtsp_state.specs.declared.asked.Aim.TheVariants as aims
+use Rattle.rtsp_state.specs.declared.plan.Plan.{Plan}
+use Rattle.rtsp_state.specs.declared.plan.Plan.TheVariants as plans
+use Rattle.rtsp_state.specs.Fault.{◌>>=◌, must}
+use Rattle.rtsp_record.specs.Moments.{point}
+use Rattle.rtsp_record.specs.declared.streams.Stream.{Stream}
+use Rattle.rtsp_npt.specs.Reading.{range_of}
+use Rattle.rtsp_npt.specs.Units.{units_of}
+use Rattle.rtsp_npt.specs.declared.range.Range.{Range}
+use Rattle.rtsp_npt.specs.declared.range.Range.TheVariants as ranges
+use Rattle.rtsp_npt.specs.declared.fault.RangeFault.{RangeFault}
+use Rattle.rtsp_npt.specs.declared.fault.RangeFault.TheVariants as faults
+use Rattle.rtsp_npt.specs.declared.fault.OutOfMedia.{OutOfMedia}
+use Rattle.rtsp_content.specs.PresentationValue.{PresentationValue}
+use Rattle.rtsp_content.specs.TrackValue.{TrackValue}
+use Rattle.rtsp_book.specs.declared.steps.Step.TheVariants as steps
+use Rattle.rtsp_state.specs.declared.play.Reach.{Reach}
+use Rattle.rtsp_state.specs.declared.plan.Part.{Part}
+use Rattle.rtsp_state.specs.declared.plan.Shows.TheVariants as shows
+use Rattle.rtsp_state.specs.Values.{one}
+use Rattle.rtsp_state.specs.Scene.{SceneValue, Living, streams_of, is_other, timing_of, known}
+
+-- no Range header is the rest of the media; another unit than npt, a malformed text and `now` are refused
+abbrev pub fault_of : RangeFault → Fault
+fault_of faults.NotNpt = Refused HeaderNotValid
+fault_of faults.BadNpt = Refused BadRequest
+fault_of faults.Now = Refused InvalidRange
+
+abbrev pub range_read : Result Range RangeFault → Result Range Fault
+range_read (Ok range) = Ok range
+range_read (Err fault) = Err (fault_of fault)
+
+abbrev pub range_in : Option (List ℕ) → Result Range Fault
+range_in None = Ok ranges.Rest
+range_in (Some value) = range_read (range_of value)
+
+-- a start that is written; else the step starts at the point
+abbrev pub from_of : Range → ℕ → Option ℕ
+from_of ranges.Rest from = None
+from_of (ranges.From start) from = Some from
+from_of (ranges.Until stop) from = None
+from_of (ranges.Between start stop) from = Some from
+
+-- the units that are asked for lie in the media
+abbrev pub reach_of : Range → Result (ℕ × ℕ) OutOfMedia → Result Reach Fault
+reach_of range (Ok units) = Ok (record { from = from_of range units.0; stop = units.1 })
+reach_of range (Err outside) = Err (Refused InvalidRange)
+
+abbrev pub reach_asked : SceneValue → Living → PresentationValue → Result Reach Fault
+reach_asked scene view p = do
+  value ← one (codes "Range") scene.headers
+  range ← range_in value
+  reach_of range (units_of range (point view.1.phase p.unit_ms scene.moment) p.unit_ms p.units)
+
+-- the stream of a track
+abbrev pub stream_of : ℕ → List Stream → Option Stream
+stream_of t [] = None
+stream_of t (s ∷ ss) = if s.track == t then Some s else stream_of t ss
+
+abbrev pub part_of : List ℕ → TrackValue → Stream → Part
+part_of base t s = record { url = base ++ t.name; ssrc = s.ssrc; seq = s.seq; rtptime = s.rtptime; ticks = t.ticks }
+
+abbrev pub parts_at : List ℕ → TrackValue → Option Stream → List Part
+parts_at base t None = []
+parts_at base t (Some s) = part_of base t s ∷ []
+
+-- one part a stream, in the order of the tracks, which are counted from i
+abbrev pub parts_from : List ℕ → List Stream → ℕ → List TrackValue → List Part
+parts_from base streams i [] = []
+parts_from base streams i (t ∷ ts) = parts_at base t (stream_of i streams) ++ parts_from base streams (i + 1) ts
+
+abbrev pub play_presentation : SceneValue → Living → List ℕ → ℕ → Result Plan Fault
+play_presentation scene view base p = do
+  same ← must (not (is_other p (streams_of view.1))) SessionNotFound
+  some ← must (not (length (streams_of view.1) == 0)) MethodNotValid
+  presentation ← known (slice_get scene.table.presentations p)
+  reach ← reach_asked scene view presentation
+  Ok (plans.Step (record {
+    front = scene.front;
+    done = scene.front;
+    step = steps.Play view.0 reach.from reach.stop presentation.unit_ms scene.moment;
+    shows = shows.Played (timing_of presentation) (parts_from base (streams_of view.1) 0 presentation.tracks);
+  }))
+
+abbrev pub play : SceneValue → Living → Aim → Result Plan Fault
+play scene view (aims.Track base p t) = Err (Refused OnlyAggregateAllowed)
+play scene view (aims.Presentation base p) = play_presentation scene view base p
+play scene view aims.Server = Err (Refused BadRequest)
+play scene view aims.Star = Err (Refused BadRequest)
