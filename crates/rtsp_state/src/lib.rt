@@ -39,6 +39,3 @@ pub use plan::{Admission, Outcome, Part, Parts, Plan, Screen, Shows, Stepping};
 pub use response::{refused, turned_down};
 pub use screening::screen;
 pub use status::Status;
-
-#[cfg(test)]
-mod tests;
