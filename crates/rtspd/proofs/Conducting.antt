@@ -19,14 +19,19 @@ use Rattle.rtsp_state.specs.declared.asked.Name.{Name}
 use Rattle.rtsp_state.specs.declared.plan.Admission.{Admission}
 use Rattle.rtsp_state.specs.declared.plan.Plan.{Plan}
 use Rattle.rtsp_state.specs.Decide.{decide, renewal_refused}
+use Rattle.rtsp_state.specs.Screen.{screen}
 use Rattle.rtspd.specs.declared.conversing.Asker.{Asker}
 use Rattle.rtspd.specs.declared.words_given.Words.{Words}
 use Rattle.rtspd.specs.Admitting.{Acts, Admits}
-use Rattle.rtspd.specs.Conversing.{Standing, standing, is_conducted, ConductsStep, ConductsWith, ConductsWanted, ConductsAsk, Conducts, RespondsNamed, Renews, numbers_of, filled, words_after, named, Responds, Answers}
+use Rattle.rtspd.specs.Conversing.{Standing, standing, is_conducted, ConductsStep, ConductsWith, ConductsWanted, ConductsAsk, Conducts, RespondsNamed, Renews, numbers_of, filled, words_after, named, Responds, Answers, GivesUpScreened, GivesUp}
 
 pub on_err : {A E : Type 0} {P : Type 0} (r : Result A E) → P → OnErr r P
 on_err (Ok x) p = tt
 on_err (Err e) p = p
+
+pub map_err : {A E : Type 0} {P Q : Type 0} (r : Result A E) → (P → Q) → OnErr r P → OnErr r Q
+map_err (Ok x) f h = tt
+map_err (Err e) f h = f h
 
 pub if_ok : {A E : Type 0} {P Q : A → Type 0} (r : Result A E) → ((x : A) → P x → Q x) → IfOk r P → IfOk r Q
 if_ok (Ok x) f h = f x h
@@ -60,16 +65,17 @@ words_lost conn a x c wish s is spent =
 module _ (t : TableValue) (asker : Asker) (name : Option Name) (request : Request) (renews : Option Step) (old new : Standing) where
   pub refused_renewal : (refusal : Refusal) (r : Response) (view : Option (ℕ × Session)) → Renews renews old.history (Some refusal) new.history → new.words ≡ old.words → view ≡ named (book_of old.history.journal) asker.conn name → r ≡ renewal_refused request view refusal
       → RespondsNamed t asker name request renews old r new
-  refused_renewal refusal r view refused same is e = inr (inl (refusal, refused, same, e ∙ ap (λ v. renewal_refused request v refusal) is))
+  refused_renewal refusal r view refused same is e = inr (refusal, refused, same, e ∙ ap (λ v. renewal_refused request v refusal) is)
 
   pub conducted : (mid : History) (plan : Plan) (r : Response) (view : Option (ℕ × Session)) → Renews renews old.history None mid → view ≡ named (book_of mid.journal) asker.conn name → plan ≡ decide t request view asker.peer asker.moment
       → Conducts asker.conn plan (standing mid old.words) r new → RespondsNamed t asker name request renews old r new
   conducted mid plan r view renewed is e h =
       inl (mid, renewed, subst (λ p. Conducts asker.conn p (standing mid old.words) r new) (e ∙ ap (λ v. decide t request v asker.peer asker.moment) is) h)
 
-  pub ran_out : Renews renews old.history None new.history → new.words ≡ old.words → (r : Response) × RespondsNamed t asker name request renews old r new
-  ran_out renewed same = (_, inr (inr (renewed, same, refl)))
-
 -- a response that is written, or lost
 pub answered_by : (t : TableValue) (asker : Asker) (old new : Standing) (item : Item) (request : Request) (r : Response) → item ≡ items.Request request → Responds t asker old request r new → Answers t asker old item (response_text r) new
 answered_by t asker old new item request r is h = subst (λ i. Answers t asker old i (response_text r) new) (sym is) (r, h, refl)
+
+-- a request over which memory ran out
+pub given_up : (t : TableValue) (asker : Asker) (old new : Standing) (item : Item) (request : Request) → item ≡ items.Request request → GivesUpScreened (screen t request) t asker request old new → GivesUp t asker old item new
+given_up t asker old new item request is h = subst (λ i. GivesUp t asker old i new) (sym is) h

@@ -32,10 +32,10 @@ use Rattle.rtsp_state.specs.declared.plan.Plan.{Plan}
 use Rattle.rtsp_state.specs.declared.plan.Plan.TheVariants as plans
 use Rattle.rtsp_state.specs.declared.plan.Screen.{Screen}
 use Rattle.rtsp_state.specs.declared.plan.Screen.TheVariants.{Answered, Asks}
-use Rattle.rtsp_state.specs.declared.status.Status.TheVariants.{UnsupportedTransport, ServerError}
+use Rattle.rtsp_state.specs.declared.status.Status.TheVariants.{UnsupportedTransport}
 use Rattle.rtsp_state.specs.Answer.{answer}
 use Rattle.rtsp_state.specs.Decide.{decide, renewal, renewal_refused}
-use Rattle.rtsp_state.specs.Response.{refused, response}
+use Rattle.rtsp_state.specs.Response.{refused}
 use Rattle.rtsp_state.specs.Screen.{screen}
 use Rattle.rtspd.specs.Admitting.{Acts, Admits}
 use Rattle.rtspd.specs.declared.conversing.Asker.{Asker}
@@ -169,10 +169,6 @@ Conducts conn (plans.Admit a) old response new = ConductsWanted conn a a.ask.wan
 
 -- How a request is answered.
 
--- 500, without a CSeq
-abbrev pub out_of_memory : Response
-out_of_memory = response ServerError [] []
-
 -- the renewal is made, or refused; nothing is done where there is none
 abbrev pub Renews : Option Step → History → Option Refusal → History → Type 0
 Renews (Some (step.Touch s until)) old None new = (rs : List Record) × Acts 0 old (step.Touch s until) (Ok rs) new
@@ -180,14 +176,13 @@ Renews (Some (step.Touch s until)) old (Some r) new = Acts 0 old (step.Touch s u
 Renews other old None new = new ≡ old
 Renews other old (Some r) new = ⊥
 
--- the session is renewed, and the request conducted with the session as it then is; a refused renewal ends it, and want of memory after the renewal is answered 500
+-- the session is renewed, and the request conducted with the session as it then is; a refused renewal ends it
 abbrev pub RespondsNamed : TableValue → Asker → Option Name → Request → Option Step → Standing → Response → Standing → Type 0
 RespondsNamed t asker name request renews old response new =
     ((mid : History) × Renews renews old.history None mid
     × Conducts asker.conn (decide t request (named (book_of mid.journal) asker.conn name) asker.peer asker.moment) (record { history = mid; words = old.words }) response new)
-    ⊎ (((refusal : Refusal) × Renews renews old.history (Some refusal) new.history × (new.words ≡ old.words)
+    ⊎ ((refusal : Refusal) × Renews renews old.history (Some refusal) new.history × (new.words ≡ old.words)
     × (response ≡ renewal_refused request (named (book_of old.history.journal) asker.conn name) refusal))
-    ⊎ (Renews renews old.history None new.history × (new.words ≡ old.words) × (response ≡ out_of_memory)))
 
 -- the renewal of the session that is named
 abbrev pub renewal_named : TableValue → Request → ℕ → Option (ℕ × Session) → Option Step
@@ -201,6 +196,19 @@ RespondsScreened (Asks name) t asker request old response new =
 -- a request is answered by one response
 abbrev pub Responds : TableValue → Asker → Standing → Request → Response → Standing → Type 0
 Responds t asker old request response new = RespondsScreened (screen t request) t asker request old response new
+
+-- where memory ran out before a request had a response: the session that it names was renewed, and nothing else was done
+abbrev pub OnlyRenews : Option Step → Standing → Standing → Type 0
+OnlyRenews renews old new = Renews renews old.history None new.history × (new.words ≡ old.words)
+
+abbrev pub GivesUpScreened : Screen → TableValue → Asker → Request → Standing → Standing → Type 0
+GivesUpScreened (Answered given) t asker request old new = new ≡ old
+GivesUpScreened (Asks name) t asker request old new = OnlyRenews (renewal_named t request asker.moment (named (book_of old.history.journal) asker.conn name)) old new
+
+abbrev pub GivesUp : TableValue → Asker → Standing → Item → Standing → Type 0
+GivesUp t asker old (items.Request request) new = GivesUpScreened (screen t request) t asker request old new
+GivesUp t asker old (items.Response response) new = new ≡ old
+GivesUp t asker old (items.Frame frame) new = new ≡ old
 
 -- an item is answered: a request by its response's text, a response and a frame by nothing
 abbrev pub Answers : TableValue → Asker → Standing → Item → List ℕ → Standing → Type 0

@@ -1,5 +1,6 @@
 -- What a connection has written, from what it has read. `R old item answer new` says how one item is answered: with which
--- bytes, and what then stands in the place of what stood before.
+-- bytes, and what then stands in the place of what stood before. `L old item new` says what may stand where memory ran out
+-- before the item had an answer.
 use Rattle.std.specs.Prelude.{◌≡◌, ◌⊎◌, ◌<◌, ℕ, List, [], ◌∷◌, ◌++◌, take, Option, Ok}
 use Rattle.std.specs.Io.KnownBytes.{Appends, Consumes}
 use Rattle.rtsp_grammar.specs.Answer.{Decides, IsUndecided, HasFault}
@@ -16,7 +17,7 @@ use Rattle.rtspd.specs.declared.serving.Next.TheVariants as nexts
 use Rattle.rtspd.specs.declared.serving.Stop.{Stop}
 use Rattle.rtspd.specs.declared.serving.Stop.TheVariants as stops
 
-module _ {S : Type 0} (R : S → Item → List ℕ → S → Type 0) where
+module _ {S : Type 0} (R : S → Item → List ℕ → S → Type 0) (L : S → Item → S → Type 0) where
   -- these items, the newest first, are what the bytes spell, and each was answered in its turn
   abbrev pub Served : List Item → List ℕ → S → List ℕ → S → Type 0
   Served [] bytes old output new = (bytes ≡ []) × (output ≡ []) × (new ≡ old)
@@ -39,9 +40,9 @@ module _ {S : Type 0} (R : S → Item → List ℕ → S → Type 0) where
     pub read : Consumes unread left bytes
     pub answered : Answered (start ++ bytes) rest wrote writes old new
 
-  -- nothing has happened, or the item was answered and the answer is lost
+  -- nothing has happened; or memory ran out before there was an answer; or the item was answered, and the answer is lost
   abbrev pub LostOrNot : S → Item → S → Type 0
-  LostOrNot old item new = (new ≡ old) ⊎ ((answer : List ℕ) × R old item answer new)
+  LostOrNot old item new = (new ≡ old) ⊎ (L old item new ⊎ ((answer : List ℕ) × R old item answer new))
 
   -- the item at the front was answered, and of its answer some bytes were written
   pub record InHand (rest : List ℕ) (wrote writes : Option (List ℕ)) (old new : S) : Type 0 where
@@ -52,13 +53,12 @@ module _ {S : Type 0} (R : S → Item → List ℕ → S → Type 0) where
     pub done : R old item answer new
     pub written : WritesPart wrote writes answer
 
-  -- the item at the front was answered, and the answer is lost
+  -- memory ran out over the item at the front, before it had an answer or when the answer could not be made
   pub record IsLost (rest : List ℕ) (old new : S) : Type 0 where
     pub item : Item
     pub size : ℕ
     pub stands : Decides rest (Ok (item, size))
-    pub answer : List ℕ
-    pub done : R old item answer new
+    pub lost : L old item new ⊎ ((answer : List ℕ) × R old item answer new)
 
   -- what stands at the front has the fault; or memory ran out, before the item was answered or when its answer could not be made
   abbrev pub Faulted : List ℕ → MessageFault → S → S → Type 0

@@ -4,8 +4,9 @@ ghost use Rattle.rtsp_grammar.specs.declared.message.Response.{Response};
 ghost use Rattle.rtsp_record.specs.Books.{book_of};
 ghost use Rattle.rtsp_book.specs.Replies.{IsAskable, IsWish};
 ghost use Rattle.rtsp_state.specs.declared.plan.Plan.TheVariants as plans;
+ghost use Rattle.rtsp_state.specs.Screen.{screen};
 ghost use Rattle.rtspd.specs.Admitting.{WishesWell};
-ghost use Rattle.rtspd.specs.Conversing.{standing, Renews, Conducts, ConductsStep, ConductsWith, ConductsWanted, Responds, RespondsNamed, named, living_at, numbers_of, filled, wish_on, wanted_on, opening_on, startup_on, is_unit, is_conducted, step_outcome, ask_outcome, renewal_named};
+ghost use Rattle.rtspd.specs.Conversing.{standing, Renews, Conducts, ConductsStep, ConductsWith, ConductsWanted, Responds, RespondsNamed, OnlyRenews, GivesUpScreened, named, living_at, numbers_of, filled, wish_on, wanted_on, opening_on, startup_on, is_unit, is_conducted, step_outcome, ask_outcome, renewal_named};
 
 use crate::admitting::{act, admit};
 use crate::words_given::{Words, words_after};
@@ -303,7 +304,7 @@ fn respond_named<B: BookRep>(
     name: Option<Name>,
 ) -> Result<Response, AllocError>
     ensures ok { IfOk result (λ r. RespondsNamed table.now asker name request.now (renewal_named table.now request.now asker.moment (named (book_of kept.old.journal) asker.conn name)) (standing kept.old words.old) r (standing kept.new words.new)) }
-    ensures err { OnErr result ((r : Response) × RespondsNamed table.now asker name request.now (renewal_named table.now request.now asker.moment (named (book_of kept.old.journal) asker.conn name)) (standing kept.old words.old) r (standing kept.new words.new)) }
+    ensures err { OnErr result (OnlyRenews (renewal_named table.now request.now asker.moment (named (book_of kept.old.journal) asker.conn name)) (standing kept.old words.old) (standing kept.new words.new) ⊎ ((r : Response) × RespondsNamed table.now asker name request.now (renewal_named table.now request.now asker.moment (named (book_of kept.old.journal) asker.conn name)) (standing kept.old words.old) r (standing kept.new words.new))) }
 {
     let view = named(kept.book(), asker.conn, name);
     let step = renewal_named(request, view.as_ref(), table, asker.moment);
@@ -334,7 +335,8 @@ fn renewal_named(
     }
 }
 
-/// Answers a request. Refused for want of memory, nothing has happened, or the response is lost.
+/// Answers a request. Refused for want of memory, nothing has happened, or the session that it names was renewed and
+/// nothing else was done, or the response is lost.
 pub fn respond<B: BookRep>(
     alloc: Global,
     kept: &mut Kept<B>,
@@ -344,7 +346,7 @@ pub fn respond<B: BookRep>(
     request: &Request,
 ) -> Result<Response, AllocError>
     ensures ok { IfOk result (λ r. Responds table.now asker (standing kept.old words.old) request.now r (standing kept.new words.new)) }
-    ensures err { OnErr result (((kept.new ≡ kept.old) × (words.new ≡ words.old)) ⊎ ((r : Response) × Responds table.now asker (standing kept.old words.old) request.now r (standing kept.new words.new))) }
+    ensures err { OnErr result (((kept.new ≡ kept.old) × (words.new ≡ words.old)) ⊎ (GivesUpScreened (screen table.now request.now) table.now asker request.now (standing kept.old words.old) (standing kept.new words.new) ⊎ ((r : Response) × Responds table.now asker (standing kept.old words.old) request.now r (standing kept.new words.new)))) }
 {
     match screen(alloc, request, table) {
         Ok(screened) => match screened {

@@ -1,6 +1,8 @@
 //! What the items of one connection are answered from.
-ghost use Rattle.std.specs.Prelude.{◌≡◌, IfOk, IfErr, OnOk, OnErr};
-ghost use Rattle.rtspd.specs.Conversing.{standing, Answers};
+ghost use Rattle.std.specs.Prelude.{◌≡◌, [], IfOk, IfErr, OnOk, OnErr};
+ghost use Rattle.rtspd.specs.Served.{EndsFrom};
+ghost use Rattle.rtspd.specs.Causes.{ReadFails, WriteFails};
+ghost use Rattle.rtspd.specs.Conversing.{standing, Answers, GivesUp};
 
 use crate::conversing::{Asker, respond};
 use crate::serving::{Answerer, ServeEnd, TURNS, serve_turns};
@@ -22,6 +24,8 @@ pub struct Desk<B: BookRep> {
 
 impl<B: BookRep> Answerer for Desk<B> {
     ghost answers = { λ old item bytes new. Answers old.table old.asker (standing old.kept old.words) item bytes (standing new.kept new.words) × (new.table ≡ old.table) × (new.asker ≡ old.asker) };
+
+    ghost gives_up = { λ old item new. GivesUp old.table old.asker (standing old.kept old.words) item (standing new.kept new.words) × (new.table ≡ old.table) × (new.asker ≡ old.asker) };
 
     fn answer(&mut self, alloc: Global, item: &Item, out: &mut Vec<u8>) -> Result<(), AllocError> {
         match item {
@@ -48,6 +52,10 @@ pub fn stdio_core<B: BookRep, R: ByteIn, W: ByteOut>(
     desk: &mut Desk<B>,
     reader: &mut R,
     writer: &mut W,
-) -> ServeEnd {
+) -> ServeEnd
+    ensures served { EndsFrom (λ old item bytes new. Answers old.table old.asker (standing old.kept old.words) item bytes (standing new.kept new.words) × (new.table ≡ old.table) × (new.asker ≡ old.asker)) (λ old item new. GivesUp old.table old.asker (standing old.kept old.words) item (standing new.kept new.words) × (new.table ≡ old.table) × (new.asker ≡ old.asker)) [] result (R.remaining reader.old) (R.remaining reader.new) (W.contents writer.old) (W.contents writer.new) desk.old desk.new }
+    ensures read_fault { ReadFails result (R.failures reader.old) (R.failures reader.new) }
+    ensures write_fault { WriteFails result (W.failures writer.old) (W.failures writer.new) }
+{
     serve_turns(alloc, desk, reader, writer, TURNS)
 }

@@ -29,6 +29,10 @@ pub use words::{CommandLine, read_words};
 pub use words_given::{Words, words_after};
 
 #[cfg(test)]
+mod audit_tests;
+#[cfg(test)]
+mod conversation_tests;
+#[cfg(test)]
 mod tests;
 #[cfg(test)]
 mod words_tests;

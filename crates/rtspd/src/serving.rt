@@ -15,12 +15,15 @@ pub trait Answerer {
     /// How an item is answered: with which bytes, and what then stands in the place of what stood before.
     ghost answers: { Self → Item → List ℕ → Self → Type 0 };
 
-    /// Answers one item into the buffer, which is empty before. At want of memory nothing has happened, or the item
-    /// was answered and the answer is lost.
+    /// What may stand where memory ran out before the item had an answer.
+    ghost gives_up: { Self → Item → Self → Type 0 };
+
+    /// Answers one item into the buffer, which is empty before. At want of memory nothing has happened, or it was
+    /// given up, or the item was answered and the answer is lost.
     fn answer(&mut self, alloc: Global, item: &Item, out: &mut Vec<u8>) -> Result<(), AllocError>
         requires { out.old.items ≡ [] }
         ensures ok { OnOk result (answers self.old item.now out.new.items self.new) }
-        ensures err { OnErr result (LostOrNot answers self.old item.now self.new) };
+        ensures err { OnErr result (LostOrNot answers gives_up self.old item.now self.new) };
 }
 
 /// How the serving of a connection has ended.
@@ -65,7 +68,7 @@ fn answer_item<A: Answerer, W: ByteOut>(
     out: &mut Vec<u8>,
     writer: &mut W,
 ) -> Next
-    ensures told { Told A.answers item.now size result (W.contents writer.old) (W.contents writer.new) answerer.old answerer.new }
+    ensures told { Told A.answers A.gives_up item.now size result (W.contents writer.old) (W.contents writer.new) answerer.old answerer.new }
     ensures cause { NextFails result (W.failures writer.old) (W.failures writer.new) }
 {
     out.clear();
@@ -86,7 +89,7 @@ fn answer_front<A: Answerer, W: ByteOut>(
     out: &mut Vec<u8>,
     writer: &mut W,
 ) -> Next
-    ensures next { Follows A.answers result bytes.now (W.contents writer.old) (W.contents writer.new) answerer.old answerer.new }
+    ensures next { Follows A.answers A.gives_up result bytes.now (W.contents writer.old) (W.contents writer.new) answerer.old answerer.new }
     ensures cause { NextFails result (W.failures writer.old) (W.failures writer.new) }
 {
     match read_item(alloc, bytes) {
@@ -107,7 +110,7 @@ fn answer_items<A: Answerer, W: ByteOut>(
     writer: &mut W,
 ) -> (usize, Stop)
     ensures within { result.0 ≤ length bytes.now }
-    ensures stop { Stops A.answers result.1 (take result.0 bytes.now) (drop result.0 bytes.now) (W.contents writer.old) (W.contents writer.new) answerer.old answerer.new }
+    ensures stop { Stops A.answers A.gives_up result.1 (take result.0 bytes.now) (drop result.0 bytes.now) (W.contents writer.old) (W.contents writer.new) answerer.old answerer.new }
     ensures cause { StopFails result.1 (W.failures writer.old) (W.failures writer.new) }
 {
     let mut at = 0;
@@ -138,9 +141,9 @@ fn after_read<A: Answerer, W: ByteOut>(
     out: &mut Vec<u8>,
     writer: &mut W,
 ) -> Option<ServeEnd>
-    ensures goes_on { IfNone result (Answered A.answers buffer.old.items buffer.new.items (W.contents writer.old) (W.contents writer.new) answerer.old answerer.new) }
+    ensures goes_on { IfNone result (Answered A.answers A.gives_up buffer.old.items buffer.new.items (W.contents writer.old) (W.contents writer.new) answerer.old answerer.new) }
     ensures undecided { IfNone result (IsUndecided buffer.new.items) }
-    ensures ends { IfSome result (λ e. EndsHere A.answers buffer.old.items e (W.contents writer.old) (W.contents writer.new) answerer.old answerer.new) }
+    ensures ends { IfSome result (λ e. EndsHere A.answers A.gives_up buffer.old.items e (W.contents writer.old) (W.contents writer.new) answerer.old answerer.new) }
     ensures cause { TurnWriteFails result (W.failures writer.old) (W.failures writer.new) }
 {
     let (at, stop) = answer_items(alloc, answerer, buffer.as_slice(), out, writer);
@@ -167,9 +170,9 @@ fn turn<A: Answerer, R: ByteIn, W: ByteOut>(
     writer: &mut W,
 ) -> Option<ServeEnd>
     requires { IsUndecided buffer.old.items }
-    ensures goes_on { IfNone result (Progress A.answers buffer.old.items (R.remaining reader.old) (R.remaining reader.new) buffer.new.items (W.contents writer.old) (W.contents writer.new) answerer.old answerer.new) }
+    ensures goes_on { IfNone result (Progress A.answers A.gives_up buffer.old.items (R.remaining reader.old) (R.remaining reader.new) buffer.new.items (W.contents writer.old) (W.contents writer.new) answerer.old answerer.new) }
     ensures undecided { IfNone result (IsUndecided buffer.new.items) }
-    ensures ends { IfSome result (λ e. EndsFrom A.answers buffer.old.items e (R.remaining reader.old) (R.remaining reader.new) (W.contents writer.old) (W.contents writer.new) answerer.old answerer.new) }
+    ensures ends { IfSome result (λ e. EndsFrom A.answers A.gives_up buffer.old.items e (R.remaining reader.old) (R.remaining reader.new) (W.contents writer.old) (W.contents writer.new) answerer.old answerer.new) }
     ensures reads { TurnReadFails result (R.failures reader.old) (R.failures reader.new) }
     ensures writes { TurnWriteFails result (W.failures writer.old) (W.failures writer.new) }
 {
@@ -196,7 +199,7 @@ pub fn serve_turns<A: Answerer, R: ByteIn, W: ByteOut>(
     writer: &mut W,
     turns: u64,
 ) -> ServeEnd
-    ensures served { EndsFrom A.answers [] result (R.remaining reader.old) (R.remaining reader.new) (W.contents writer.old) (W.contents writer.new) answerer.old answerer.new }
+    ensures served { EndsFrom A.answers A.gives_up [] result (R.remaining reader.old) (R.remaining reader.new) (W.contents writer.old) (W.contents writer.new) answerer.old answerer.new }
     // A fault of the reader or of the writer is told where it was counted, and nowhere else.
     ensures read_fault { ReadFails result (R.failures reader.old) (R.failures reader.new) }
     ensures write_fault { WriteFails result (W.failures writer.old) (W.failures writer.new) }

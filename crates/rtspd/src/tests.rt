@@ -12,17 +12,17 @@ const OPTIONS: &str = "OPTIONS * RTSP/2.0\r\nCSeq: 1\r\n\r\n";
 const OPTIONS_ANSWER: &str = "RTSP/2.0 200 OK\r\nCSeq: 1\r\n\
     Public: OPTIONS, DESCRIBE, SETUP, PLAY, PAUSE, TEARDOWN, GET_PARAMETER, SET_PARAMETER\r\n\r\n";
 
-const SETUP: &str = "SETUP rtsp://h/tone/a RTSP/2.0\r\nCSeq: 1\r\n\
+pub(crate) const SETUP: &str = "SETUP rtsp://h/tone/a RTSP/2.0\r\nCSeq: 1\r\n\
     Transport: RTP/AVP/TCP;unicast;interleaved=0-1\r\n\r\n";
 
-const SETUP_ANSWER: &str = "RTSP/2.0 200 OK\r\nCSeq: 1\r\n\
+pub(crate) const SETUP_ANSWER: &str = "RTSP/2.0 200 OK\r\nCSeq: 1\r\n\
     Session: 00000000000000000000000000000001;timeout=60\r\n\
     Transport: RTP/AVP/TCP;unicast;interleaved=0-1;ssrc=00000001\r\n\
     Accept-Ranges: npt\r\n\
     Media-Properties: Random-Access=0.020, Immutable, Unlimited\r\n\
     Media-Range: npt=0.000-10.000\r\n\r\n";
 
-const JOURNAL: &str = "0 open 2 00000000000000000000000000000001 1 60000\n\
+pub(crate) const JOURNAL: &str = "0 open 2 00000000000000000000000000000001 1 60000\n\
     0 hold 2 3 rate 80000\n\
     0 hold 2 3 chan 1 0\n\
     0 add 2 3 0 0 00000001 0 0 7f000001 0 0\n";
