@@ -1,4 +1,3 @@
-pub mod HexLemmas
 pub mod ReadLemmas
 pub mod ListLemmas
 pub mod IdLemmas

@@ -4,6 +4,9 @@ use Rattle.std.specs.List.{AllByRecursion}
 use Rattle.rtsp_grammar.specs.Header.{HeaderText}
 use Rattle.rtsp_grammar.specs.Draft.{size, Takes, HasRoom}
 use Rattle.rtsp_transport.specs.Hex.{hex_text}
+use Rattle.rtsp_transport.specs.Granted.{transport_text}
+use Rattle.rtsp_transport.specs.declared.granted.Granted.{Granted}
+use Rattle.rtsp_transport.specs.declared.granted.Granted.TheVariants.{Udp, Inter}
 use Rattle.rtsp_npt.specs.Printed.{time_text, range_text}
 use Rattle.rtsp_record.specs.declared.holdings.Thing.{Thing}
 use Rattle.rtsp_record.specs.declared.holdings.Thing.TheVariants.{Pair, Chan, Rate}
@@ -59,34 +62,19 @@ range_line from stop unit_ms = record { name = name_of_field fields.Range; value
 abbrev pub seek_line : HeaderText
 seek_line = record { name = name_of_field fields.SeekStyle; value = text_of words.Rap }
 
--- two ports of one side
-unfoldable pub ports_text : ℕ → ℕ → List ℕ
-ports_text rtp rtcp = decimal rtp ++ text_of words.PortJoint ++ decimal rtcp
+-- what an address and a stream are granted as: two channels of the connection, or two ports of the server and two of the
+-- client; bandwidth alone is no transport
+abbrev pub granted_of : Thing → Stream → Option Granted
+granted_of (Pair p) stream = Some (Udp stream.rtp_port stream.rtcp_port p stream.ssrc)
+granted_of (Chan c k) stream = Some (Inter k stream.ssrc)
+granted_of (Rate n) stream = None
 
--- two channels
-unfoldable pub channels_text : ℕ → List ℕ
-channels_text k = decimal k ++ text_of words.Dash ++ decimal (k + 1)
-
-unfoldable pub source_text : ℕ → List ℕ
-source_text ssrc = text_of words.Source ++ hex_text 8 ssrc
-
--- interleaved on two channels of the connection
-unfoldable pub over_channels : ℕ → ℕ → List ℕ
-over_channels k ssrc = text_of words.OverChannels ++ channels_text k ++ source_text ssrc
-
--- from two ports of the server to two of the client, whose host isn't shown
-unfoldable pub over_ports : ℕ → Stream → List ℕ
-over_ports p stream =
-    text_of words.OverPorts ++ ports_text stream.rtp_port stream.rtcp_port ++ text_of words.ServerPorts ++ ports_text p (p + 1) ++ text_of words.PortsEnd ++ source_text stream.ssrc
-
--- the transport that a stream was given; bandwidth alone is none
-abbrev pub transport_text : Thing → Stream → List ℕ
-transport_text (Pair p) stream = over_ports p stream
-transport_text (Chan c k) stream = over_channels k stream.ssrc
-transport_text (Rate n) stream = []
+unfoldable pub granted_text : Option Granted → List ℕ
+granted_text None = []
+granted_text (Some granted) = transport_text granted
 
 abbrev pub transport_line : Thing → Stream → HeaderText
-transport_line address stream = record { name = name_of_field fields.Transport; value = transport_text address stream }
+transport_line address stream = record { name = name_of_field fields.Transport; value = granted_text (granted_of address stream) }
 
 -- the URI of the request with a slash at its end
 abbrev pub base_line : List ℕ → HeaderText

@@ -6,13 +6,11 @@ ghost use Rattle.rtsp_state.specs.Lines.{Puts, Fits};
 ghost use Rattle.rtsp_state.specs.Info.{seq_text, rtptime_text, source_part, part_text, next_part, info_text, info_line};
 
 use crate::lines::Lines;
-use crate::numbers::{put_hex, put_number};
+use crate::numbers::put_number;
 use crate::plan::Part;
 use crate::words::{Field, Word, name_of_field, text_of};
+use rtsp_transport::write_ssrc;
 use std::alloc::AllocError;
-
-/// The digits of an SSRC.
-const SSRC_DIGITS: u8 = 8;
 
 #[tactic(auto, unfolding(crate::specs::Info::source_part))]
 fn write_source_part(out: &mut Vec<u8>, part: &Part) -> Result<(), AllocError>
@@ -23,7 +21,7 @@ fn write_source_part(out: &mut Vec<u8>, part: &Part) -> Result<(), AllocError>
     out.extend_from_slice(text_of(Word::UrlIs))?;
     out.extend_from_slice(part.url.as_bytes())?;
     out.extend_from_slice(text_of(Word::SsrcIs))?;
-    put_hex(out, u128::from(part.ssrc), SSRC_DIGITS)
+    write_ssrc(out, part.ssrc)
 }
 
 #[tactic(auto, unfolding(crate::specs::Info::seq_text))]

@@ -5,21 +5,17 @@ ghost use Rattle.rtsp_grammar.specs.Draft.{Takes, HasRoom};
 ghost use Rattle.rtsp_transport.specs.Hex.{hex_text};
 ghost use Rattle.rtsp_npt.specs.Printed.{time_text, range_text};
 ghost use Rattle.rtsp_state.specs.Writing.{Appends};
-ghost use Rattle.rtsp_state.specs.Lines.{accept_ranges_line, public_line, PutsAll, FitsAll, base_line, type_line, length_line, Puts, Fits, cseq_line, session_line, opened_line, properties_line, media_range_line, range_line, seek_line, ports_text, transport_text, over_channels, over_ports, channels_text, source_text, transport_line, session_lines, front_lines};
+ghost use Rattle.rtsp_state.specs.Lines.{accept_ranges_line, public_line, PutsAll, FitsAll, base_line, type_line, length_line, Puts, Fits, cseq_line, session_line, opened_line, properties_line, media_range_line, range_line, seek_line, granted_of, granted_text, transport_line, session_lines, front_lines};
 ghost use Rattle.rtsp_state.specs.Words.{name_of_field, text_of};
 ghost use Rattle.rtsp_state.specs.declared.words.Word.TheVariants as words;
 
-use crate::numbers::{put_hex, put_number};
+use crate::numbers::put_number;
 use crate::words::{Field, Word, name_of_field, text_of};
 use rtsp_grammar::Draft;
 use rtsp_npt::{write_range, write_time};
 use rtsp_record::{Stream, Thing};
+use rtsp_transport::{Granted, write_session_id, write_transport};
 use std::alloc::{AllocError, Global};
-
-/// The digits of a session's id.
-const ID_DIGITS: u8 = 32;
-/// The digits of an SSRC.
-const SSRC_DIGITS: u8 = 8;
 
 /// The headers that are made, and the value of the next one.
 #[derive(Debug, Drop)]
@@ -67,7 +63,7 @@ pub fn put_session(lines: &mut Lines, id: u128) -> Result<(), AllocError>
     ensures succeeds { Fits lines.old (session_line id) → IsOk result }
 {
     lines.value.clear();
-    put_hex(&mut lines.value, id, ID_DIGITS)?;
+    write_session_id(&mut lines.value, id)?;
     lines
         .draft
         .push(name_of_field(Field::Session), &lines.value)
@@ -78,7 +74,7 @@ pub fn put_opened(lines: &mut Lines, id: u128, timeout: u32) -> Result<(), Alloc
     ensures succeeds { Fits lines.old (opened_line id timeout) → IsOk result }
 {
     lines.value.clear();
-    put_hex(&mut lines.value, id, ID_DIGITS)?;
+    write_session_id(&mut lines.value, id)?;
     lines.value.extend_from_slice(text_of(Word::Timeout))?;
     put_number(&mut lines.value, u64::from(timeout))?;
     lines
@@ -95,72 +91,34 @@ pub fn put_public(lines: &mut Lines) -> Result<(), AllocError>
         .push(name_of_field(Field::Public), text_of(Word::AllMethods))
 }
 
-#[tactic(auto, unfolding(crate::specs::Lines::ports_text))]
-fn write_ports(out: &mut Vec<u8>, rtp: u32, rtcp: u32) -> Result<(), AllocError>
-    ensures text { Appends result out.old.items out.new.items (ports_text rtp rtcp) }
-    ensures capacity { vec_capacity out.old ≤ vec_capacity out.new }
-    ensures succeeds { length out.old.items + length (ports_text rtp rtcp) ≤ vec_capacity out.old → IsOk result }
-{
-    put_number(out, u64::from(rtp))?;
-    out.extend_from_slice(text_of(Word::PortJoint))?;
-    put_number(out, u64::from(rtcp))
-}
-
-#[tactic(auto, unfolding(crate::specs::Lines::channels_text))]
-fn write_channels(out: &mut Vec<u8>, channel: u8) -> Result<(), AllocError>
-    ensures text { Appends result out.old.items out.new.items (channels_text channel) }
-    ensures capacity { vec_capacity out.old ≤ vec_capacity out.new }
-    ensures succeeds { length out.old.items + length (channels_text channel) ≤ vec_capacity out.old → IsOk result }
-{
-    put_number(out, u64::from(channel))?;
-    out.extend_from_slice(text_of(Word::Dash))?;
-    put_number(out, u64::from(channel) + 1)
-}
-
-#[tactic(auto, unfolding(crate::specs::Lines::source_text))]
-fn write_source(out: &mut Vec<u8>, ssrc: u32) -> Result<(), AllocError>
-    ensures text { Appends result out.old.items out.new.items (source_text ssrc) }
-    ensures capacity { vec_capacity out.old ≤ vec_capacity out.new }
-    ensures succeeds { length out.old.items + length (source_text ssrc) ≤ vec_capacity out.old → IsOk result }
-{
-    out.extend_from_slice(text_of(Word::Source))?;
-    put_hex(out, u128::from(ssrc), SSRC_DIGITS)
-}
-
-#[tactic(auto, unfolding(crate::specs::Lines::over_channels))]
-fn write_over_channels(out: &mut Vec<u8>, channel: u8, ssrc: u32) -> Result<(), AllocError>
-    ensures text { Appends result out.old.items out.new.items (over_channels channel ssrc) }
-    ensures capacity { vec_capacity out.old ≤ vec_capacity out.new }
-    ensures succeeds { length out.old.items + length (over_channels channel ssrc) ≤ vec_capacity out.old → IsOk result }
-{
-    out.extend_from_slice(text_of(Word::OverChannels))?;
-    write_channels(out, channel)?;
-    write_source(out, ssrc)
-}
-
-#[tactic(auto, unfolding(crate::specs::Lines::over_ports))]
-fn write_over_ports(out: &mut Vec<u8>, port: u16, stream: &Stream) -> Result<(), AllocError>
-    ensures text { Appends result out.old.items out.new.items (over_ports port stream.now) }
-    ensures capacity { vec_capacity out.old ≤ vec_capacity out.new }
-    ensures succeeds { length out.old.items + length (over_ports port stream.now) ≤ vec_capacity out.old → IsOk result }
-{
-    out.extend_from_slice(text_of(Word::OverPorts))?;
-    write_ports(out, u32::from(stream.rtp_port), u32::from(stream.rtcp_port))?;
-    out.extend_from_slice(text_of(Word::ServerPorts))?;
-    write_ports(out, u32::from(port), u32::from(port) + 1)?;
-    out.extend_from_slice(text_of(Word::PortsEnd))?;
-    write_source(out, stream.ssrc)
-}
-
-fn write_transport(out: &mut Vec<u8>, address: Thing, stream: &Stream) -> Result<(), AllocError>
-    ensures text { Appends result out.old.items out.new.items (transport_text address stream.now) }
-    ensures capacity { vec_capacity out.old ≤ vec_capacity out.new }
-    ensures succeeds { length out.old.items + length (transport_text address stream.now) ≤ vec_capacity out.old → IsOk result }
+// What the address and the stream were granted as; bandwidth alone is no transport.
+fn granted_of(address: Thing, stream: &Stream) -> Option<Granted>
+    ensures { result ≡ granted_of address stream.now }
 {
     match address {
-        Thing::Pair(port) => write_over_ports(out, port, stream),
-        Thing::Chan(_, channel) => write_over_channels(out, channel, stream.ssrc),
-        Thing::Rate(_) => Ok(()),
+        Thing::Pair(port) => Some(Granted::Udp {
+            client_rtp: stream.rtp_port,
+            client_rtcp: stream.rtcp_port,
+            server_rtp: port,
+            ssrc: stream.ssrc,
+        }),
+        Thing::Chan(_, channel) => Some(Granted::Inter {
+            channel,
+            ssrc: stream.ssrc,
+        }),
+        Thing::Rate(_) => None,
+    }
+}
+
+#[tactic(auto, unfolding(crate::specs::Lines::granted_text))]
+fn write_granted(out: &mut Vec<u8>, granted: Option<Granted>) -> Result<(), AllocError>
+    ensures text { Appends result out.old.items out.new.items (granted_text granted) }
+    ensures capacity { vec_capacity out.old ≤ vec_capacity out.new }
+    ensures succeeds { length out.old.items + length (granted_text granted) ≤ vec_capacity out.old → IsOk result }
+{
+    match granted {
+        Some(granted) => write_transport(out, &granted),
+        None => Ok(()),
     }
 }
 
@@ -169,7 +127,7 @@ pub fn put_transport(lines: &mut Lines, address: Thing, stream: &Stream) -> Resu
     ensures succeeds { Fits lines.old (transport_line address stream.now) → IsOk result }
 {
     lines.value.clear();
-    write_transport(&mut lines.value, address, stream)?;
+    write_granted(&mut lines.value, granted_of(address, stream))?;
     lines
         .draft
         .push(name_of_field(Field::Transport), &lines.value)

@@ -10,7 +10,7 @@ ports_text rtp rtcp = codes "\":" ++ decimal rtp ++ codes "\"/\":" ++ decimal rt
 
 -- the protocol, the client's ports, the server's, or the two channels, and the SSRC
 abbrev pub transport_text : Granted → List ℕ
-transport_text (Udp client_rtp client_rtcp server_rtp server_rtcp ssrc) =
-    codes "RTP/AVP;unicast;dest_addr=" ++ ports_text client_rtp client_rtcp ++ codes ";src_addr=" ++ ports_text server_rtp server_rtcp ++ codes ";ssrc=" ++ hex_text 8 ssrc
+transport_text (Udp client_rtp client_rtcp server_rtp ssrc) =
+    codes "RTP/AVP;unicast;dest_addr=" ++ ports_text client_rtp client_rtcp ++ codes ";src_addr=" ++ ports_text server_rtp (server_rtp + 1) ++ codes ";ssrc=" ++ hex_text 8 ssrc
 transport_text (Inter channel ssrc) =
     codes "RTP/AVP/TCP;unicast;interleaved=" ++ decimal channel ++ codes "-" ++ decimal (channel + 1) ++ codes ";ssrc=" ++ hex_text 8 ssrc

@@ -24,7 +24,7 @@ mod wish;
 
 pub use choice::Pick;
 pub use fault::TextFault;
-pub use granted::{Granted, write_transport};
+pub use granted::{Granted, write_ssrc, write_transport};
 pub use picking::pick;
 pub use session::{read_session, session_id, write_session_id};
 pub use spec::{Parameter, Parameters, Spec};

@@ -3,6 +3,7 @@
 ghost use Rattle.std.specs.Prelude.{◌≡◌, ◌<◌, ◌≤◌, ◌^◌, ◌+◌, ◌++◌, ℕ, List, length, vec_capacity, IfOk, IfErr, IfSome, IsOkAnd, IsOk, OnOk, OnErr, Some};
 ghost use Rattle.rtsp_transport.specs.Session.{SpellsSession, is_session_name, name_of};
 ghost use Rattle.rtsp_transport.specs.Hex.{hex_text};
+ghost use Rattle.rtsp_transport.specs.Writing.{Appends};
 ghost use Rattle.rtsp_transport.specs.declared.fault.TextFault.TheVariants.{Malformed};
 
 use crate::bytes::{are_session_bytes, split_once};
@@ -64,15 +65,24 @@ pub fn session_id(name: &[u8]) -> Option<u128>
     Some(id)
 }
 
+fn put_id(out: &mut Vec<u8>, id: u128) -> Result<(), AllocError>
+    ensures text { Appends result out.old.items out.new.items (hex_text 32 id) }
+    ensures capacity { vec_capacity out.old ≤ vec_capacity out.new }
+    ensures succeeds { length out.old.items + length (hex_text 32 id) ≤ vec_capacity out.old → IsOk result }
+{
+    put_hex(out, id, ID_DIGITS)
+}
+
 /// Writes an identifier at the end. A refused one leaves the bytes as they were.
 pub fn write_session_id(out: &mut Vec<u8>, id: u128) -> Result<(), AllocError>
     ensures ok { OnOk result (out.new.items ≡ out.old.items ++ hex_text 32 id) }
     ensures err { OnErr result (out.new.items ≡ out.old.items) }
+    ensures capacity { vec_capacity out.old ≤ vec_capacity out.new }
     // It asks for no memory where there is room.
-    ensures succeeds { length out.old.items + 32 ≤ vec_capacity out.old → IsOk result }
+    ensures succeeds { length out.old.items + length (hex_text 32 id) ≤ vec_capacity out.old → IsOk result }
 {
     let len = out.len();
-    let written = put_hex(out, id, ID_DIGITS);
+    let written = put_id(out, id);
     if written.is_err() {
         out.truncate(len);
     }

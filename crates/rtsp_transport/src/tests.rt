@@ -68,7 +68,6 @@ fn transports_of_answers(rt: HostRuntime) -> Result<(), Fail> {
         client_rtp: 8000,
         client_rtcp: 8001,
         server_rtp: 5000,
-        server_rtcp: 5001,
         ssrc: 3,
     };
     write_transport(&mut out, &udp)?;

@@ -8,8 +8,8 @@ pub returns-in_ok-extend_from_slice-in-Udp-3-clause-text :
     goal.returns-in_ok-extend_from_slice-in-Udp-3-clause-text
 returns-in_ok-extend_from_slice-in-Udp-3-clause-text c =
     let w = c.in-Udp in
-    let e = five c.args.out.now.items (codes "RTP/AVP;unicast;dest_addr=") (ports_text w.client_rtp w.client_rtcp) (codes ";src_addr=") (ports_text w.server_rtp w.server_rtcp) (codes ";ssrc=") _ _ _ _ _
-    c.in_ok-extend_from_slice-in-Udp.ensures.items c.in_ok-put_ports-in-Udp.ensures.text c.in_ok-extend_from_slice-in-Udp-2.ensures.items c.in_ok-put_ports-in-Udp-2.ensures.text c.in_ok-extend_from_slice-in-Udp-3.ensures.items in
+    let e = five c.args.out.now.items (codes "RTP/AVP;unicast;dest_addr=") (ports_text w.client_rtp w.client_rtcp) (codes ";src_addr=") (ports_text w.server_rtp (w.server_rtp + 1)) (codes ";ssrc=") _ _ _ _ _
+    c.in_ok-extend_from_slice-in-Udp.ensures.items c.in_ok-put_client-in-Udp.ensures.text c.in_ok-extend_from_slice-in-Udp-2.ensures.items c.in_ok-put_server-in-Udp.ensures.text c.in_ok-extend_from_slice-in-Udp-3.ensures.items in
     rw w.is (appends_on c.put_ssrc.result c.args.out.now.items c.extend_from_slice-in-Udp-2.new.self.items c.put_ssrc.new.out.items _ (hex_text 8 w.ssrc) e c.put_ssrc.ensures.text)
 
 pub returns-in_ok-extend_from_slice-in-Inter-3-clause-text :
