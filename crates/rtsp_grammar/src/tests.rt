@@ -1,12 +1,12 @@
 use crate::fault::MessageFault;
 use crate::header::{Draft, Headers};
 use crate::laws;
-use crate::message::{Frame, Item, Response};
+use crate::message::{Frame, Item, Request, Response};
 use crate::read::read_item;
 use crate::text::Text;
 use crate::version::is_version_2_0;
 use crate::write::{write_frame, write_request, write_response};
-use std::alloc::Global;
+use std::alloc::{AllocError, Global};
 use std::test::Fail;
 
 /// The fault of a text.
@@ -14,32 +14,65 @@ fn fault_of(alloc: Global, text: &[u8]) -> Option<MessageFault> {
     read_item(alloc, text).err()
 }
 
+// The item that stands at the front of a text, with its size.
+fn item_in(alloc: Global, text: &[u8]) -> Option<(Item, usize)> {
+    match read_item(alloc, text) {
+        Ok(found) => found,
+        Err(_) => None,
+    }
+}
+
+// The frame, the request or the response that stands at the front of a text, with its size.
+fn frame_in(alloc: Global, text: &[u8]) -> Option<(Frame, usize)> {
+    let (item, size) = item_in(alloc, text)?;
+    match item {
+        Item::Frame(frame) => Some((frame, size)),
+        _ => None,
+    }
+}
+
+fn request_in(alloc: Global, text: &[u8]) -> Option<(Request, usize)> {
+    let (item, size) = item_in(alloc, text)?;
+    match item {
+        Item::Request(request) => Some((request, size)),
+        _ => None,
+    }
+}
+
+fn response_in(alloc: Global, text: &[u8]) -> Option<(Response, usize)> {
+    let (item, size) = item_in(alloc, text)?;
+    match item {
+        Item::Response(response) => Some((response, size)),
+        _ => None,
+    }
+}
+
+// Whether a longer text is needed.
+fn is_open(alloc: Global, text: &[u8]) -> bool {
+    matches!(read_item(alloc, text), Ok(None))
+}
+
+fn is_frame(frame: &Frame, channel: u8, length: usize) -> bool {
+    frame.channel == channel && frame.payload.as_bytes().len() == length
+}
+
 #[test]
 fn frames(rt: HostRuntime) -> Result<(), Fail> {
-    let Some((item, len)) = read_item(rt.alloc(), &[0x24, 0, 0, 0])? else {
-        panic!(rt; "no item");
-    };
-    let Item::Frame(frame) = item else {
-        panic!(rt; "no frame");
-    };
-    assert_eq!(rt; frame.channel, 0);
-    assert!(rt; frame.payload.as_bytes().is_empty());
-    assert_eq!(rt; len, 4);
-    assert!(rt; read_item(rt.alloc(), &[0x24, 0, 0])?.is_none());
+    let alloc = rt.alloc();
+    let empty = frame_in(alloc, &[0x24, 0, 0, 0]);
+    assert!(rt; matches!(empty, Some((ref frame, 4)) if is_frame(frame, 0, 0)));
+    assert!(rt; is_open(alloc, &[0x24, 0, 0]));
 
-    let mut text = Vec::new(rt.alloc());
+    let mut text = Vec::new(alloc);
     text.extend_from_slice(&[0x24, 1, 0xff, 0xff])?;
     text.resize(65_539, 7)?;
-    let Some((item, len)) = read_item(rt.alloc(), &text)? else {
-        panic!(rt; "no item");
-    };
-    let Item::Frame(frame) = item else {
-        panic!(rt; "no frame");
-    };
-    assert_eq!(rt; frame.channel, 1);
-    assert_eq!(rt; frame.payload.as_bytes().len(), 65_535);
-    assert_eq!(rt; len, 65_539);
+    let longest = frame_in(alloc, &text);
+    assert!(rt; matches!(longest, Some((ref frame, 65_539)) if is_frame(frame, 1, 65_535)));
+    Ok(())
+}
 
+#[test]
+fn written_frames(rt: HostRuntime) -> Result<(), Fail> {
     let mut out = Vec::new(rt.alloc());
     let frame = Frame {
         channel: 2,
@@ -50,36 +83,36 @@ fn frames(rt: HostRuntime) -> Result<(), Fail> {
     Ok(())
 }
 
+// Whether this is the request of the test below.
+fn is_setup(request: &Request) -> bool {
+    request.method.as_bytes() == b"SETUP".as_slice()
+        && request.uri.as_bytes() == b"rtsp://h/a".as_slice()
+        && is_version_2_0(request.version.as_bytes())
+        && request.body.as_bytes() == b"abc".as_slice()
+}
+
+fn are_setups(headers: &Headers) -> bool {
+    headers.len() == 3
+        && !headers.is_empty()
+        && headers.get(0).name == b"CSeq".as_slice()
+        && headers.get(0).value == b"7".as_slice()
+        && headers.get(0).is_named(b"cseq")
+        && headers.count_of(b"TRANSPORT") == 1
+        && headers.nth_value(b"transport", 0) == Some(b"a, b".as_slice())
+        && headers.nth_value(b"transport", 1).is_none()
+}
+
 #[test]
 fn requests(rt: HostRuntime) -> Result<(), Fail> {
     let text =
         b"\r\nSETUP rtsp://h/a RTSP/2.0\r\nCSeq:  7 \r\nTransport: a,\r\n \t b\r\ncontent-length: 3\r\n\r\nabcd";
-    let Some((item, len)) = read_item(rt.alloc(), text)? else {
-        panic!(rt; "no item");
-    };
-    let Item::Request(request) = item else {
-        panic!(rt; "no request");
-    };
-    assert_eq!(rt; len, text.len() - 1);
-    assert_eq!(rt; request.method.as_bytes(), b"SETUP".as_slice());
-    assert_eq!(rt; request.uri.as_bytes(), b"rtsp://h/a".as_slice());
-    assert!(rt; is_version_2_0(request.version.as_bytes()));
-    assert_eq!(rt; request.body.as_bytes(), b"abc".as_slice());
-    let headers = &request.headers;
-    assert_eq!(rt; headers.len(), 3);
-    assert!(rt; !headers.is_empty());
-    assert_eq!(rt; headers.get(0).name, b"CSeq".as_slice());
-    assert_eq!(rt; headers.get(0).value, b"7".as_slice());
-    assert!(rt; headers.get(0).is_named(b"cseq"));
-    assert_eq!(rt; headers.count_of(b"TRANSPORT"), 1);
-    assert_eq!(rt;
-        headers.nth_value(b"transport", 0),
-        Some(b"a, b".as_slice())
-    );
-    assert!(rt; headers.nth_value(b"transport", 1).is_none());
-
     let mut out = Vec::new(rt.alloc());
-    write_request(&mut out, &request)?;
+    if let Some((request, size)) = request_in(rt.alloc(), text) {
+        assert_eq!(rt; size, text.len() - 1);
+        assert!(rt; is_setup(&request));
+        assert!(rt; are_setups(&request.headers));
+        write_request(&mut out, &request)?;
+    }
     assert_eq!(rt;
         out.as_slice(),
         b"SETUP rtsp://h/a RTSP/2.0\r\nCSeq: 7\r\nTransport: a, b\r\ncontent-length: 3\r\n\r\nabc".as_slice()
@@ -92,43 +125,49 @@ fn requests(rt: HostRuntime) -> Result<(), Fail> {
 fn cuts(rt: HostRuntime) -> Result<(), Fail> {
     let text = b"\r\nPLAY rtsp://h/a RTSP/2.0\r\nCSeq: 3\r\n x\r\nContent-Length: 2\r\n\r\nhi";
     for len in 0..text.len() {
-        assert!(rt; read_item(rt.alloc(), &text[..len])?.is_none());
+        assert!(rt; is_open(rt.alloc(), &text[..len]));
     }
-    assert!(rt; read_item(rt.alloc(), text)?.is_some());
+    assert!(rt; request_in(rt.alloc(), text).is_some());
     Ok(())
+}
+
+fn is_of_version_1(response: &Response) -> bool {
+    response.status == 200
+        && response.reason.as_bytes() == b"OK".as_slice()
+        && !is_version_2_0(response.version.as_bytes())
 }
 
 #[test]
 fn responses(rt: HostRuntime) -> Result<(), Fail> {
     let text = b"RTSP/1.0 200 OK\r\nCSeq: 1\r\n\r\n";
-    let Some((item, len)) = read_item(rt.alloc(), text)? else {
-        panic!(rt; "no item");
-    };
-    let Item::Response(response) = item else {
-        panic!(rt; "no response");
-    };
-    assert_eq!(rt; len, text.len());
-    assert_eq!(rt; response.status, 200);
-    assert_eq!(rt; response.reason.as_bytes(), b"OK".as_slice());
-    assert!(rt; !is_version_2_0(response.version.as_bytes()));
+    let response = response_in(rt.alloc(), text);
+    assert!(rt; matches!(response, Some((ref it, 28)) if is_of_version_1(it)));
     assert!(rt; is_version_2_0(b"RTSP/02.00"));
+    Ok(())
+}
 
-    let mut draft = Draft::with_room(rt.alloc(), 1, 8)?;
+// A response with no reason, and one header.
+fn short_response(alloc: Global) -> Result<Response, AllocError> {
+    let mut draft = Draft::with_room(alloc, 1, 8)?;
     draft.push(b"CSeq", b"12")?;
-    let response = Response {
+    Ok(Response {
         version: Text::fixed(b"RTSP/2.0"),
         status: 7,
         reason: Text::fixed(b""),
         headers: draft.into_headers(),
-        body: Text::from_vec(Vec::new(rt.alloc())),
-    };
+        body: Text::from_vec(Vec::new(alloc)),
+    })
+}
+
+#[test]
+fn written_responses(rt: HostRuntime) -> Result<(), Fail> {
     let mut out = Vec::new(rt.alloc());
-    write_response(&mut out, &response)?;
+    write_response(&mut out, &short_response(rt.alloc())?)?;
     assert_eq!(rt;
         out.as_slice(),
         b"RTSP/2.0 007 \r\nCSeq: 12\r\n\r\n".as_slice()
     );
-    assert!(rt; matches!(read_item(rt.alloc(), &out)?, Some((Item::Response(_), 27))));
+    assert!(rt; matches!(response_in(rt.alloc(), &out), Some((_, 27))));
     Ok(())
 }
 
