@@ -1,5 +1,7 @@
--- A fault of a reader or of a writer is told where it was counted, and nowhere else.
-use Rattle.std.specs.Prelude.{◌≡◌, ℕ, Option, Some, None}
+-- A fault of a reader or of a writer is told where it was counted, and nowhere else; the end of the input is told where the reader
+-- is at its end.
+use Rattle.std.specs.Prelude.{◌≡◌, ℕ, List, Option, Some, None}
+use Rattle.std.specs.Io.KnownBytes.{IsAtEnd}
 use Rattle.rtspd.specs.Streams.{raised}
 use Rattle.rtspd.specs.declared.serving.ServeEnd.{ServeEnd}
 use Rattle.rtspd.specs.declared.serving.ServeEnd.TheVariants.{Closed, ReadFault, WriteFault, Fault, TurnsSpent}
@@ -46,3 +48,16 @@ TurnWriteFails (Some end) old new = WriteFails end old new
 abbrev pub TurnReadFails : Option ServeEnd → ℕ → ℕ → Type 0
 TurnReadFails None old new = new ≡ old
 TurnReadFails (Some end) old new = ReadFails end old new
+
+-- where a connection closed, its reader has no byte left
+abbrev pub ClosesAtEnd : ServeEnd → Option (List ℕ) → Type 0
+ClosesAtEnd Closed left = IsAtEnd left
+ClosesAtEnd ReadFault left = Unit {0}
+ClosesAtEnd WriteFault left = Unit {0}
+ClosesAtEnd (Fault fault) left = Unit {0}
+ClosesAtEnd TurnsSpent left = Unit {0}
+
+-- the same of a turn
+abbrev pub TurnClosesAtEnd : Option ServeEnd → Option (List ℕ) → Type 0
+TurnClosesAtEnd None left = Unit {0}
+TurnClosesAtEnd (Some end) left = ClosesAtEnd end left

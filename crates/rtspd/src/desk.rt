@@ -1,7 +1,7 @@
 //! What the items of one connection are answered from.
 ghost use Rattle.std.specs.Prelude.{◌≡◌, [], IfOk, IfErr, OnOk, OnErr};
 ghost use Rattle.rtspd.specs.Served.{EndsFrom};
-ghost use Rattle.rtspd.specs.Causes.{ReadFails, WriteFails};
+ghost use Rattle.rtspd.specs.Causes.{ReadFails, WriteFails, ClosesAtEnd};
 ghost use Rattle.rtspd.specs.Conversing.{standing, Answers, GivesUp};
 
 use crate::conversing::{Asker, respond};
@@ -56,6 +56,7 @@ pub fn stdio_core<B: BookRep, R: ByteIn, W: ByteOut>(
     ensures served { EndsFrom (λ old item bytes new. Answers old.table old.asker (standing old.kept old.words) item bytes (standing new.kept new.words) × (new.table ≡ old.table) × (new.asker ≡ old.asker)) (λ old item new. GivesUp old.table old.asker (standing old.kept old.words) item (standing new.kept new.words) × (new.table ≡ old.table) × (new.asker ≡ old.asker)) [] result (R.remaining reader.old) (R.remaining reader.new) (W.contents writer.old) (W.contents writer.new) desk.old desk.new }
     ensures read_fault { ReadFails result (R.failures reader.old) (R.failures reader.new) }
     ensures write_fault { WriteFails result (W.failures writer.old) (W.failures writer.new) }
+    ensures closed { ClosesAtEnd result (R.remaining reader.new) }
 {
     serve_turns(alloc, desk, reader, writer, TURNS)
 }

@@ -1,7 +1,7 @@
 //! Serves one connection: reads its items, has each answered in its turn, and writes the answers.
 ghost use Rattle.std.specs.Prelude.{◌≡◌, ◌≤◌, ◌<◌, ℕ, List, [], Option, length, take, drop, IfSome, IfNone, OnOk, OnErr};
 ghost use Rattle.rtspd.specs.Served.{Served, Progress, Answered, EndsFrom, EndsHere, Stops, Follows, Told, LostOrNot};
-ghost use Rattle.rtspd.specs.Causes.{ReadFails, WriteFails, NextFails, StopFails, TurnReadFails, TurnWriteFails};
+ghost use Rattle.rtspd.specs.Causes.{ReadFails, WriteFails, NextFails, StopFails, TurnReadFails, TurnWriteFails, ClosesAtEnd, TurnClosesAtEnd};
 ghost use Rattle.rtsp_grammar.specs.Answer.{IsUndecided};
 ghost use Rattle.rtsp_grammar.specs.declared.message.Item.{Item};
 
@@ -145,6 +145,7 @@ fn after_read<A: Answerer, W: ByteOut>(
     ensures undecided { IfNone result (IsUndecided buffer.new.items) }
     ensures ends { IfSome result (λ e. EndsHere A.answers A.gives_up buffer.old.items e (W.contents writer.old) (W.contents writer.new) answerer.old answerer.new) }
     ensures cause { TurnWriteFails result (W.failures writer.old) (W.failures writer.new) }
+    ensures open { (left : Option (List ℕ)) → TurnClosesAtEnd result left }
 {
     let (at, stop) = answer_items(alloc, answerer, buffer.as_slice(), out, writer);
     match stop {
@@ -175,6 +176,7 @@ fn turn<A: Answerer, R: ByteIn, W: ByteOut>(
     ensures ends { IfSome result (λ e. EndsFrom A.answers A.gives_up buffer.old.items e (R.remaining reader.old) (R.remaining reader.new) (W.contents writer.old) (W.contents writer.new) answerer.old answerer.new) }
     ensures reads { TurnReadFails result (R.failures reader.old) (R.failures reader.new) }
     ensures writes { TurnWriteFails result (W.failures writer.old) (W.failures writer.new) }
+    ensures closed { TurnClosesAtEnd result (R.remaining reader.new) }
 {
     let mut piece = [0u8; 4096];
     match reader.read(&mut piece) {
@@ -203,6 +205,8 @@ pub fn serve_turns<A: Answerer, R: ByteIn, W: ByteOut>(
     // A fault of the reader or of the writer is told where it was counted, and nowhere else.
     ensures read_fault { ReadFails result (R.failures reader.old) (R.failures reader.new) }
     ensures write_fault { WriteFails result (W.failures writer.old) (W.failures writer.new) }
+    // The end of the input is told where the reader is at its end.
+    ensures closed { ClosesAtEnd result (R.remaining reader.new) }
 {
     let mut buffer: Vec<u8> = Vec::new(alloc);
     let mut out: Vec<u8> = Vec::new(alloc);
