@@ -16,7 +16,7 @@ use rtsp_record::{Entry, JournalFault, Whole, read_journal, write_journal};
 use rtsp_undo::{AuditFault, book_text, replay, rewind, without_admission, without_session};
 use std::alloc::Global;
 use std::fs;
-use std::io::{Read, Write};
+use std::io::{self, ErrorKind, Read, Write};
 use std::rt::Files;
 
 /// The address of the player that stands at standard input: 127.0.0.1.
@@ -67,6 +67,14 @@ struct Omitted {
     admission: Option<u64>,
 }
 
+// What it means that a file can't be read or written.
+fn file_fault(error: &io::Error) -> Exit {
+    match error.kind() {
+        ErrorKind::OutOfMemory => Exit::OutOfMemory,
+        _ => Exit::DeviceFailed,
+    }
+}
+
 // The configuration of a file, or the example where none is named.
 pub(crate) fn read_table<R: Files + AllocGlobal>(
     rt: &R,
@@ -75,7 +83,7 @@ pub(crate) fn read_table<R: Files + AllocGlobal>(
     let read = match config {
         Some(path) => match fs::read(rt, path) {
             Ok(text) => Table::read(rt.alloc(), &text),
-            Err(_) => return Err(Exit::DeviceFailed),
+            Err(error) => return Err(file_fault(&error)),
         },
         None => Table::read(rt.alloc(), EXAMPLE.as_bytes()),
     };
@@ -162,13 +170,14 @@ fn write_out<R: Files + AllocGlobal>(rt: &R, path: &str, journal: &[Entry]) -> R
     }
     match fs::write(rt, path, text.as_slice()) {
         Ok(()) => Ok(()),
-        Err(_) => Err(Exit::DeviceFailed),
+        Err(error) => Err(file_fault(&error)),
     }
 }
 
 fn read_in<R: Files + AllocGlobal>(rt: &R, path: &str) -> Result<Vec<Entry>, Exit> {
-    let Ok(text) = fs::read(rt, path) else {
-        return Err(Exit::DeviceFailed);
+    let text = match fs::read(rt, path) {
+        Ok(text) => text,
+        Err(error) => return Err(file_fault(&error)),
     };
     match read_journal(rt.alloc(), &text) {
         Ok(journal) => Ok(journal),
