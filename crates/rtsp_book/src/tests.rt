@@ -2,7 +2,7 @@ ghost use Rattle.rtsp_book.specs.Choices.{HasPorts};
 ghost use Rattle.rtsp_book.specs.Replies.{IsAskable};
 
 use crate::*;
-use rtsp_record::{Entry, Record, Stream, Thing, Whole};
+use rtsp_record::{Entry, Phase, Record, Stream, Thing, Whole};
 use std::test::Fail;
 
 const SMALL: Whole = Whole {
@@ -273,5 +273,51 @@ fn a_full_journal_refuses_growing_steps_alone(rt: HostRuntime) -> Result<(), Fai
         assert!(rt; kept.undo_last()?.is_some());
     }
     assert!(rt; kept.undo_last()?.is_none());
+    Ok(())
+}
+
+// Whether the view is that of the session above with its stream over a pair.
+fn shows_the_stream(view: &SessionView) -> bool {
+    view.session() == 2
+        && view.id() == 1
+        && view.conn() == 1
+        && view.expires() == 60_000
+        && view.phase() == (Phase::Ready { at: 0, sent: 0 })
+        && view.binding().is_none()
+        && view.admissions().len() == 1
+        && view.under(3).stream == Some(OVER_PORTS)
+        && view.others_holding(4) == 1
+        && view.with_track(0).is_some()
+        && !view.has_channels_of(1)
+        && view.count(&Tally::Returns) == 4
+}
+
+#[test]
+fn a_session_is_looked_up(rt: HostRuntime) -> Result<(), Fail> {
+    let kept = with_stream(&rt, &SMALL)?;
+    let book = kept.book();
+    let view = book.session(2);
+    assert!(rt; matches!(view, Some(ref it) if shows_the_stream(it)));
+    assert_eq!(rt; book.next_session(0), Some(2));
+    assert_eq!(rt; book.by_id(1), Some(2));
+    assert!(rt; book.by_startup(1, 7).is_none());
+    assert_eq!(rt; book.due(60_000), Some(2));
+    assert!(rt; book.on_conn(1).is_none());
+    assert_eq!(rt; book.least_chan(1, Some(2)), Some(2));
+    assert_eq!(rt; book.living(), 1);
+    assert_eq!(rt; book.owed(), 4);
+    Ok(())
+}
+
+#[test]
+fn numbers_are_drawn_from_1(rt: HostRuntime) -> Result<(), Fail> {
+    let book: PlainBook = PlainBook::open(rt.alloc(), &SMALL)?;
+    let mut kept = Kept::of_parts(&SMALL, book, Vec::new(rt.alloc()))?;
+    assert_eq!(rt; kept.whole().pairs, SMALL.pairs);
+    assert_eq!(rt; kept.next_number(), 1);
+    assert_eq!(rt; kept.draw(), Ok(1));
+    assert_eq!(rt; kept.draw(), Ok(2));
+    law_granted();
+    law_giving_back();
     Ok(())
 }

@@ -71,3 +71,11 @@ fn writes_three_decimals(rt: HostRuntime) -> Result<(), Fail> {
     assert_eq!(rt; out.as_slice(), b"0.020".as_slice());
     Ok(())
 }
+
+// The laws hold of every time and range; here they are called.
+#[test]
+fn laws_are_called() {
+    crate::law_reads_back();
+    crate::law_units_stay();
+    crate::law_fits_header();
+}

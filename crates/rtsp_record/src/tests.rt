@@ -1,7 +1,7 @@
 use crate::fields::{Field, write_line};
 use crate::{
     Entry, JournalFault, Phase, Record, Stream, Thing, due, inverse, point, read_journal,
-    write_journal,
+    sent_with_due, write_entry, write_journal,
 };
 use std::test::Fail;
 
@@ -207,5 +207,29 @@ fn a_line_is_written_from_its_fields(rt: HostRuntime) -> Result<(), Fail> {
         text.as_slice(),
         b"session 000000000000000000000000000000ab 0000000c 7 playing:0:0:500:0\n".as_slice()
     );
+    Ok(())
+}
+
+// The laws hold of every journal; here they are called.
+#[test]
+fn laws_are_called() {
+    crate::law_last_words();
+    crate::law_one_answer();
+    crate::law_one_journal();
+    crate::law_reads_back();
+    crate::law_one_line();
+}
+
+#[test]
+fn an_entry_is_written_as_a_line(rt: HostRuntime) -> Result<(), Fail> {
+    let mut text = Vec::new(rt.alloc());
+    let change = Record::Bind {
+        session: 2,
+        conn: 1,
+        number: 7,
+    };
+    write_entry(&mut text, &by_server(change))?;
+    assert_eq!(rt; text.as_slice(), b"0 bind 2 1 7\n".as_slice());
+    assert_eq!(rt; sent_with_due(&PLAY, 20, 20), 2);
     Ok(())
 }

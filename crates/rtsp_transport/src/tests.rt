@@ -1,6 +1,6 @@
 use crate::{
     Granted, Pick, TextFault, is_known, pick, read_cseq, read_session, read_startup, read_tags,
-    read_transports, session_id, write_session_id, write_transport,
+    read_transports, session_id, write_session_id, write_ssrc, write_transport,
 };
 use std::test::Fail;
 
@@ -86,6 +86,9 @@ fn transports_of_answers(rt: HostRuntime) -> Result<(), Fail> {
         out.as_slice(),
         b"RTP/AVP/TCP;unicast;interleaved=0-1;ssrc=00000001".as_slice()
     );
+    out.clear();
+    write_ssrc(&mut out, 0xab)?;
+    assert_eq!(rt; out.as_slice(), b"000000ab".as_slice());
     Ok(())
 }
 

@@ -283,3 +283,23 @@ fn a_session_that_ended_is_not_printed(rt: HostRuntime) -> Result<(), Fail> {
     );
     Ok(())
 }
+
+// The laws hold of every legal journal; here they are called.
+#[test]
+fn laws_are_called() {
+    let journal = two_sessions();
+    let (before, last) = (&journal[..9], &journal[9]);
+    law_back(&WHOLE, &journal, 0);
+    law_one_back(&WHOLE, before, last, 0);
+    law_whole(&WHOLE, &journal);
+    law_pairs(&WHOLE, &journal);
+    law_less_session(&WHOLE, &journal, 11);
+    law_less_gone(&WHOLE, &journal, 11);
+    law_ended(&WHOLE, &journal, 11);
+    law_less_admission(&WHOLE, &journal, 13);
+    law_strands(&journal, &journal);
+    law_exchange(&WHOLE, &journal[..8], &journal[8], last);
+    law_returning(&WHOLE, before, last);
+    law_session_fits(&WHOLE, &journal, 11);
+    law_admission_fits(&WHOLE, &journal, 13);
+}
