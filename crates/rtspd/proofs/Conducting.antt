@@ -1,5 +1,5 @@
 -- What was conducted where the response is lost.
-use Rattle.std.proofs.Common.{◌≡◌, ℕ, ◌+◌, ◌*◌, ◌/◌, ◌%◌, ◌≤◌, Bool, true, false, List, refl, sym, ap, subst, inl, inr, ◌∙◌}
+use Rattle.std.proofs.Common.{◌≡◌, ℕ, true, false, List, refl, sym, ap, subst, inl, inr, ◌∙◌}
 use Rattle.std.specs.Prelude.{Option, Some, None, Result, Ok, Err, OnErr, IfOk, is_some}
 use Rattle.rtsp_grammar.specs.declared.message.Item.{Item}
 use Rattle.rtsp_grammar.specs.declared.message.Item.TheVariants as items
@@ -23,7 +23,7 @@ use Rattle.rtsp_state.specs.Screen.{screen}
 use Rattle.rtspd.specs.declared.conversing.Asker.{Asker}
 use Rattle.rtspd.specs.declared.words_given.Words.{Words}
 use Rattle.rtspd.specs.Admitting.{Acts, Admits}
-use Rattle.rtspd.specs.Conversing.{Standing, standing, is_conducted, ConductsStep, ConductsWith, ConductsWanted, ConductsAsk, Conducts, RespondsNamed, Renews, numbers_of, filled, words_after, named, Responds, Answers, GivesUpScreened, GivesUp}
+use Rattle.rtspd.specs.Conversing.{Standing, standing, is_conducted, ConductsStep, ConductsWith, ConductsWanted, ConductsAsk, Conducts, RespondsNamed, Renews, filled, words_after, named, Responds, Answers, GivesUpScreened, GivesUp}
 
 pub on_err : {A E : Type 0} {P : Type 0} (r : Result A E) → P → OnErr r P
 on_err (Ok x) p = tt

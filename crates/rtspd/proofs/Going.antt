@@ -1,17 +1,16 @@
 -- How a serving goes on.
-use Rattle.std.proofs.Common.{◌≡◌, ℕ, ◌+◌, ◌<◌, ◌≤◌, ◌⊎◌, List, [], ◌++◌, ◌∷◌, Option, refl, sym, ◌∙◌, ap, subst, append_assoc, append-nil, take, drop, length, arith, inl, inr, length-append}
+use Rattle.std.proofs.Common.{◌≡◌, ℕ, ◌+◌, ◌⊎◌, List, [], ◌++◌, ◌∷◌, Option, refl, sym, ◌∙◌, ap, subst, append_assoc, append-nil, take, drop, inl, inr}
 use Rattle.std.specs.Prelude.{Ok}
 use Rattle.std.proofs.lemmas.List.{take-append-drop}
 use Rattle.std.proofs.Math.Seq.{take-add}
 use Rattle.std.specs.Io.KnownBytes.{Appends, Consumes}
 use Rattle.rtsp_grammar.specs.Answer.{Decides, IsUndecided, HasFault}
-use Rattle.rtsp_grammar.specs.Item.{Spells}
 use Rattle.rtsp_grammar.specs.declared.fault.MessageFault.{MessageFault}
 use Rattle.rtsp_grammar.specs.declared.fault.MessageFault.TheVariants.{OutOfMemory}
 use Rattle.rtsp_grammar.specs.declared.message.Item.{Item}
 use Rattle.rtspd.specs.Complaints.{complaint}
 use Rattle.rtspd.specs.Streams.{WritesPart}
-use Rattle.rtspd.specs.Served.{Served, Answered, Progress, LostOrNot, InHand, IsLost, Faulted, BreaksOff, EndsFrom, EndsHere, Stops, Told, Follows}
+use Rattle.rtspd.specs.Served.{Served, Answered, Progress, LostOrNot, IsLost, Faulted, EndsFrom, EndsHere, Stops, Told, Follows}
 use Rattle.rtspd.specs.declared.serving.ServeEnd.{ServeEnd}
 use Rattle.rtspd.specs.declared.serving.ServeEnd.TheVariants.{Closed, ReadFault, WriteFault, Fault, TurnsSpent}
 use Rattle.rtspd.specs.declared.serving.Next.{Next}

@@ -1,13 +1,13 @@
 -- What an accepted hold records.
-use Rattle.std.proofs.Common.{◌≡◌, ℕ, Bool, true, false, cond, List, [], ◌∷◌, length, refl, sym, ◌∙◌, ap, subst}
-use Rattle.std.specs.Prelude.{Option, Some, None, Result, Ok, is_none}
+use Rattle.std.proofs.Common.{◌≡◌, ℕ, false, List, [], ◌∷◌, length, sym, ◌∙◌, ap, subst}
+use Rattle.std.specs.Prelude.{Option, Some, None, Ok, is_none}
 use Rattle.rtsp_record.specs.declared.changes.Record.{Record}
 use Rattle.rtsp_record.specs.declared.changes.Record.TheVariants as change
 use Rattle.rtsp_record.specs.declared.holdings.Thing.{Thing}
 use Rattle.rtsp_record.specs.declared.holdings.Thing.TheVariants.{Pair, Chan, Rate}
 use Rattle.rtsp_record.specs.declared.holdings.Whole.{Whole}
 use Rattle.rtsp_record.specs.declared.changes.Entry.{Entry}
-use Rattle.rtsp_record.specs.Books.{Book, book_of}
+use Rattle.rtsp_record.specs.Books.{book_of}
 use Rattle.rtsp_record.specs.Rules.{IsAddress}
 use Rattle.rtsp_book.specs.declared.asks.Ask.{Ask}
 use Rattle.rtsp_book.specs.declared.asks.Wanted.{Wanted}
@@ -16,8 +16,8 @@ use Rattle.rtsp_book.specs.declared.steps.Step.TheVariants.{HoldRate, HoldPair, 
 use Rattle.rtsp_book.specs.Choices.{least_pair, chosen_chan}
 use Rattle.rtsp_book.specs.Made.{as_pair, as_chan, hold_chosen, made}
 use Rattle.rtsp_book.specs.Replies.{reply, refusals}
-use Rattle.rtsp_book.proofs.Granted.{NoneFits, accepted}
-use Rattle.rtspd.specs.Admitting.{address_step, rate_step, held_in}
+use Rattle.rtsp_book.proofs.Granted.{accepted}
+use Rattle.rtspd.specs.Admitting.{address_step, held_in}
 
 -- the records of a rate that is held
 pub rate_held : (w : Whole) (j : List Entry) (s a n : ℕ) (rs : List Record) → reply w j (HoldRate s a n) ≡ Ok rs → rs ≡ change.Hold s a (Rate n) ∷ []

@@ -1,7 +1,7 @@
 -- What a connection has written, from what it has read. `R old item answer new` says how one item is answered: with which
 -- bytes, and what then stands in the place of what stood before. `L old item new` says what may stand where memory ran out
 -- before the item had an answer.
-use Rattle.std.specs.Prelude.{◌≡◌, ◌⊎◌, ◌<◌, ℕ, List, [], ◌∷◌, ◌++◌, take, Option, Ok}
+use Rattle.std.specs.Prelude.{◌≡◌, ◌⊎◌, ℕ, List, [], ◌∷◌, ◌++◌, Option, Ok}
 use Rattle.std.specs.Io.KnownBytes.{Appends, Consumes}
 use Rattle.rtsp_grammar.specs.Answer.{Decides, IsUndecided, HasFault}
 use Rattle.rtsp_grammar.specs.Item.{Spells}

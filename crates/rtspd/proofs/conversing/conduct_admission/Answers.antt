@@ -1,4 +1,4 @@
-use Rattle.std.proofs.Common.{◌≡◌, Bool, sym, ap, ◌∙◌}
+use Rattle.std.proofs.Common.{Bool, sym, ap, ◌∙◌}
 use Rattle.rtspd.specs.Conversing.{standing, words_after}
 use Rattle.rtspd.proofs.Conducting.{on_err, pair_lost, words_lost}
 use Rattle.rtspd.proofs.conversing.conduct_admission.Goals as goal

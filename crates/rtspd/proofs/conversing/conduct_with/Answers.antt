@@ -1,4 +1,4 @@
-use Rattle.std.proofs.Common.{◌≡◌, Bool, sym, ap, ◌∙◌, subst}
+use Rattle.std.proofs.Common.{Bool, sym, ap, ◌∙◌, subst}
 use Rattle.rtsp_book.specs.declared.asks.Ask.{Ask}
 use Rattle.rtspd.specs.Admitting.{Admits}
 use Rattle.rtspd.specs.Conversing.{numbers_of}

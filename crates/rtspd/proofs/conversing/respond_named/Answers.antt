@@ -1,4 +1,4 @@
-use Rattle.std.proofs.Common.{◌≡◌, ℕ, Option, Some, None, sym, ap, subst, ◌∙◌, refl, inl, inr}
+use Rattle.std.proofs.Common.{ℕ, Option, Some, None, ap, subst, ◌∙◌, refl, inl, inr}
 use Rattle.rtsp_record.specs.Books.{Session, Book}
 use Rattle.rtsp_book.specs.declared.steps.Step.{Step}
 use Rattle.rtspd.specs.Conversing.{standing, named, renewal_named, Renews}

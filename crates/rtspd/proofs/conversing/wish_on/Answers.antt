@@ -1,4 +1,4 @@
-use Rattle.std.proofs.Common.{ℕ, ◌/◌, ◌*◌, ◌≡◌, arith, rules}
+use Rattle.std.proofs.Common.{◌/◌, rules}
 use Rattle.rtspd.proofs.conversing.wish_on.Goals as goal
 
 pub returns-then-channel-le254-clause-well : goal.returns-then-channel-le254-clause-well

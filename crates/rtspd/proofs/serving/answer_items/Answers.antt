@@ -1,7 +1,6 @@
 use Rattle.std.proofs.Common.{ap, length, ◌∙◌, arith}
 use Rattle.std.proofs.lemmas.List.{length-drop}
 use Rattle.rtspd.proofs.Going.{done_more, fault_stop}
-use Rattle.rtspd.proofs.Sizes.{takes_some}
 use Rattle.rtspd.proofs.serving.answer_items.Goals as goal
 
 pub loop-size-preserved : goal.loop-size-preserved

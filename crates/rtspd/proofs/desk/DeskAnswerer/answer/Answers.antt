@@ -1,4 +1,4 @@
-use Rattle.std.proofs.Common.{◌≡◌, inl, inr, refl}
+use Rattle.std.proofs.Common.{inl, inr, refl}
 use Rattle.rtsp_grammar.specs.Writing.{response_text}
 use Rattle.rtspd.specs.Conversing.{standing}
 use Rattle.rtspd.proofs.Conducting.{on_err, answered_by, given_up}

@@ -1,0 +1,6 @@
+pub mod Entries
+pub mod Views
+pub mod Holder
+pub mod Keeping
+pub mod Answering
+pub mod Runs

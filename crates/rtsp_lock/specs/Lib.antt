@@ -1,0 +1,6 @@
+pub mod Entries
+pub mod Rule
+pub mod Steps
+pub mod Named
+pub mod Calls
+pub mod Laws
