@@ -1,21 +1,13 @@
 -- The laws of answers.
-use Rattle.std.proofs.Common.{refl, arith, ◌≡◌, inl, inr, ℕ, List, [], ◌∷◌, ◌++◌, Option, Some, None}
-use Rattle.rtsp_record.specs.declared.changes.Record.{Record}
+use Rattle.std.proofs.Common.{refl, arith, ◌≡◌}
 use Rattle.rtsp_book.specs.declared.refusals.Refusal.{Refusal}
 use Rattle.rtsp_book.specs.declared.refusals.Refusal.TheVariants as refusals
-use Rattle.rtsp_book.specs.declared.asks.Admitted.{Admitted}
 use Rattle.rtsp_state.specs.declared.status.Status.TheVariants as statuses
 use Rattle.rtsp_state.specs.declared.fault.Fault.TheVariants as faults
 use Rattle.rtsp_state.specs.declared.lines.Front.{Front}
-use Rattle.rtsp_state.specs.declared.plan.Shows.{Shows}
-use Rattle.rtsp_state.specs.declared.plan.Shows.TheVariants as shows
-use Rattle.rtsp_state.specs.declared.plan.Stepping.{Stepping}
-use Rattle.rtsp_state.specs.declared.plan.Admission.{Admission}
 use Rattle.rtsp_state.specs.Status.{code, status_of}
-use Rattle.rtsp_state.specs.Lines.{front_lines}
 use Rattle.rtsp_state.specs.Response.{turned_down}
-use Rattle.rtsp_state.specs.Answer.{moved, shown_lines}
-use Rattle.rtsp_state.specs.Laws.{AnswersRefusal, ShowsAllowed, AreInOrder, AnswersInOrder}
+use Rattle.rtsp_state.specs.Laws.{AnswersRefusal, ShowsAllowed}
 
 turned_by : (front : Front) (r : Refusal) → (turned_down front r).status ≡ code (status_of r)
 turned_by front refusals.NoSession = refl
@@ -56,17 +48,3 @@ shows_allowed front (faults.Refused statuses.VersionNotSupported) e = absurd (om
 shows_allowed front (faults.Refused statuses.OptionNotSupported) e = absurd (omega (arith, e))
 shows_allowed front (faults.Unsupported tags) e = absurd (omega (arith, e))
 shows_allowed front faults.OutOfMemory e = absurd (omega (arith, e))
-
-stepped : (cseq : ℕ) (session : Option ℕ) (shows_ : Shows) (receipt : List Record) → AreInOrder (front_lines (record { cseq = cseq; session = session }) ++ shown_lines shows_ (moved receipt))
-stepped cseq None shows.Nothing receipt = inl (refl, tt)
-stepped cseq (Some id) shows.Nothing receipt = inl (refl, inl (refl, tt))
-stepped cseq None (shows.Paused timing at) receipt = inl (refl, inr (inr (inr (inr (inr (inr (inr (inr (inl (refl, tt))))))))))
-stepped cseq (Some id) (shows.Paused timing at) receipt = inl (refl, inl (refl, inr (inr (inr (inr (inr (inr (inr (inl (refl, tt))))))))))
-stepped cseq None (shows.Played timing parts) receipt = inl (refl, inr (inr (inr (inr (inr (inr (inr (inr (inl (refl, inl (refl, inl (refl, tt))))))))))))
-stepped cseq (Some id) (shows.Played timing parts) receipt = inl (refl, inl (refl, inr (inr (inr (inr (inr (inr (inr (inl (refl, inl (refl, inl (refl, tt))))))))))))
-
-pub answers_in_order : AnswersInOrder
-answers_in_order = record {
-  admitted = λ a made. inl (refl, inl (refl, inr (inr (inr (inl (refl, inl (refl, inl (refl, inl (refl, tt)))))))));
-  stepped = λ s receipt. stepped s.done.cseq s.done.session s.shows receipt;
-}

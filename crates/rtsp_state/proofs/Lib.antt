@@ -5,4 +5,9 @@ pub mod PickLemmas
 pub mod LineLemmas
 pub mod ParameterLemmas
 pub mod InfoLemmas
+pub mod RuleLemmas
+pub mod RowLemmas
+pub mod OrderLemmas
+pub mod ShownLemmas
+pub mod ValidLemmas
 pub mod LawLemmas

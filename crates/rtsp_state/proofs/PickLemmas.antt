@@ -1,12 +1,12 @@
 -- There is one pick of a list.
-use Rattle.std.proofs.Common.{◌≡◌, ℕ, List, [], ◌∷◌, ◌++◌, refl, sym, ap, subst, ◌∙◌, Option}
+use Rattle.std.proofs.Common.{◌≡◌, ℕ, List, [], ◌∷◌, ◌++◌, refl, sym, ap, subst, ◌∙◌}
 use Rattle.std.specs.List.{AllByRecursion}
 use Rattle.rtsp_transport.specs.Fitting.{fit_of}
-use Rattle.rtsp_transport.specs.Picking.{IsForeign, IsUsable, NotUsable, IsFirst, HasForeign, Picks, prohibited_or, better, pick_of}
+use Rattle.rtsp_transport.specs.Picking.{IsForeign, IsUsable, NotUsable, IsFirst, HasForeign, Picks, pick_of}
 use Rattle.rtsp_transport.specs.declared.choice.Pick.{Pick}
 use Rattle.rtsp_transport.specs.declared.choice.Pick.TheVariants.{Udp, Inter, Unsupported, Prohibited}
 use Rattle.rtsp_transport.specs.declared.spec.Spec.{Spec}
-use Rattle.rtsp_transport.proofs.FittingLemmas.{Fits, fits, usable_only, foreign_only}
+use Rattle.rtsp_transport.proofs.FittingLemmas.{usable_only}
 use Rattle.rtsp_transport.proofs.PickingLemmas.{picks}
 
 -- none of those that are no use is usable

@@ -1,6 +1,6 @@
 -- What the lower crates read, as functions of the text.
-use Rattle.std.proofs.Common.{◌≡◌, ◌⊎◌, ℕ, ◌<◌, ◌^◌, Bool, true, false, List, [], ◌∷◌, length, drop, Option, Some, None, Result, Ok, Err, refl, sym, ap, subst, ◌∙◌, inl, inr, arith, eqb}
-use Rattle.std.specs.Prelude.{IsTrue, ◌↔◌, IfSome, IfOk, IfErr, ◌&&◌, is_some}
+use Rattle.std.proofs.Common.{◌≡◌, ◌⊎◌, ℕ, Bool, true, false, List, drop, Option, Some, None, Result, Ok, Err, refl, sym, ap, subst, ◌∙◌, inl, inr, eqb}
+use Rattle.std.specs.Prelude.{IsTrue, ◌↔◌, ◌&&◌}
 use Rattle.std.proofs.lemmas.Bool.{eqb-true, eq-eqb}
 use Rattle.rtsp_grammar.specs.Cut.{cut}
 use Rattle.rtsp_grammar.specs.Number.{number_of}
@@ -10,7 +10,7 @@ use Rattle.rtsp_grammar.proofs.VersionLemmas.{version_found, version_cut, versio
 use Rattle.rtsp_transport.specs.Number as digits
 use Rattle.rtsp_transport.specs.Number.{SpellsNumber}
 use Rattle.rtsp_transport.specs.Session.{SpellsSession, is_session_name, name_of}
-use Rattle.rtsp_transport.specs.Reads.{Reads, Answers, Refuses, IsSpelled}
+use Rattle.rtsp_transport.specs.Reads.{Reads, Refuses, IsSpelled}
 use Rattle.rtsp_transport.specs.declared.fault.TextFault.{TextFault}
 use Rattle.rtsp_transport.specs.declared.fault.TextFault.TheVariants.{Malformed, OutOfMemory}
 use Rattle.rtsp_transport.proofs.BoolLemmas.{both_true, and_true}
@@ -19,7 +19,6 @@ use Rattle.rtsp_transport.proofs.NumberLemmas.{numbers}
 use Rattle.rtsp_transport.proofs.SessionLemmas.{name_only, name_spelled}
 use Rattle.std.specs.Str.{IsUtf8, is_utf8}
 use Rattle.std.proofs.lemmas.Str.{IsUtf8-from_is_utf8, is_utf8-from_IsUtf8}
-use Rattle.url.specs.Parts.{Parts}
 use Rattle.rtsp_state.specs.declared.fault.Fault.{Fault}
 use Rattle.rtsp_state.specs.declared.fault.Fault.TheVariants as faults
 use Rattle.rtsp_state.specs.Values.{is_2_0, session_name, uri_of, rtsp_url, fault_of, read_by}

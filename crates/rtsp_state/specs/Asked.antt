@@ -1,6 +1,6 @@
 -- What a request asks, and what it is refused for before a session is looked at: the first six places of the order.
-use Rattle.std.specs.Prelude.{◌≡◌, ℕ, Bool, not, ◌==◌, List, [], ◌∷◌, ◌++◌, length, codes, bytes_eq, filter, Option, Some, None, Result, Ok, Err, if◌then◌else◌}
-use Rattle.rtsp_grammar.specs.Header.{HeaderText, values_of}
+use Rattle.std.specs.Prelude.{ℕ, not, List, [], ◌∷◌, codes, bytes_eq, Option, Some, None, Result, Ok, Err, if◌then◌else◌}
+use Rattle.rtsp_grammar.specs.Header.{HeaderText}
 use Rattle.rtsp_grammar.specs.declared.message.Request.{Request}
 use Rattle.rtsp_transport.specs.Number.{number_of}
 use Rattle.rtsp_content.specs.TableValue.{TableValue}

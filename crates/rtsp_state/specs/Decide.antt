@@ -1,5 +1,5 @@
 -- The plan of a request: the rest of the order of refusals, and the state table.
-use Rattle.std.specs.Prelude.{◌≡◌, ℕ, ◌+◌, ◌*◌, ◌-◌, ◌^◌, not, min, [], Option, Some, None, Result, Ok, Err}
+use Rattle.std.specs.Prelude.{ℕ, not, [], Option, Some, None, Result, Ok, Err}
 use Rattle.rtsp_grammar.specs.declared.message.Request.{Request}
 use Rattle.rtsp_grammar.specs.declared.message.Response.{Response}
 use Rattle.rtsp_book.specs.declared.refusals.Refusal.{Refusal}

@@ -1,13 +1,12 @@
 -- DESCRIBE (RFC 7826 section 13.2): a presentation; a track.
-use Rattle.std.specs.Prelude.{◌≡◌, ℕ, ◌==◌, ◌||◌, Bool, not, nat_le, List, [], ◌∷◌, ◌++◌, length, codes, slice_get, Option, Some, None, Result, Ok, Err, if◌then◌else◌}
+use Rattle.std.specs.Prelude.{ℕ, List, [], ◌∷◌, slice_get, Result, Ok, Err}
 use Rattle.rtsp_state.specs.declared.status.Status.TheVariants.{BadRequest, NotFound}
 use Rattle.rtsp_state.specs.declared.fault.Fault.{Fault}
 use Rattle.rtsp_state.specs.declared.fault.Fault.TheVariants.{Refused}
 use Rattle.rtsp_state.specs.declared.asked.Aim.{Aim}
 use Rattle.rtsp_state.specs.declared.asked.Aim.TheVariants as aims
 use Rattle.rtsp_state.specs.declared.plan.Plan.{Plan}
-use Rattle.rtsp_state.specs.declared.plan.Plan.TheVariants as plans
-use Rattle.rtsp_state.specs.Fault.{◌>>=◌, must}
+use Rattle.rtsp_state.specs.Fault.{◌>>=◌}
 use Rattle.rtsp_content.specs.Sdp.{sdp_of}
 use Rattle.rtsp_state.specs.declared.words.Word.TheVariants as words
 use Rattle.rtsp_state.specs.Lines.{base_line, type_line, length_line}

@@ -1,5 +1,5 @@
 -- GET_PARAMETER (RFC 7826 section 13.8): no body; a body with names of parameters.
-use Rattle.std.specs.Prelude.{◌≡◌, ℕ, zero, suc, ◌+◌, ◌==◌, ◌||◌, Bool, true, false, not, nat_eq, List, [], ◌∷◌, ◌++◌, length, drop, codes, bytes_eq, slice_get, is_some, Option, Some, None, Result, Ok, Err, if◌then◌else◌}
+use Rattle.std.specs.Prelude.{ℕ, zero, suc, ◌==◌, ◌||◌, Bool, true, false, not, nat_eq, List, [], ◌∷◌, ◌++◌, length, drop, codes, bytes_eq, slice_get, is_some, Option, Some, None, Result, Ok, Err, if◌then◌else◌}
 use Rattle.std.specs.List.{list_any, flat_map, starts_with}
 use Rattle.rtsp_npt.specs.Printed.{time_text}
 use Rattle.rtsp_record.specs.Moments.{point}

@@ -1,5 +1,5 @@
 -- The RTP-Info header (RFC 7826 section 18.45).
-use Rattle.std.specs.Prelude.{◌≡◌, ℕ, ◌+◌, ◌*◌, ◌%◌, List, [], ◌∷◌, ◌++◌, decimal}
+use Rattle.std.specs.Prelude.{ℕ, ◌+◌, ◌*◌, ◌%◌, List, [], ◌∷◌, ◌++◌, decimal}
 use Rattle.std.specs.List.{flat_map}
 use Rattle.rtsp_grammar.specs.Header.{HeaderText}
 use Rattle.rtsp_transport.specs.Hex.{hex_text}

@@ -1,5 +1,5 @@
 -- The headers of a response (RFC 7826 section 18).
-use Rattle.std.specs.Prelude.{◌≡◌, ℕ, ◌+◌, ◌*◌, ◌≤◌, List, [], ◌∷◌, ◌++◌, length, codes, decimal, vec_capacity, Option, Some, None}
+use Rattle.std.specs.Prelude.{◌≡◌, ℕ, ◌+◌, ◌≤◌, List, [], ◌∷◌, ◌++◌, length, decimal, vec_capacity, Option, Some, None}
 use Rattle.std.specs.List.{AllByRecursion}
 use Rattle.rtsp_grammar.specs.Header.{HeaderText}
 use Rattle.rtsp_grammar.specs.Draft.{size, Takes, HasRoom}

@@ -1,5 +1,5 @@
 -- PAUSE (RFC 7826 section 13.6): a track; a presentation.
-use Rattle.std.specs.Prelude.{◌≡◌, ℕ, ◌+◌, ◌==◌, ◌||◌, Bool, not, nat_le, List, [], ◌∷◌, ◌++◌, length, codes, slice_get, Option, Some, None, Result, Ok, Err, if◌then◌else◌}
+use Rattle.std.specs.Prelude.{ℕ, ◌==◌, not, length, slice_get, Result, Ok, Err}
 use Rattle.rtsp_state.specs.declared.status.Status.TheVariants.{BadRequest, SessionNotFound, MethodNotValid, OnlyAggregateAllowed}
 use Rattle.rtsp_state.specs.declared.fault.Fault.{Fault}
 use Rattle.rtsp_state.specs.declared.fault.Fault.TheVariants.{Refused}

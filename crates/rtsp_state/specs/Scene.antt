@@ -1,9 +1,8 @@
 -- What a row of the state table sees: the request, what is served, and the streams of the session.
-use Rattle.std.specs.Prelude.{◌≡◌, ℕ, ◌+◌, ◌*◌, ◌-◌, ◌^◌, ◌==◌, Bool, not, min, List, [], ◌∷◌, ◌++◌, filter_map, Option, Some, None, Result, Ok, Err}
+use Rattle.std.specs.Prelude.{ℕ, ◌+◌, ◌*◌, ◌-◌, ◌^◌, ◌==◌, Bool, not, min, List, ◌++◌, filter_map, Option, Some, None, Result, Ok, Err}
 use Rattle.std.specs.List.{list_any}
 use Rattle.std.specs.FinMap.{entries}
 use Rattle.rtsp_grammar.specs.Header.{HeaderText}
-use Rattle.rtsp_grammar.specs.declared.message.Request.{Request}
 use Rattle.rtsp_record.specs.declared.streams.Stream.{Stream}
 use Rattle.rtsp_record.specs.Books.{Session}
 use Rattle.rtsp_content.specs.TableValue.{TableValue}

@@ -1,5 +1,5 @@
 -- What is answered before a session is looked at.
-use Rattle.std.specs.Prelude.{◌≡◌, ℕ, [], Option, Some, None, Result, Ok, Err}
+use Rattle.std.specs.Prelude.{ℕ, [], None, Result, Ok, Err}
 use Rattle.rtsp_grammar.specs.declared.message.Request.{Request}
 use Rattle.rtsp_content.specs.TableValue.{TableValue}
 use Rattle.rtsp_state.specs.declared.status.Status.TheVariants.{BadRequest}

@@ -1,5 +1,5 @@
 -- SETUP (RFC 7826 section 13.3): a presentation; a track.
-use Rattle.std.specs.Prelude.{◌≡◌, ℕ, ◌==◌, ◌||◌, Bool, not, nat_le, List, [], ◌∷◌, ◌++◌, length, codes, slice_get, Option, Some, None, Result, Ok, Err, if◌then◌else◌}
+use Rattle.std.specs.Prelude.{ℕ, not, List, codes, slice_get, Option, Some, None, Result, Ok, Err}
 use Rattle.rtsp_state.specs.declared.status.Status.TheVariants.{BadRequest, MethodNotValid, AggregateNotAllowed, UnsupportedTransport, DestinationProhibited}
 use Rattle.rtsp_state.specs.declared.fault.Fault.{Fault}
 use Rattle.rtsp_state.specs.declared.fault.Fault.TheVariants.{Refused}
@@ -8,7 +8,6 @@ use Rattle.rtsp_state.specs.declared.asked.Aim.TheVariants as aims
 use Rattle.rtsp_state.specs.declared.plan.Plan.{Plan}
 use Rattle.rtsp_state.specs.declared.plan.Plan.TheVariants as plans
 use Rattle.rtsp_state.specs.Fault.{◌>>=◌, must}
-use Rattle.rtsp_grammar.specs.Header.{HeaderText}
 use Rattle.rtsp_transport.specs.Picking.{pick_of}
 use Rattle.rtsp_transport.specs.declared.choice.Pick.{Pick}
 use Rattle.rtsp_transport.specs.declared.choice.Pick.TheVariants as picks
@@ -24,7 +23,6 @@ use Rattle.rtsp_book.specs.declared.steps.Startup.{Startup}
 use Rattle.rtsp_record.specs.declared.streams.Stream.{Stream}
 use Rattle.rtsp_state.specs.declared.asked.Name.{Name}
 use Rattle.rtsp_state.specs.declared.asked.Name.TheVariants as names
-use Rattle.rtsp_state.specs.declared.plan.Admission.{Admission}
 use Rattle.rtsp_state.specs.Values.{joined_in, specs_in}
 use Rattle.rtsp_state.specs.Scene.{SceneValue, Living, streams_of, is_other, timing_of, known, expiry}
 

@@ -33,9 +33,19 @@ pub use answering::answer;
 pub use asked::Name;
 pub use deciding::{decide, renewal, renewal_refused};
 pub use fault::Fault;
-pub use laws::{law_answers_in_order, law_answers_refusal, law_shows_allowed};
+pub use laws::{
+    law_allowed_is_valid, law_answers_in_order, law_answers_refusal, law_shows_allowed,
+    law_shows_session,
+};
 pub use lines::{Front, Timing};
 pub use plan::{Admission, Outcome, Part, Parts, Plan, Screen, Shows, Stepping};
 pub use response::{refused, turned_down};
 pub use screening::screen;
 pub use status::Status;
+
+#[cfg(test)]
+mod fixture;
+#[cfg(test)]
+mod tests;
+#[cfg(test)]
+mod walk_tests;

@@ -1,6 +1,6 @@
 use Rattle.std.proofs.Common.{◌≡◌, ◌≤◌, ◌++◌, take, vec_capacity}
 use Rattle.std.specs.List.{flat_map}
-use Rattle.rtsp_state.specs.Info.{part_text, next_part}
+use Rattle.rtsp_state.specs.Info.{next_part}
 use Rattle.rtsp_state.proofs.info.write_info.Given as goal
 
 abbrev pub invariant-loop-part : goal.invariant-loop-part

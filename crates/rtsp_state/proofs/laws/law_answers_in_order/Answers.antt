@@ -1,4 +1,4 @@
-use Rattle.rtsp_state.proofs.LawLemmas.{answers_in_order}
+use Rattle.rtsp_state.proofs.OrderLemmas.{answers_in_order}
 use Rattle.rtsp_state.proofs.laws.law_answers_in_order.Goals as goal
 
 pub returns : goal.returns

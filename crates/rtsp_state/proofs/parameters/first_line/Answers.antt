@@ -1,4 +1,4 @@
-use Rattle.std.proofs.Common.{◌≡◌, true, false, sym, ap, ◌∙◌, ◌+◌, drop, take, List, ℕ, arith}
+use Rattle.std.proofs.Common.{sym, ap, ◌∙◌, ◌+◌, take, List, ℕ, arith}
 use Rattle.std.specs.Prelude.{nat_eq, codes}
 use Rattle.std.specs.List.{starts_with}
 use Rattle.std.proofs.lemmas.List.{take_rest}

@@ -1,8 +1,8 @@
-use Rattle.std.proofs.Common.{◌≡◌, ◌<◌, ◌+◌, ◌-◌, ◌∷◌, [], ◌++◌, true, false, sym, ap, ◌∙◌, inr, arith, length, List, ℕ, Ok}
+use Rattle.std.proofs.Common.{◌≡◌, ◌<◌, ◌+◌, ◌-◌, ◌∷◌, [], ◌++◌, sym, ap, ◌∙◌, inr, arith, List, ℕ, Ok}
 use Rattle.std.proofs.lemmas.Result.{err_from_is_err_and}
 use Rattle.std.proofs.lemmas.List.{append-nil}
 use Rattle.rtsp_state.specs.declared.parameters.Parameter.{Parameter}
-use Rattle.rtsp_state.specs.GetParameter.{first_line, parameter_of, parameters_in}
+use Rattle.rtsp_state.specs.GetParameter.{parameter_of, parameters_in}
 use Rattle.rtsp_state.proofs.ParameterLemmas.{onto, found_more, none_more, no_more, too_many, is_none, is_some_text}
 use Rattle.rtsp_state.proofs.parameters.parameters_in.Goals as goal
 
