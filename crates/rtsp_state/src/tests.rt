@@ -268,23 +268,40 @@ fn what_has_no_number_is_screened(rt: HostRuntime) -> Result<(), Fail> {
     Ok(())
 }
 
+// The moment to which a request of the session that is Ready renews it, at the moment 1,000.
+fn renewed_until(
+    alloc: Global,
+    table: &Table,
+    kept: &Kept<PlainBook>,
+    method: &str,
+) -> Result<Option<u64>, AllocError> {
+    let request = request(alloc, (method, TONE), READY, "", "")?;
+    let Some(view) = kept.book().session(2) else {
+        return Ok(None);
+    };
+    match renewal(&request, &view, table, 1_000) {
+        Some(Step::Touch { until, .. }) => Ok(Some(until)),
+        _ => Ok(None),
+    }
+}
+
 #[test]
 fn a_session_is_renewed_but_by_its_teardown(rt: HostRuntime) -> Result<(), Fail> {
-    let alloc = rt.alloc();
     let table = tone(&rt)?;
+    let kept = sessions(rt.alloc())?;
+    let renewed = renewed_until(rt.alloc(), &table, &kept, "PLAY")?;
+    assert_eq!(rt; renewed, Some(61_000));
+    let ended = renewed_until(rt.alloc(), &table, &kept, "TEARDOWN")?;
+    assert_eq!(rt; ended, None);
+    Ok(())
+}
+
+#[test]
+fn a_refused_renewal_ends_the_request(rt: HostRuntime) -> Result<(), Fail> {
+    let alloc = rt.alloc();
     let kept = sessions(alloc)?;
     let play = request(alloc, ("PLAY", TONE), READY, "", "")?;
-    let teardown = request(alloc, ("TEARDOWN", TONE), READY, "", "")?;
     let view = kept.book().session(2);
-    assert!(rt; view.is_some());
-    if let Some(view) = &view {
-        let renewed = Step::Touch {
-            session: 2,
-            until: 61_000,
-        };
-        assert_eq!(rt; renewal(&play, view, &table, 1_000), Some(renewed));
-        assert_eq!(rt; renewal(&teardown, view, &table, 1_000), None);
-    }
     let response = renewal_refused(alloc, &play, view.as_ref(), Refusal::JournalFull)?;
     let full = "RTSP/2.0 503 Service Unavailable\r\nCSeq: 1\r\n\
         Session: 00000000000000000000000000000002\r\n\r\n";

@@ -1,6 +1,6 @@
 use crate::desk::{Desk, stdio_core};
 use crate::running::{open_desk, read_table};
-use crate::{CountedReader, CountedWriter, Exit, ServeEnd, run_words};
+use crate::{CountedReader, CountedWriter, Exit, ServeEnd, run_words, serve_turns};
 use rtsp_book::{BookRep, PlainBook};
 use rtsp_grammar::MessageFault;
 use rtsp_record::write_journal;
@@ -189,5 +189,26 @@ fn a_bare_line_feed_ends_the_conversation(rt: HostRuntime) -> Result<(), Fail> {
         b"RTSP/2.0 400 Bad Request\r\n\r\n".as_slice()
     );
     assert_eq!(rt; talk.end, ServeEnd::Fault(MessageFault::BadLine));
+    Ok(())
+}
+
+// How many bytes are said, and how it ends, with so many reads.
+fn served_in(rt: &HostRuntime, turns: u64) -> Result<(usize, ServeEnd), Fail> {
+    let mut desk = open_desk(rt.alloc(), read_table(rt, None)?)?;
+    let mut said: Vec<u8> = Vec::new(rt.alloc());
+    let mut reader = CountedReader::new(OPTIONS.as_bytes());
+    let end = {
+        let mut writer = CountedWriter::new(&mut said);
+        serve_turns(rt.alloc(), &mut desk, &mut reader, &mut writer, turns)
+    };
+    Ok((said.len(), end))
+}
+
+#[test]
+fn a_connection_is_served_for_so_many_reads(rt: HostRuntime) -> Result<(), Fail> {
+    let whole = OPTIONS_ANSWER.len();
+    assert!(rt; served_in(&rt, 0)? == (0, ServeEnd::TurnsSpent));
+    assert!(rt; served_in(&rt, 1)? == (whole, ServeEnd::TurnsSpent));
+    assert!(rt; served_in(&rt, 2)? == (whole, ServeEnd::Closed));
     Ok(())
 }
