@@ -1,7 +1,7 @@
 -- A fault of a reader or of a writer is told where it was counted, and nowhere else; the end of the input is told where the reader
--- is at its end.
-use Rattle.std.specs.Prelude.{◌≡◌, ℕ, List, Option, Some, None}
-use Rattle.std.specs.Io.KnownBytes.{IsAtEnd}
+-- is at its end, and spent turns where each of them has read something.
+use Rattle.std.specs.Prelude.{◌≡◌, ◌≤◌, ◌<◌, ℕ, List, length, Option, Some, None}
+use Rattle.std.specs.Io.KnownBytes.{IsAtEnd, Consumes}
 use Rattle.rtspd.specs.Streams.{raised}
 use Rattle.rtspd.specs.declared.serving.ServeEnd.{ServeEnd}
 use Rattle.rtspd.specs.declared.serving.ServeEnd.TheVariants.{Closed, ReadFault, WriteFault, Fault, TurnsSpent}
@@ -61,3 +61,24 @@ ClosesAtEnd TurnsSpent left = Unit {0}
 abbrev pub TurnClosesAtEnd : Option ServeEnd → Option (List ℕ) → Type 0
 TurnClosesAtEnd None left = Unit {0}
 TurnClosesAtEnd (Some end) left = ClosesAtEnd end left
+
+-- where the turns are spent, there were so many reads, each of a byte at least
+abbrev pub SpendsTurns : ServeEnd → ℕ → Option (List ℕ) → Option (List ℕ) → Type 0
+SpendsTurns TurnsSpent turns unread left = (bytes : List ℕ) × Consumes unread left bytes × (turns ≤ length bytes)
+SpendsTurns Closed turns unread left = Unit {0}
+SpendsTurns ReadFault turns unread left = Unit {0}
+SpendsTurns WriteFault turns unread left = Unit {0}
+SpendsTurns (Fault fault) turns unread left = Unit {0}
+
+-- an end that a turn may tell
+abbrev pub IsTold : ServeEnd → Type 0
+IsTold TurnsSpent = ⊥
+IsTold Closed = Unit {0}
+IsTold ReadFault = Unit {0}
+IsTold WriteFault = Unit {0}
+IsTold (Fault fault) = Unit {0}
+
+-- a turn after which serving goes on has read something
+abbrev pub TurnReads : Option ServeEnd → Option (List ℕ) → Option (List ℕ) → Type 0
+TurnReads None unread left = (bytes : List ℕ) × Consumes unread left bytes × (0 < length bytes)
+TurnReads (Some end) unread left = IsTold end

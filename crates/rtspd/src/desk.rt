@@ -1,7 +1,7 @@
 //! What the items of one connection are answered from.
 ghost use Rattle.std.specs.Prelude.{◌≡◌, [], IfOk, IfErr, OnOk, OnErr};
 ghost use Rattle.rtspd.specs.Served.{EndsFrom};
-ghost use Rattle.rtspd.specs.Causes.{ReadFails, WriteFails, ClosesAtEnd};
+ghost use Rattle.rtspd.specs.Causes.{ReadFails, WriteFails, ClosesAtEnd, SpendsTurns};
 ghost use Rattle.rtspd.specs.Conversing.{standing, Answers, GivesUp};
 
 use crate::conversing::{Asker, respond};
@@ -57,6 +57,7 @@ pub fn stdio_core<B: BookRep, R: ByteIn, W: ByteOut>(
     ensures read_fault { ReadFails result (R.failures reader.old) (R.failures reader.new) }
     ensures write_fault { WriteFails result (W.failures writer.old) (W.failures writer.new) }
     ensures closed { ClosesAtEnd result (R.remaining reader.new) }
+    ensures spent { SpendsTurns result TURNS (R.remaining reader.old) (R.remaining reader.new) }
 {
     serve_turns(alloc, desk, reader, writer, TURNS)
 }

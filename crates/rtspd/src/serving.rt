@@ -1,7 +1,7 @@
 //! Serves one connection: reads its items, has each answered in its turn, and writes the answers.
 ghost use Rattle.std.specs.Prelude.{◌≡◌, ◌≤◌, ◌<◌, ℕ, List, [], Option, length, take, drop, IfSome, IfNone, OnOk, OnErr};
 ghost use Rattle.rtspd.specs.Served.{Served, Progress, Answered, EndsFrom, EndsHere, Stops, Follows, Told, LostOrNot};
-ghost use Rattle.rtspd.specs.Causes.{ReadFails, WriteFails, NextFails, StopFails, TurnReadFails, TurnWriteFails, ClosesAtEnd, TurnClosesAtEnd};
+ghost use Rattle.rtspd.specs.Causes.{ReadFails, WriteFails, NextFails, StopFails, TurnReadFails, TurnWriteFails, ClosesAtEnd, TurnClosesAtEnd, SpendsTurns, TurnReads};
 ghost use Rattle.rtsp_grammar.specs.Answer.{IsUndecided};
 ghost use Rattle.rtsp_grammar.specs.declared.message.Item.{Item};
 
@@ -177,6 +177,7 @@ fn turn<A: Answerer, R: ByteIn, W: ByteOut>(
     ensures reads { TurnReadFails result (R.failures reader.old) (R.failures reader.new) }
     ensures writes { TurnWriteFails result (W.failures writer.old) (W.failures writer.new) }
     ensures closed { TurnClosesAtEnd result (R.remaining reader.new) }
+    ensures something { TurnReads result (R.remaining reader.old) (R.remaining reader.new) }
 {
     let mut piece = [0u8; 4096];
     match reader.read(&mut piece) {
@@ -207,10 +208,12 @@ pub fn serve_turns<A: Answerer, R: ByteIn, W: ByteOut>(
     ensures write_fault { WriteFails result (W.failures writer.old) (W.failures writer.new) }
     // The end of the input is told where the reader is at its end.
     ensures closed { ClosesAtEnd result (R.remaining reader.new) }
+    // So are spent turns, where each has read something.
+    ensures spent { SpendsTurns result turns (R.remaining reader.old) (R.remaining reader.new) }
 {
     let mut buffer: Vec<u8> = Vec::new(alloc);
     let mut out: Vec<u8> = Vec::new(alloc);
-    for _ in 0..turns {
+    for _count in 0..turns {
         match turn(alloc, answerer, reader, &mut buffer, &mut out, writer) {
             Some(end) => return end,
             None => {}
