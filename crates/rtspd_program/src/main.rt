@@ -2,17 +2,26 @@
 #![tactic(auto)]
 
 use rtspd::{Exit, run_words};
+use std::io::ErrorKind;
 use std::process::ExitCode;
 use std::rt::Env;
 use std::{env, io};
 
-// The words behind the program's name.
+// The words after the program's name.
 fn words<R: Env + AllocGlobal>(rt: &R) -> io::Result<Vec<String>> {
     let mut words = Vec::new(rt.alloc());
     for word in env::args(rt)?.skip(1) {
         words.push(word)?;
     }
     Ok(words)
+}
+
+// What it means that there are no words to run: one that isn't UTF-8 is no word of a command line.
+fn words_fault(error: &io::Error) -> Exit {
+    match error.kind() {
+        ErrorKind::InvalidData => Exit::BadCommandLine,
+        _ => Exit::OutOfMemory,
+    }
 }
 
 fn run(rt: &HostRuntime) -> io::Result<Exit> {
@@ -27,7 +36,7 @@ fn run(rt: &HostRuntime) -> io::Result<Exit> {
 fn main(rt: HostRuntime) -> ExitCode {
     let exit = match run(&rt) {
         Ok(exit) => exit,
-        Err(_) => Exit::OutOfMemory,
+        Err(error) => words_fault(&error),
     };
     if exit != Exit::Done {
         let _ = eprintln!(rt; "{exit}");
