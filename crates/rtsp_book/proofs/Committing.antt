@@ -9,13 +9,14 @@ use Rattle.rtsp_record.specs.declared.streams.Stream.{Stream}
 use Rattle.rtsp_record.specs.declared.holdings.Whole.{Whole}
 use Rattle.rtsp_record.specs.declared.changes.Record.{Record}
 use Rattle.rtsp_record.specs.declared.changes.Record.TheVariants.{Open, Close, Hold, Free, Add, Drop, Move, Touch, Bind, Unbind}
+use Rattle.rtsp_record.specs.Records.{adds, drops}
 use Rattle.rtsp_record.specs.declared.holdings.Admission.{Admission}
 use Rattle.rtsp_record.specs.Books.{Session, Book, or_bare, streaming, under, with_under, after, after_all}
 use Rattle.rtsp_record.specs.Sums.{nothing, if_there, of_admission, of_session, amount, one_if, bindings, clashing, elsewhere}
 use Rattle.rtsp_record.specs.Rules.{IsReady, AllAllowed}
-use Rattle.rtsp_book.specs.Sessions.{first_with}
+use Rattle.rtsp_sessions.specs.Searches.{first_with, is_track, is_of_track}
 use Rattle.rtsp_book.specs.Returns.{dropping, freeing, freeing_rate}
-use Rattle.rtsp_book.specs.Made.{is_track, is_of_track, adding}
+use Rattle.rtsp_book.specs.Made.{adding}
 use Rattle.rtsp_record.proofs.Tables.{own, at_key}
 use Rattle.rtsp_record.proofs.Rows.{under-own, under-else, normal-under}
 use Rattle.rtsp_record.proofs.Balance.{gain, row_balance, balance}
@@ -116,8 +117,8 @@ replaced w s a b v u f d ok may is some track =
     let n1 = normal-under f b d1 ok.normal in
     let n2 = normal-under f1 a da n1 in
     let n3 = normal-under f2 b d2 n2 in
-    let none_left : of_session (clashing u) f1 ≡ 0 = omega (arith, row_balance (clashing u) (Drop s b u) (Some f) (record { ready = may.ready; there = there }), ap (λ d. of_session (clashing u) (with_under f b (streaming None d))) is, ok.apart b u there, one_is _ (clash_itself u)) in
-    let add : Run (Add s a v ∷ []) f1 f2 = record {
+    let none_left : of_session (clashing u) f1 ≡ 0 = omega (arith, row_balance (clashing u) (drops s b u) (Some f) (record { ready = may.ready; there = there }), ap (λ d. of_session (clashing u) (with_under f b (streaming None d))) is, ok.apart b u there, one_is _ (clash_itself u)) in
+    let add : Run (adds s a v ∷ []) f1 f2 = record {
       own = (
         record {
           ready = may.ready;
@@ -135,9 +136,9 @@ replaced w s a b v u f d ok may is some track =
     (freeing_rate_run s b f3 d2 n3 (under-own f2 b d2) refl) in
     record {
       left = f4;
-      run = run-append (dropping s b d.stream) (Add s a v ∷ (freeing s b d.address ++ freeing_rate s b d.rate)) f f1 f4
+      run = run-append (dropping s b d.stream) (adds s a v ∷ (freeing s b d.address ++ freeing_rate s b d.rate)) f f1 f4
           (dropping_run s b f d may.ready ok.normal is)
-          (run-append (Add s a v ∷ []) (freeing s b d.address ++ freeing_rate s b d.rate) f1 f2 f4 add back);
+          (run-append (adds s a v ∷ []) (freeing s b d.address ++ freeing_rate s b d.rate) f1 f2 f4 add back);
       binding = refl;
     }
 
@@ -163,20 +164,20 @@ adding_run w s a v f ok may =
 pub lone_adding : (s a : ℕ) (v : Stream) (o : Option (ℕ × Admission)) → AllFine (Lone s) (adding s a v o)
 lone_adding s a v None = (refl, tt)
 lone_adding s a v (Some e) =
-    fine-append (Lone s) (dropping s e.0 e.1.stream) (Add s a v ∷ (freeing s e.0 e.1.address ++ freeing_rate s e.0 e.1.rate)) (all_lone s _ (giving_dropping s e.0 e.1.stream))
+    fine-append (Lone s) (dropping s e.0 e.1.stream) (adds s a v ∷ (freeing s e.0 e.1.address ++ freeing_rate s e.0 e.1.rate)) (all_lone s _ (giving_dropping s e.0 e.1.stream))
     (refl, fine-append (Lone s) (freeing s e.0 e.1.address) (freeing_rate s e.0 e.1.rate) (all_lone s _ (giving_freeing s e.0 e.1.address)) (all_lone s _ (giving_freeing_rate s e.0 e.1.rate)))
 
 no_binding : (s c i : ℕ) (r : Record) → Lone s r → gain (bindings c i) r ≡ 0
-no_binding s c i (Open t id d e) h = absurd h
-no_binding s c i (Close t id d e) h = refl
-no_binding s c i (Hold t a x) h = absurd h
-no_binding s c i (Free t a x) h = refl
-no_binding s c i (Add t a v) h = refl
-no_binding s c i (Drop t a v) h = refl
-no_binding s c i (Move t p q) h = refl
-no_binding s c i (Touch t m n) h = refl
-no_binding s c i (Bind t d j) h = absurd h
-no_binding s c i (Unbind t d j) h = refl
+no_binding s c i (Open k) h = absurd h
+no_binding s c i (Close k) h = refl
+no_binding s c i (Hold k) h = absurd h
+no_binding s c i (Free k) h = refl
+no_binding s c i (Add k) h = refl
+no_binding s c i (Drop k) h = refl
+no_binding s c i (Move k) h = refl
+no_binding s c i (Touch k) h = refl
+no_binding s c i (Bind k) h = absurd h
+no_binding s c i (Unbind k) h = refl
 
 -- such records bind nothing
 pub lone_bound : (w : Whole) (s c i : ℕ) (b : Book) (rs : List Record) → AllFine (Lone s) rs → AllAllowed w b rs → amount (bindings c i) (after_all b rs) ≤ amount (bindings c i) b

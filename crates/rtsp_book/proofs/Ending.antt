@@ -1,6 +1,7 @@
 -- The end of a session gives back all that it has, and is allowed record by record.
 use Rattle.std.proofs.Common.{◌≡◌, ◌==◌, ℕ, Bool, true, false, T, ◌&&◌, cond, List, [], ◌∷◌, ◌++◌, refl, sym, ◌∙◌, ap, subst, arith, append_assoc}
 use Rattle.std.specs.Prelude.{Option, Some, None, flat_map}
+use Rattle.std.proofs.lemmas.Bool.{and_parts}
 use Rattle.std.proofs.lemmas.Bool.Decides.{nat_tests}
 use Rattle.std.specs.Ordering.{nat_cmp}
 use Rattle.std.specs.FinMap.{get, find, empty, entries, entries_sorted, is_sorted, get-entries}
@@ -11,7 +12,7 @@ use Rattle.rtsp_record.specs.declared.phases.Phase.TheVariants.{Ready, Playing, 
 use Rattle.rtsp_record.specs.declared.streams.Stream.{Stream}
 use Rattle.rtsp_record.specs.declared.holdings.Whole.{Whole}
 use Rattle.rtsp_record.specs.declared.changes.Record.{Record}
-use Rattle.rtsp_record.specs.declared.changes.Record.TheVariants.{Close, Free, Move}
+use Rattle.rtsp_record.specs.Records.{closes, frees, moves}
 use Rattle.rtsp_record.specs.Tables.{Table, set}
 use Rattle.rtsp_record.specs.declared.holdings.Admission.{Admission}
 use Rattle.rtsp_record.specs.Books.{Session, opening, opened, bare, or_bare, kept, streaming, under, with_under}
@@ -50,7 +51,7 @@ dropping_run s a f d ready normal is =
       }
     ] refl
 
-free_one : (s a : ℕ) (f : Session) (d : Admission) (x : Thing) → under f a ≡ d → d.stream ≡ None → IsAddress x → d.address ≡ Some x → Run (Free s a x ∷ []) f (with_under f a (record d { address = None }))
+free_one : (s a : ℕ) (f : Session) (d : Admission) (x : Thing) → under f a ≡ d → d.stream ≡ None → IsAddress x → d.address ≡ Some x → Run (frees s a x ∷ []) f (with_under f a (record d { address = None }))
 free_one s a f d (Pair p) is no_stream h some =
     record {
       own = (record { held = ap (λ (d : Admission). d.address) is ∙ some; no_stream = ap (λ (d : Admission). d.stream) is ∙ no_stream }, tt);
@@ -124,21 +125,17 @@ giving_all s f (e ∷ es) ok sorted all =
     (giving_run s e.0 f e.1 ok (ap or_bare there))
     (giving_all s (thinned e.0 f) es (givable_thinned e.0 f ok) parts.1 rest)
 
-both : (a b : Bool) → (a && b) ≡ true → (a ≡ true) × (b ≡ true)
-both true b h = (refl, h)
-both false b h = absurd cc
-
 zero_is : (n : ℕ) → (n == 0) ≡ true → n ≡ 0
 zero_is n h = grind (arith, nat_tests)
 
 is_at_opening : (p : Phase) → is_opening p ≡ true → p ≡ opening
-is_at_opening (Ready at sent) h = let parts = both (at == 0) (sent == 0) h in λ i. Ready (zero_is at parts.0 i) (zero_is sent parts.1 i)
+is_at_opening (Ready at sent) h = let parts = and_parts (at == 0) (sent == 0) h in λ i. Ready (zero_is at parts.0 i) (zero_is sent parts.1 i)
 is_at_opening (Playing since from stop sent) h = absurd cc
 is_at_opening (Ended at sent) h = absurd cc
 
 resetting_run : (s : ℕ) (f : Session) → Run (resetting s f.phase) f (record f { phase = opening })
 resetting_run s f =
-    elim (is_opening f.phase) as (λ t. is_opening f.phase ≡ t → Run (cond t [] (Move s f.phase opening ∷ [])) f (record f { phase = opening })) [
+    elim (is_opening f.phase) as (λ t. is_opening f.phase ≡ t → Run (cond t [] (moves s f.phase opening ∷ [])) f (record f { phase = opening })) [
       | true ↦ λ is. run-to [] f f (record f { phase = opening }) (ap (λ p. record f { phase = p }) (is_at_opening f.phase is)) (run-none f)
       | false ↦ λ off. record { own = (record { phase = refl; stream = λ p. absurd p }, tt); ends = refl }
     ] refl
@@ -157,15 +154,15 @@ ending_own w s f ok =
     let f1 = cleared f0 in
     let f2 : Session = record f1 { binding = None } in
     let es = flat_map (giving_back s) (entries f.admissions) in
-    let close = Close s f.id f.conn f.expires ∷ [] in
+    let close = closes s f.id f.conn f.expires ∷ [] in
     let givable : Givable f0 = record { ready = tt; normal = ok.normal; proper = λ a x some. (ok.in_whole a x some).1 } in
     let run = run-append (resetting s f.phase) (es ++ unbinding s f.binding) f f0 f2 (resetting_run s f)
     (run-append es (unbinding s f.binding) f0 f1 f2 (giving_all s f0 (entries f.admissions) givable (entries_sorted f.admissions) (λ a. get-entries f.admissions a)) (unbinding_run s f1)) in
     closed (resetting s f.phase) es (unbinding s f.binding) run
   where
-    closed : (xs ys zs : List Record) → Run (xs ++ (ys ++ zs)) f (opened f.id f.conn f.expires) → OwnAll (xs ++ (ys ++ (zs ++ Close s f.id f.conn f.expires ∷ []))) (Some f) × (row_after (xs ++ (ys ++ (zs ++ Close s f.id f.conn f.expires ∷ []))) (Some f) ≡ None)
+    closed : (xs ys zs : List Record) → Run (xs ++ (ys ++ zs)) f (opened f.id f.conn f.expires) → OwnAll (xs ++ (ys ++ (zs ++ closes s f.id f.conn f.expires ∷ []))) (Some f) × (row_after (xs ++ (ys ++ (zs ++ closes s f.id f.conn f.expires ∷ []))) (Some f) ≡ None)
     closed xs ys zs run =
-        let close = Close s f.id f.conn f.expires ∷ [] in
+        let close = closes s f.id f.conn f.expires ∷ [] in
         let same : (xs ++ (ys ++ zs)) ++ close ≡ xs ++ (ys ++ (zs ++ close)) = append_assoc xs (ys ++ zs) close ∙ ap (λ v. xs ++ v) (append_assoc ys zs close) in
         subst (λ rs. OwnAll rs (Some f) × (row_after rs (Some f) ≡ None)) same
         (own-append (xs ++ (ys ++ zs)) close (Some f) run.own (run.ends, tt), row_after-append (xs ++ (ys ++ zs)) close (Some f))
@@ -192,7 +189,7 @@ giving_each s [] = tt
 giving_each s (e ∷ es) = fine-append (Giving s) (giving_back s e) (flat_map (giving_back s) es) (giving_under s e) (giving_each s es)
 
 giving_reset : (s : ℕ) (p : Phase) → AllFine (Giving s) (resetting s p)
-giving_reset s p = elim (is_opening p) as (λ t. is_opening p ≡ t → AllFine (Giving s) (cond t [] (Move s p opening ∷ []))) [ true ↦ λ _. tt | false ↦ λ off. ((refl, off, refl), tt) ] refl
+giving_reset s p = elim (is_opening p) as (λ t. is_opening p ≡ t → AllFine (Giving s) (cond t [] (moves s p opening ∷ []))) [ true ↦ λ _. tt | false ↦ λ off. ((refl, off, refl), tt) ] refl
 
 pub giving_unbinding : (s : ℕ) (o : Option (ℕ × ℕ)) → AllFine (Giving s) (unbinding s o)
 giving_unbinding s None = tt
@@ -201,7 +198,7 @@ giving_unbinding s (Some k) = (refl, tt)
 pub giving_ending : (s : ℕ) (f : Session) → AllFine (Giving s) (ending s f)
 giving_ending s f =
     let es = flat_map (giving_back s) (entries f.admissions) in
-    let close = Close s f.id f.conn f.expires ∷ [] in
+    let close = closes s f.id f.conn f.expires ∷ [] in
     fine-append (Giving s) (resetting s f.phase) (es ++ (unbinding s f.binding ++ close)) (giving_reset s f.phase)
     (fine-append (Giving s) es (unbinding s f.binding ++ close) (giving_each s (entries f.admissions))
     (fine-append (Giving s) (unbinding s f.binding) close (giving_unbinding s f.binding) (refl, tt)))

@@ -8,19 +8,19 @@ use Rattle.rtsp_record.specs.declared.holdings.Thing.{Thing}
 use Rattle.rtsp_record.specs.declared.streams.Stream.{Stream}
 use Rattle.rtsp_record.specs.declared.holdings.Whole.{Whole}
 use Rattle.rtsp_record.specs.declared.changes.Record.{Record}
-use Rattle.rtsp_record.specs.declared.changes.Record.TheVariants.{Free}
 use Rattle.rtsp_book.specs.declared.steps.Chain.{Chain}
 use Rattle.rtsp_book.specs.declared.steps.Step.{Step}
 use Rattle.rtsp_book.specs.declared.steps.Step.TheVariants.{Return, Unwind, DropTrack, End, Expire, Hangup}
-use Rattle.rtsp_record.specs.Records.{session_of}
+use Rattle.rtsp_record.specs.Records.{frees, session_of}
 use Rattle.rtsp_record.specs.declared.holdings.Admission.{Admission}
 use Rattle.rtsp_record.specs.Books.{Session, Book, or_bare, under, effect, after, after_all, book_of}
 use Rattle.rtsp_record.specs.Sums.{if_there, of_admission, of_session, one_if, is_opening, returns, is_holding, other_tracks}
 use Rattle.rtsp_record.specs.Rules.{Own, AllAllowed}
 use Rattle.rtsp_record.specs.Rules.{is_held}
-use Rattle.rtsp_book.specs.Sessions.{first_with, has_stream_under}
+use Rattle.rtsp_sessions.specs.Searches.{first_with, is_of_track, is_expired, is_channelled, is_on}
+use Rattle.rtsp_book.specs.Sessions.{has_stream_under}
 use Rattle.rtsp_book.specs.Returns.{unbinding, ending}
-use Rattle.rtsp_book.specs.Made.{taking_back, unwinding, is_of_track, giving_back_found, dropping_track, is_expired, is_channelled, is_on, ending_found, hanging_up, of_living, made}
+use Rattle.rtsp_book.specs.Made.{taking_back, unwinding, giving_back_found, dropping_track, ending_found, hanging_up, of_living, made}
 use Rattle.rtsp_book.specs.Replies.{refusals, is_growing}
 use Rattle.rtsp_book.specs.Laws.{GivesBack, GivingBack}
 use Rattle.rtsp_record.proofs.Tables.{own, at_key}
@@ -106,7 +106,7 @@ Gave rs = (s : ℕ) × AllFine (Giving s) rs
 taking_gives : (s a : ℕ) (f : Session) (o : Option Thing) → AllFine (Giving s) (taking_back s a f o)
 taking_gives s a f None = tt
 taking_gives s a f (Some x) =
-    elim (is_held f a x && not (has_stream_under f a)) as (λ t. AllFine (Giving s) (cond t (Free s a x ∷ []) [])) [ true ↦ (refl, tt) | false ↦ tt ]
+    elim (is_held f a x && not (has_stream_under f a)) as (λ t. AllFine (Giving s) (cond t (frees s a x ∷ []) [])) [ true ↦ (refl, tt) | false ↦ tt ]
 
 unwinding_gives : (ch : Chain) (f : Session) → AllFine (Giving ch.session) (unwinding ch f)
 unwinding_gives ch f =

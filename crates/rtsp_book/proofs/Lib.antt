@@ -1,16 +1,9 @@
-pub mod Choices
-pub mod Least
 pub mod Runs
 pub mod Ending
 pub mod Committing
 pub mod Granted
 pub mod Giving
-pub mod SortedRows
-pub mod FixedRows
-pub mod FitLemmas
-pub mod FreeLemmas
-pub mod ChoiceSteps
-pub mod PlainLemmas
 pub mod Freed
+pub mod Owing
 pub mod Replying
 pub mod Keeping

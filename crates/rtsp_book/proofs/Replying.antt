@@ -1,6 +1,7 @@
--- What the replies rest on: look-ups as counts, what is owed record by record, and how long an end is.
+-- What the replies rest on: look-ups as counts, and how long an end is.
 use Rattle.std.proofs.Common.{◌≡◌, ◌==◌, ℕ, ◌+◌, ◌≤◌, ◌<◌, Bool, true, false, ◌||◌, not, cond, List, [], ◌∷◌, ◌++◌, length, take, drop, flat_map, zero, suc, refl, sym, ◌∙◌, ap, subst, arith, get_or, add-one, drop-cons, append_assoc, length-append}
 use Rattle.std.specs.Prelude.{Option, Some, None, Ok, is_some, nat_lt, sum_by, option_map, slice_get}
+use Rattle.std.proofs.lemmas.Bool.{or_parts}
 use Rattle.std.proofs.lemmas.Bool.Decides.{nat_tests}
 use Rattle.std.proofs.lemmas.List.Sums.{sum_by-cons}
 use Rattle.std.proofs.lemmas.List.{take_more}
@@ -10,24 +11,23 @@ use Rattle.rtsp_record.specs.declared.holdings.Whole.{Whole}
 use Rattle.rtsp_record.specs.declared.holdings.Admission.{Admission}
 use Rattle.rtsp_record.specs.declared.holdings.Thing.{Thing}
 use Rattle.rtsp_record.specs.declared.streams.Stream.{Stream}
-use Rattle.rtsp_book.specs.declared.steps.Startup.{Startup}
+use Rattle.rtsp_book.specs.declared.steps.Commit.{Commit}
 use Rattle.rtsp_record.specs.declared.changes.Record.{Record}
 use Rattle.rtsp_record.specs.declared.changes.Record.TheVariants.{Open, Close, Hold, Free, Add, Drop, Move, Touch, Bind, Unbind}
-use Rattle.rtsp_record.specs.Records.{inverse_of, session_of}
+use Rattle.rtsp_record.specs.Records.{holds}
+use Rattle.rtsp_record.specs.declared.payloads.Life.{Life}
 use Rattle.rtsp_record.specs.Books.{Session, Book, after, after_all}
 use Rattle.rtsp_record.specs.Sums.{Measure, living, is_opening, if_there, of_admission, of_session, one_if, amount, with_id, bindings, returns, owed}
 use Rattle.rtsp_record.specs.Rules.{Own, Allowed, AllAllowed, IsFree}
-use Rattle.rtsp_book.specs.Sessions.{first_with}
-use Rattle.rtsp_book.specs.Lookups.{TakesNone, TakesNoMemory, session_at, number_of, with_id_in, with_startup_in, is_startup}
-use Rattle.rtsp_book.specs.Receipts.{owed_for}
+use Rattle.rtsp_sessions.specs.Searches.{first_with}
+use Rattle.rtsp_sessions.specs.Lookups.{TakesNone, TakesNoMemory, session_at, number_of, with_id_in, with_startup_in, is_startup}
 use Rattle.rtsp_book.specs.Made.{committing, made}
 use Rattle.rtsp_book.specs.declared.steps.Step.{Step}
 use Rattle.rtsp_book.specs.Replies.{is_wrong_hold, is_wrong_commit, is_startup_taken, is_unready_commit, refusals, answer, is_growing, IsAskable}
 use Rattle.rtsp_book.specs.Laws.{IsGranted, GivesBack}
 use Rattle.rtsp_record.proofs.Trims.{AllFine}
 use Rattle.rtsp_record.proofs.Back.{after_all-append}
-use Rattle.rtsp_book.proofs.Granted.{accepted, none_there, neither, no_more, made_granted, own_hold, committed}
-use Rattle.rtsp_record.proofs.Balance.{gain, balance}
+use Rattle.rtsp_book.proofs.Granted.{accepted, none_there, no_more, made_granted, own_hold, committed}
 use Rattle.rtsp_record.specs.Sound.{SoundRow, Sound}
 use Rattle.rtsp_book.specs.Returns.{ending}
 use Rattle.rtsp_book.proofs.Committing.{first_found}
@@ -85,55 +85,6 @@ pub startup_counted : (b : Book) (c i : ℕ) → is_some (with_startup_in c i (e
 startup_counted b c i =
     found_counted (λ e. is_startup c i e.1.binding) (λ e. of_session (bindings c i) e.1) (λ e. omega (arith, bound_once c i e.1.binding, no_things (entries e.1.admissions))) (entries b)
 
--- What is owed, record by record.
-
-gain_owed : (r : Record) → gain returns r ≡ owed_for r
-gain_owed (Open s id c e) = refl
-gain_owed (Close s id c e) = refl
-gain_owed (Hold s a x) = refl
-gain_owed (Free s a x) = refl
-gain_owed (Add s a v) = refl
-gain_owed (Drop s a v) = refl
-gain_owed (Move s p q) = refl
-gain_owed (Touch s m n) = refl
-gain_owed (Bind s c i) = refl
-gain_owed (Unbind s c i) = refl
-
--- after one record that is allowed
-pub owed_once : (w : Whole) (b : Book) (r : Record) → Allowed w b r → owed (after b r) + owed_for (inverse_of r) ≡ owed b + owed_for r
-owed_once w b r h = omega (arith, balance returns b r h.0, gain_owed r, gain_owed (inverse_of r))
-
-pub owed_for_small : (r : Record) → owed_for r ≤ 1
-owed_for_small (Open s id c e) = omega arith
-owed_for_small (Close s id c e) = omega arith
-owed_for_small (Hold s a x) = omega arith
-owed_for_small (Free s a x) = omega arith
-owed_for_small (Add s a v) = omega arith
-owed_for_small (Drop s a v) = omega arith
-owed_for_small (Move s p q) = elim (is_opening q) as (λ t. one_if (not t) ≤ 1) [ true ↦ omega arith | false ↦ omega arith ]
-owed_for_small (Touch s m n) = omega arith
-owed_for_small (Bind s c i) = omega arith
-owed_for_small (Unbind s c i) = omega arith
-
--- the record at a place is allowed after those before it
-pub allowed_at : (w : Whole) (b : Book) (rs : List Record) (i : ℕ) (d : Record) → AllAllowed w b rs → i < length rs → Allowed w (after_all b (take i rs)) (get_or rs i d)
-allowed_at w b [] i d h lt = absurd (omega arith)
-allowed_at w b (r ∷ rs) zero d h lt = h.0
-allowed_at w b (r ∷ rs) (suc i) d h lt = allowed_at w (after b r) rs i d h.1 (omega arith)
-
--- the book after one more of the records
-after_more : (b : Book) (rs : List Record) (i : ℕ) (d : Record) → i < length rs → after_all b (take (i + 1) rs) ≡ after (after_all b (take i rs)) (get_or rs i d)
-after_more b rs i d lt = ap (after_all b) (take_more rs i d lt) ∙ after_all-append b (take i rs) (get_or rs i d ∷ [])
-
--- what is owed after one more of the records
-pub owed_next : (w : Whole) (b : Book) (rs : List Record) (i : ℕ) (d : Record) → AllAllowed w b rs → i < length rs → owed (after_all b (take (i + 1) rs)) + owed_for (inverse_of (get_or rs i d)) ≡ owed (after_all b (take i rs)) + owed_for (get_or rs i d)
-owed_next w b rs i d h lt = omega (arith, owed_once w (after_all b (take i rs)) (get_or rs i d) (allowed_at w b rs i d h lt), ap owed (after_more b rs i d lt))
-
--- each record makes at most one more be owed
-pub owed_at_most : (w : Whole) (b : Book) (rs : List Record) → AllAllowed w b rs → owed (after_all b rs) ≤ owed b + length rs
-owed_at_most w b [] h = omega arith
-owed_at_most w b (r ∷ rs) h = omega (arith, owed_at_most w (after b r) rs h.1, owed_once w b r h.0, owed_for_small r)
-
 -- Rows given back one after another.
 
 -- what stands from a place on is the row there and the rest
@@ -176,18 +127,18 @@ seen s (Some f) q is = ap is_some is
 pub lives_at : (b : Book) (s : ℕ) → is_some (session_at b s) ≡ is_some (get b s)
 lives_at b s = seen s (get b s) (session_at b s) refl
 
-pub open_allowed : (w : Whole) (b : Book) (s id c e : ℕ) (rs : List Record) → (is_some (get b s) || nat_lt 0 (amount (with_id id) b)) ≡ false → living b < w.sessions → rs ≡ Open s id c e ∷ [] → AllAllowed w b rs
-open_allowed w b s id c e rs free few is =
-    let parts = neither (is_some (get b s)) (nat_lt 0 (amount (with_id id) b)) free in
-    subst (AllAllowed w b) (sym is) ((none_there (get b s) parts.0, record { id_free = no_more (amount (with_id id) b) parts.1; few = few }), tt)
+pub open_allowed : (w : Whole) (b : Book) (l : Life) (rs : List Record) → (is_some (get b l.session) || nat_lt 0 (amount (with_id l.id) b)) ≡ false → living b < w.sessions → rs ≡ Open l ∷ [] → AllAllowed w b rs
+open_allowed w b l rs free few is =
+    let parts = or_parts (is_some (get b l.session)) (nat_lt 0 (amount (with_id l.id) b)) free in
+    subst (AllAllowed w b) (sym is) ((none_there (get b l.session) parts.0, record { id_free = no_more (amount (with_id l.id) b) parts.1; few = few }), tt)
 
 module _ (w : Whole) (n : ℕ) (b : Book) (ok : Sound w b) (room : n + owed b ≤ w.journal) where
-  pub hold_allowed : (s a : ℕ) (x : Thing) (f : Session) (rs : List Record) → get b s ≡ Some f → is_wrong_hold a x f ≡ false → IsFree w b x → rs ≡ Hold s a x ∷ [] → AllAllowed w b rs
+  pub hold_allowed : (s a : ℕ) (x : Thing) (f : Session) (rs : List Record) → get b s ≡ Some f → is_wrong_hold a x f ≡ false → IsFree w b x → rs ≡ holds s a x ∷ [] → AllAllowed w b rs
   hold_allowed s a x f rs there right free is =
-      subst (AllAllowed w b) (sym is) ((subst (Own (Hold s a x)) (sym there) (own_hold w n b ok room s a x (Some f) refl right), free), tt)
+      subst (AllAllowed w b) (sym is) ((subst (Own (holds s a x)) (sym there) (own_hold w n b ok room s a x (Some f) refl right), free), tt)
 
-  pub commit_allowed : (s a : ℕ) (v : Stream) (startup : Option Startup) (f : Session) (rs : List Record) → get b s ≡ Some f → is_wrong_commit a v f ≡ false → is_startup_taken b startup f ≡ false → is_unready_commit a f ≡ false → rs ≡ committing s a v startup f → AllAllowed w b rs
-  commit_allowed s a v startup f rs there right free ready is = subst (AllAllowed w b) (sym is) (committed w n b ok room s a v startup f there right free ready)
+  pub commit_allowed : (c : Commit) (f : Session) (rs : List Record) → get b c.session ≡ Some f → is_wrong_commit c.admission c.stream f ≡ false → is_startup_taken b c.startup f ≡ false → is_unready_commit c.admission f ≡ false → rs ≡ committing c f → AllAllowed w b rs
+  commit_allowed c f rs there right free ready is = subst (AllAllowed w b) (sym is) (committed w n b ok room c f there right free ready)
 
 -- Answers of records, over any sound book.
 
@@ -198,16 +149,16 @@ answer_granted w n b step rs ok room ask is =
     subst (IsGranted w n b) h.1 (made_granted w n b ok room step ask h.0)
 
 giving_frees : (s : ℕ) (r : Record) → Giving s r → TakesNone r
-giving_frees s (Open t id c e) h = absurd h
-giving_frees s (Close t id c e) h = tt
-giving_frees s (Hold t a x) h = absurd h
-giving_frees s (Free t a x) h = tt
-giving_frees s (Add t a v) h = absurd h
-giving_frees s (Drop t a v) h = tt
-giving_frees s (Move t p q) h = tt
-giving_frees s (Touch t m n) h = absurd h
-giving_frees s (Bind t c i) h = absurd h
-giving_frees s (Unbind t c i) h = tt
+giving_frees s (Open l) h = absurd h
+giving_frees s (Close l) h = tt
+giving_frees s (Hold x) h = absurd h
+giving_frees s (Free x) h = tt
+giving_frees s (Add u) h = absurd h
+giving_frees s (Drop u) h = tt
+giving_frees s (Move m) h = tt
+giving_frees s (Touch t) h = absurd h
+giving_frees s (Bind k) h = absurd h
+giving_frees s (Unbind k) h = tt
 
 all_free : (s : ℕ) (rs : List Record) → AllFine (Giving s) rs → TakesNoMemory rs
 all_free s [] h = tt

@@ -51,33 +51,33 @@ run-to rs f g h same run = subst (Run rs f) same run
 
 -- a record that asks nothing of other sessions
 abbrev pub Lone : ℕ → Record → Type 0
-Lone s (Open t id c e) = ⊥
-Lone s (Close t id c e) = t ≡ s
-Lone s (Hold t a x) = ⊥
-Lone s (Free t a x) = t ≡ s
-Lone s (Add t a v) = t ≡ s
-Lone s (Drop t a v) = t ≡ s
-Lone s (Move t p q) = t ≡ s
-Lone s (Touch t m n) = t ≡ s
-Lone s (Bind t c i) = ⊥
-Lone s (Unbind t c i) = t ≡ s
+Lone s (Open k) = ⊥
+Lone s (Close k) = k.session ≡ s
+Lone s (Hold k) = ⊥
+Lone s (Free k) = k.session ≡ s
+Lone s (Add k) = k.session ≡ s
+Lone s (Drop k) = k.session ≡ s
+Lone s (Move k) = k.session ≡ s
+Lone s (Touch k) = k.session ≡ s
+Lone s (Bind k) = ⊥
+Lone s (Unbind k) = k.session ≡ s
 
 pub lone_session : (s : ℕ) (r : Record) → Lone s r → session_of r ≡ s
-lone_session s (Open t id c e) h = absurd h
-lone_session s (Close t id c e) h = h
-lone_session s (Hold t a x) h = absurd h
-lone_session s (Free t a x) h = h
-lone_session s (Add t a v) h = h
-lone_session s (Drop t a v) h = h
-lone_session s (Move t p q) h = h
-lone_session s (Touch t m n) h = h
-lone_session s (Bind t c i) h = absurd h
-lone_session s (Unbind t c i) h = h
+lone_session s (Open k) h = absurd h
+lone_session s (Close k) h = h
+lone_session s (Hold k) h = absurd h
+lone_session s (Free k) h = h
+lone_session s (Add k) h = h
+lone_session s (Drop k) h = h
+lone_session s (Move k) h = h
+lone_session s (Touch k) h = h
+lone_session s (Bind k) h = absurd h
+lone_session s (Unbind k) h = h
 
 lone_others : (s : ℕ) (w : Whole) (b : Book) (r : Record) → Lone s r → Others w r b
-lone_others s w b (Open t id c e) h = absurd h
-lone_others s w b (Hold t a x) h = absurd h
-lone_others s w b (Bind t c i) h = absurd h
+lone_others s w b (Open k) h = absurd h
+lone_others s w b (Hold k) h = absurd h
+lone_others s w b (Bind k) h = absurd h
 lone_others s w b r h = tt
 
 pub row_at : (s : ℕ) (b : Book) (r : Record) → Lone s r → get (after b r) s ≡ effect r (get b s)
@@ -94,28 +94,28 @@ lone_row s b (r ∷ rs) l = lone_row s (after b r) rs l.1 ∙ ap (row_after rs) 
 
 -- a record that gives back, of this session
 abbrev pub Giving : ℕ → Record → Type 0
-Giving s (Open t id c e) = ⊥
-Giving s (Close t id c e) = t ≡ s
-Giving s (Hold t a x) = ⊥
-Giving s (Free t a x) = t ≡ s
-Giving s (Add t a v) = ⊥
-Giving s (Drop t a v) = t ≡ s
-Giving s (Move t p q) = (t ≡ s) × (is_opening p ≡ false) × (q ≡ opening)
-Giving s (Touch t m n) = ⊥
-Giving s (Bind t c i) = ⊥
-Giving s (Unbind t c i) = t ≡ s
+Giving s (Open k) = ⊥
+Giving s (Close k) = k.session ≡ s
+Giving s (Hold k) = ⊥
+Giving s (Free k) = k.session ≡ s
+Giving s (Add k) = ⊥
+Giving s (Drop k) = k.session ≡ s
+Giving s (Move k) = (k.session ≡ s) × (is_opening k.from ≡ false) × (k.to ≡ opening)
+Giving s (Touch k) = ⊥
+Giving s (Bind k) = ⊥
+Giving s (Unbind k) = k.session ≡ s
 
 pub giving_lone : (s : ℕ) (r : Record) → Giving s r → Lone s r
-giving_lone s (Open t id c e) h = absurd h
-giving_lone s (Close t id c e) h = h
-giving_lone s (Hold t a x) h = absurd h
-giving_lone s (Free t a x) h = h
-giving_lone s (Add t a v) h = absurd h
-giving_lone s (Drop t a v) h = h
-giving_lone s (Move t p q) h = h.0
-giving_lone s (Touch t m n) h = absurd h
-giving_lone s (Bind t c i) h = absurd h
-giving_lone s (Unbind t c i) h = h
+giving_lone s (Open k) h = absurd h
+giving_lone s (Close k) h = h
+giving_lone s (Hold k) h = absurd h
+giving_lone s (Free k) h = h
+giving_lone s (Add k) h = absurd h
+giving_lone s (Drop k) h = h
+giving_lone s (Move k) h = h.0
+giving_lone s (Touch k) h = absurd h
+giving_lone s (Bind k) h = absurd h
+giving_lone s (Unbind k) h = h
 
 pub all_lone : (s : ℕ) (rs : List Record) → AllFine (Giving s) rs → AllFine (Lone s) rs
 all_lone s [] h = tt
@@ -127,16 +127,16 @@ fine-append P (r ∷ rs) qs h g = (h.0, fine-append P rs qs h.1 g)
 
 -- each settles one return that is owed
 pub settles : (s : ℕ) (r : Record) → Giving s r → gain returns (inverse_of r) ≡ gain returns r + 1
-settles s (Open t id c e) h = absurd h
-settles s (Close t id c e) h = refl
-settles s (Hold t a x) h = absurd h
-settles s (Free t a x) h = refl
-settles s (Add t a v) h = absurd h
-settles s (Drop t a v) h = refl
-settles s (Move t p q) h = omega (arith, ap returns.phase h.2, ap (λ t. one_if (not t)) h.1)
-settles s (Touch t m n) h = absurd h
-settles s (Bind t c i) h = absurd h
-settles s (Unbind t c i) h = refl
+settles s (Open k) h = absurd h
+settles s (Close k) h = refl
+settles s (Hold k) h = absurd h
+settles s (Free k) h = refl
+settles s (Add k) h = absurd h
+settles s (Drop k) h = refl
+settles s (Move k) h = omega (arith, ap returns.phase h.2, ap (λ t. one_if (not t)) h.1)
+settles s (Touch k) h = absurd h
+settles s (Bind k) h = absurd h
+settles s (Unbind k) h = refl
 
 pub owed_given : (w : Whole) (s : ℕ) (b : Book) (rs : List Record) → AllFine (Giving s) rs → AllAllowed w b rs → length rs + owed (after_all b rs) ≡ owed b
 owed_given w s b [] g h = omega arith

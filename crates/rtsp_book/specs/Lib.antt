@@ -1,12 +1,10 @@
-pub mod Choices
 pub mod Sessions
 pub mod Returns
 pub mod Made
 pub mod Replies
 pub mod Laws
-pub mod Lookups
-pub mod Tallies
-pub mod Codes
 pub mod Receipts
-pub mod Plain
+pub mod Cases
+pub mod Owed
 pub mod Kept
+pub mod Answers

@@ -1,28 +1,25 @@
--- What a receipt tells.
-use Rattle.std.specs.Prelude.{ℕ, not, List, filter_map, Option, Some, None}
+-- What a receipt shows.
+use Rattle.std.specs.Prelude.{ℕ, List, filter_map, Option, Some, None, Result, Ok, Err}
+use Rattle.rtsp_record.specs.declared.holdings.Thing.{Thing}
 use Rattle.rtsp_record.specs.declared.holdings.Thing.TheVariants.{Pair}
 use Rattle.rtsp_record.specs.declared.changes.Record.{Record}
-use Rattle.rtsp_record.specs.declared.changes.Record.TheVariants.{Open, Close, Hold, Free, Add, Drop, Move, Touch, Bind, Unbind}
-use Rattle.rtsp_record.specs.Sums.{one_if, is_opening}
+use Rattle.rtsp_record.specs.declared.changes.Record.TheVariants.{Free}
+
+-- a pair, by its first port, with the admission that held it
+abbrev pub pair_under : ℕ → Thing → Option (ℕ × ℕ)
+pair_under a (Pair p) = Some (a, p)
+pair_under a x = None
 
 -- the pair that a record gives back, by its first port, with its admission
 abbrev pub freed_pair : Record → Option (ℕ × ℕ)
-freed_pair (Free s a (Pair p)) = Some (a, p)
+freed_pair (Free h) = pair_under h.admission h.thing
 freed_pair r = None
 
 -- the pairs that were given back, in order, each with its admission
 abbrev pub freed_pairs : List Record → List (ℕ × ℕ)
 freed_pairs rs = filter_map freed_pair rs
 
--- how many returns are owed for what a record makes
-abbrev pub owed_for : Record → ℕ
-owed_for (Open s id c e) = 1
-owed_for (Close s id c e) = 0
-owed_for (Hold s a x) = 1
-owed_for (Free s a x) = 0
-owed_for (Add s a v) = 1
-owed_for (Drop s a v) = 0
-owed_for (Move s p q) = one_if (not (is_opening q))
-owed_for (Touch s m n) = 0
-owed_for (Bind s c i) = 1
-owed_for (Unbind s c i) = 0
+-- an answer with its records: those of the receipt that it filled
+abbrev pub filled : {X E : Type 0} → Result X E → List Record → Result (List Record) E
+filled (Ok done) rs = Ok rs
+filled (Err refusal) rs = Err refusal

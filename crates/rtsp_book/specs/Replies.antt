@@ -8,18 +8,20 @@ use Rattle.rtsp_record.specs.declared.streams.Stream.{Stream}
 use Rattle.rtsp_record.specs.declared.holdings.Whole.{Whole}
 use Rattle.rtsp_record.specs.declared.changes.Record.{Record}
 use Rattle.rtsp_record.specs.declared.changes.Entry.{Entry}
-use Rattle.rtsp_book.specs.declared.steps.Startup.{Startup}
+use Rattle.rtsp_sessions.specs.declared.startups.Startup.{Startup}
 use Rattle.rtsp_book.specs.declared.steps.Chain.{Chain}
 use Rattle.rtsp_book.specs.declared.steps.Step.{Step}
 use Rattle.rtsp_book.specs.declared.steps.Step.TheVariants.{Open, HoldRate, HoldPair, HoldChan, Return, Commit, Unwind, Play, Pause, Finish, Touch, DropTrack, End, Expire, Hangup}
+use Rattle.rtsp_book.specs.declared.steps.Play.{Play as PlayStep}
 use Rattle.rtsp_book.specs.declared.refusals.Refusal.{Refusal}
 use Rattle.rtsp_book.specs.declared.refusals.Refusal.TheVariants.{NoSession, TooManySessions, NoBandwidth, NoPair, NoChannel, WrongState, IdTaken, StartupTaken, NotHeld, JournalFull, NothingDue}
 use Rattle.rtsp_record.specs.Books.{Session, Book, under, after_all, book_of}
 use Rattle.rtsp_record.specs.Sums.{of_session, amount, with_id, bindings, elsewhere, other_tracks, living, held_rate, owed, others_holding}
 use Rattle.rtsp_record.specs.Rules.{alike, is_held, if_living}
-use Rattle.rtsp_book.specs.Choices.{least_pair, chosen_chan}
-use Rattle.rtsp_book.specs.Sessions.{first_with, has_stream, has_stream_under, is_playing, is_ready}
-use Rattle.rtsp_book.specs.Made.{is_expired, is_of_track, is_on, is_unfinished, made, start_of}
+use Rattle.rtsp_record.specs.Choices.{least_pair, chosen_chan, IsWish}
+use Rattle.rtsp_sessions.specs.Searches.{first_with, is_expired, is_of_track, is_on}
+use Rattle.rtsp_book.specs.Sessions.{has_stream, has_stream_under, is_playing, is_ready}
+use Rattle.rtsp_book.specs.Made.{is_unfinished, made, start_of}
 
 -- a stream or such a thing under the admission, or 16 others that hold something
 abbrev pub is_wrong_hold : ℕ → Thing → Session → Bool
@@ -39,8 +41,8 @@ abbrev pub is_unready_commit : ℕ → Session → Bool
 is_unready_commit a f = is_none (under f a).rate || is_none (under f a).address
 
 -- no stream, or nothing to play
-abbrev pub is_wrong_play : Option ℕ → ℕ → ℕ → ℕ → Session → Bool
-is_wrong_play from stop unit_ms now f = not (has_stream f) || nat_le stop (start_of from f.phase unit_ms now)
+abbrev pub is_wrong_play : PlayStep → Session → Bool
+is_wrong_play d f = not (has_stream f) || nat_le d.stop (start_of d.from f.phase d.unit_ms d.now)
 
 -- nothing was done
 abbrev pub is_empty_chain : Chain → Bool
@@ -51,66 +53,106 @@ abbrev pub is_full : Whole → ℕ → Book → List Record → Bool
 is_full w n b [] = false
 is_full w n b (r ∷ rs) = nat_lt w.journal (n + length (r ∷ rs) + owed (after_all b (r ∷ rs)))
 
--- when each refusal fits a step after n entries with this book, by ascending number
-abbrev pub refusals : Whole → ℕ → Book → Step → List (Bool × Refusal)
-refusals w n b (Open s id c e) =
-    (nat_le w.sessions (living b), TooManySessions)
-    ∷ (is_some (get b s) || nat_lt 0 (amount (with_id id) b), IdTaken)
-    ∷ (is_full w n b (made w b (Open s id c e)), JournalFull) ∷ []
-refusals w n b (HoldRate s a bits) =
-    (is_none (get b s), NoSession)
-    ∷ (nat_lt w.uplink (held_rate b + bits), NoBandwidth)
-    ∷ (if_living (get b s) (is_wrong_hold a (Rate bits)), WrongState)
-    ∷ (is_full w n b (made w b (HoldRate s a bits)), JournalFull) ∷ []
-refusals w n b (HoldPair s a from) =
-    (is_none (get b s), NoSession)
-    ∷ (is_none (least_pair w b from), NoPair)
-    ∷ (if_living (get b s) (is_wrong_hold a (Pair 0)), WrongState)
-    ∷ (is_full w n b (made w b (HoldPair s a from)), JournalFull) ∷ []
-refusals w n b (HoldChan s a c wish) =
-    (is_none (get b s), NoSession)
-    ∷ (is_none (chosen_chan b c wish), NoChannel)
-    ∷ (if_living (get b s) (is_wrong_hold a (Chan c 0)), WrongState)
-    ∷ (is_full w n b (made w b (HoldChan s a c wish)), JournalFull) ∷ []
-refusals w n b (Return s a x) =
-    (is_none (get b s), NoSession)
-    ∷ (if_living (get b s) (λ f. has_stream_under f a), WrongState)
-    ∷ (if_living (get b s) (λ f. not (is_held f a x)), NotHeld) ∷ []
-refusals w n b (Commit s a v startup) =
-    (is_none (get b s), NoSession)
-    ∷ (if_living (get b s) (is_wrong_commit a v), WrongState)
-    ∷ (if_living (get b s) (is_startup_taken b startup), StartupTaken)
-    ∷ (if_living (get b s) (is_unready_commit a), NotHeld)
-    ∷ (is_full w n b (made w b (Commit s a v startup)), JournalFull) ∷ []
-refusals w n b (Unwind ch) = (is_none (get b ch.session) && not (is_empty_chain ch), NoSession) ∷ []
-refusals w n b (Play s from stop unit_ms now) =
-    (is_none (get b s), NoSession)
-    ∷ (if_living (get b s) (is_wrong_play from stop unit_ms now), WrongState)
-    ∷ (is_full w n b (made w b (Play s from stop unit_ms now)), JournalFull) ∷ []
-refusals w n b (Pause s unit_ms now) =
-    (is_none (get b s), NoSession)
-    ∷ (if_living (get b s) (λ f. not (has_stream f)), WrongState)
-    ∷ (is_full w n b (made w b (Pause s unit_ms now)), JournalFull) ∷ []
-refusals w n b (Finish s unit_ms now) =
-    (is_none (get b s), NoSession)
-    ∷ (if_living (get b s) (λ f. not (is_playing f.phase)), WrongState)
-    ∷ (not (if_living (get b s) (λ f. is_unfinished f.phase unit_ms now)) && is_full w n b (made w b (Finish s unit_ms now)), JournalFull)
-    ∷ (if_living (get b s) (λ f. is_unfinished f.phase unit_ms now), NothingDue) ∷ []
-refusals w n b (Touch s until) =
-    (is_none (get b s), NoSession)
-    ∷ (is_full w n b (made w b (Touch s until)), JournalFull) ∷ []
-refusals w n b (DropTrack s t) =
-    (is_none (get b s), NoSession)
-    ∷ (if_living (get b s) (λ f. not (is_ready f.phase) && nat_lt 0 (of_session (other_tracks t) f)), WrongState)
-    ∷ (if_living (get b s) (λ f. is_none (first_with (is_of_track t) (entries f.admissions))), NotHeld) ∷ []
-refusals w n b (End s) = (is_none (get b s), NoSession) ∷ []
-refusals w n b (Expire now) = (is_none (first_with (is_expired now) (entries b)), NothingDue) ∷ []
-refusals w n b (Hangup c) = (is_none (first_with (is_on c) (entries b)), NothingDue) ∷ []
+-- which refusals fit a step, by ascending number
+pub record Refusals : Type 0 where
+  pub no_session : Bool
+  pub too_many_sessions : Bool
+  pub no_bandwidth : Bool
+  pub no_pair : Bool
+  pub no_channel : Bool
+  pub wrong_state : Bool
+  pub id_taken : Bool
+  pub startup_taken : Bool
+  pub not_held : Bool
+  pub journal_full : Bool
+  pub nothing_due : Bool
 
--- the first refusal that fits, which has the least number, else the records
-abbrev pub answered : List (Bool × Refusal) → List Record → Result (List Record) Refusal
-answered [] rs = Ok rs
-answered (c ∷ cs) rs = if c.0 then Err c.1 else answered cs rs
+-- none fits
+abbrev pub no_refusal : Refusals
+no_refusal = record { no_session = false; too_many_sessions = false; no_bandwidth = false; no_pair = false; no_channel = false; wrong_state = false; id_taken = false; startup_taken = false; not_held = false; journal_full = false; nothing_due = false }
+
+-- when each refusal fits a step after n entries with this book; the others never do
+abbrev pub refusals : Whole → ℕ → Book → Step → Refusals
+refusals w n b (Open l) = record no_refusal {
+  too_many_sessions = nat_le w.sessions (living b);
+  id_taken = is_some (get b l.session) || nat_lt 0 (amount (with_id l.id) b);
+  journal_full = is_full w n b (made w b (Open l));
+}
+refusals w n b (HoldRate s a bits) = record no_refusal {
+  no_session = is_none (get b s);
+  no_bandwidth = nat_lt w.uplink (held_rate b + bits);
+  wrong_state = if_living (get b s) (is_wrong_hold a (Rate bits));
+  journal_full = is_full w n b (made w b (HoldRate s a bits));
+}
+refusals w n b (HoldPair s a from) = record no_refusal {
+  no_session = is_none (get b s);
+  no_pair = is_none (least_pair w b from);
+  wrong_state = if_living (get b s) (is_wrong_hold a (Pair 0));
+  journal_full = is_full w n b (made w b (HoldPair s a from));
+}
+refusals w n b (HoldChan h) = record no_refusal {
+  no_session = is_none (get b h.session);
+  no_channel = is_none (chosen_chan b h.conn h.wish);
+  wrong_state = if_living (get b h.session) (is_wrong_hold h.admission (Chan h.conn 0));
+  journal_full = is_full w n b (made w b (HoldChan h));
+}
+refusals w n b (Return s a x) = record no_refusal {
+  no_session = is_none (get b s);
+  wrong_state = if_living (get b s) (λ f. has_stream_under f a);
+  not_held = if_living (get b s) (λ f. not (is_held f a x));
+}
+refusals w n b (Commit c) = record no_refusal {
+  no_session = is_none (get b c.session);
+  wrong_state = if_living (get b c.session) (is_wrong_commit c.admission c.stream);
+  startup_taken = if_living (get b c.session) (is_startup_taken b c.startup);
+  not_held = if_living (get b c.session) (is_unready_commit c.admission);
+  journal_full = is_full w n b (made w b (Commit c));
+}
+refusals w n b (Unwind ch) = record no_refusal { no_session = is_none (get b ch.session) && not (is_empty_chain ch) }
+refusals w n b (Play d) = record no_refusal {
+  no_session = is_none (get b d.session);
+  wrong_state = if_living (get b d.session) (is_wrong_play d);
+  journal_full = is_full w n b (made w b (Play d));
+}
+refusals w n b (Pause s unit_ms now) = record no_refusal {
+  no_session = is_none (get b s);
+  wrong_state = if_living (get b s) (λ f. not (has_stream f));
+  journal_full = is_full w n b (made w b (Pause s unit_ms now));
+}
+refusals w n b (Finish s unit_ms now) = record no_refusal {
+  no_session = is_none (get b s);
+  wrong_state = if_living (get b s) (λ f. not (is_playing f.phase));
+  journal_full = not (if_living (get b s) (λ f. is_unfinished f.phase unit_ms now)) && is_full w n b (made w b (Finish s unit_ms now));
+  nothing_due = if_living (get b s) (λ f. is_unfinished f.phase unit_ms now);
+}
+refusals w n b (Touch s until) = record no_refusal {
+  no_session = is_none (get b s);
+  journal_full = is_full w n b (made w b (Touch s until));
+}
+refusals w n b (DropTrack s t) = record no_refusal {
+  no_session = is_none (get b s);
+  wrong_state = if_living (get b s) (λ f. not (is_ready f.phase) && nat_lt 0 (of_session (other_tracks t) f));
+  not_held = if_living (get b s) (λ f. is_none (first_with (is_of_track t) (entries f.admissions)));
+}
+refusals w n b (End s) = record no_refusal { no_session = is_none (get b s) }
+refusals w n b (Expire now) = record no_refusal { nothing_due = is_none (first_with (is_expired now) (entries b)) }
+refusals w n b (Hangup c) = record no_refusal { nothing_due = is_none (first_with (is_on c) (entries b)) }
+
+-- the refusal that fits and has the least number, else the records
+abbrev pub answered : Refusals → List Record → Result (List Record) Refusal
+answered c rs =
+    if c.no_session then Err NoSession
+    else if c.too_many_sessions then Err TooManySessions
+    else if c.no_bandwidth then Err NoBandwidth
+    else if c.no_pair then Err NoPair
+    else if c.no_channel then Err NoChannel
+    else if c.wrong_state then Err WrongState
+    else if c.id_taken then Err IdTaken
+    else if c.startup_taken then Err StartupTaken
+    else if c.not_held then Err NotHeld
+    else if c.journal_full then Err JournalFull
+    else if c.nothing_due then Err NothingDue
+    else Ok rs
 
 -- the answer after n entries with this book
 abbrev pub answer : Whole → ℕ → Book → Step → Result (List Record) Refusal
@@ -122,21 +164,16 @@ reply w j step = answer w (length j) (book_of j) step
 
 -- the steps that may want memory, or be refused for a full journal
 abbrev pub is_growing : Step → Bool
-is_growing (Open s id c e) = true
+is_growing (Open l) = true
 is_growing (HoldRate s a n) = true
 is_growing (HoldPair s a from) = true
-is_growing (HoldChan s a c wish) = true
-is_growing (Commit s a v startup) = true
-is_growing (Play s from stop unit_ms now) = true
+is_growing (HoldChan h) = true
+is_growing (Commit c) = true
+is_growing (Play d) = true
 is_growing (Pause s unit_ms now) = true
 is_growing (Finish s unit_ms now) = true
 is_growing (Touch s until) = true
 is_growing step = false
-
--- a wish is even and at most 254
-abbrev pub IsWish : Option ℕ → Type 0
-IsWish None = Unit {0}
-IsWish (Some k) = (i : ℕ) × (k ≡ 2 * i) × (k ≤ 254)
 
 -- two things of a chain are different
 abbrev pub AreDifferent : Option Thing → Option Thing → Type 0
@@ -145,9 +182,9 @@ AreDifferent o p = Unit {0}
 
 -- what the caller sees to
 abbrev pub IsAskable : Step → Type 0
-IsAskable (HoldChan s a c wish) = IsWish wish
+IsAskable (HoldChan h) = IsWish h.wish
 IsAskable (Unwind ch) = AreDifferent ch.first ch.second
-IsAskable (Play s from stop unit_ms now) = (0 < unit_ms) × (unit_ms ≤ 1000) × (stop ≤ 10000000)
+IsAskable (Play d) = (0 < d.unit_ms) × (d.unit_ms ≤ 1000) × (d.stop ≤ 10000000)
 IsAskable (Pause s unit_ms now) = (0 < unit_ms) × (unit_ms ≤ 1000)
 IsAskable (Finish s unit_ms now) = (0 < unit_ms) × (unit_ms ≤ 1000)
 IsAskable step = Unit {0}

@@ -1,8 +1,9 @@
 -- What a session is, as tests.
-use Rattle.std.specs.Prelude.{ℕ, ◌-◌, Bool, true, false, nat_lt, if◌then◌else◌, List, [], ◌∷◌, is_some, Option, Some, None}
+use Rattle.std.specs.Prelude.{◌≡◌, ℕ, Bool, true, false, nat_lt, is_some, Some}
+use Rattle.std.specs.FinMap.{get}
 use Rattle.rtsp_record.specs.declared.phases.Phase.{Phase}
 use Rattle.rtsp_record.specs.declared.phases.Phase.TheVariants.{Ready, Playing, Ended}
-use Rattle.rtsp_record.specs.Books.{Session, under}
+use Rattle.rtsp_record.specs.Books.{Session, Book, under}
 use Rattle.rtsp_record.specs.Sums.{of_session, streams}
 
 -- the session is Ready
@@ -25,7 +26,6 @@ has_stream_under f a = is_some (under f a).stream
 abbrev pub has_stream : Session → Bool
 has_stream f = nat_lt 0 (of_session streams f)
 
--- the first row that passes
-abbrev pub first_with : {X : Type 0} → (ℕ × X → Bool) → List (ℕ × X) → Option (ℕ × X)
-first_with p [] = None
-first_with p (e ∷ es) = if p e then Some e else first_with p es
+-- the session of this number lives, and is this one
+abbrev pub Lives : Book → ℕ → ℕ × Session → Type 0
+Lives b s v = (v.0 ≡ s) × (get b s ≡ Some v.1)

@@ -1,6 +1,7 @@
 //! What an admission asks for, and what it was given: plain data for the crates above.
-use crate::steps::Startup;
+
 use rtsp_record::{Stream, Thing};
+use rtsp_sessions::Startup;
 
 /// The session that an admission opens.
 #[derive(Clone, Copy, Debug, PartialEq, Eq)]
@@ -8,7 +9,7 @@ pub struct Opening {
     pub id: u128,
     /// The connection that opens it.
     pub conn: u64,
-    /// The moment from which on it may be ended, in milliseconds.
+    /// The moment from which it may be ended, in milliseconds.
     pub expires: u64,
 }
 
@@ -17,17 +18,17 @@ pub struct Opening {
 pub enum Wanted {
     /// A pair of ports.
     Pair,
-    /// Channels of a connection: the wish where it is free, else the least free ones.
+    /// Channels of a connection: the wish if it is free, else the least free ones.
     Channels { conn: u64, wish: Option<u8> },
 }
 
-/// What an admission asks for: perhaps a new session, bits per second of the uplink, an address, a stream over them,
-/// and perhaps a startup number for the session. Its numbers were drawn before.
+/// What an admission asks for: perhaps a new session, bits per second of the uplink, an address, a
+/// stream over them, and perhaps a startup number for the session. Its numbers were drawn before.
 #[derive(Clone, Copy, Debug, PartialEq, Eq)]
 pub struct Ask {
     pub session: u64,
     pub admission: u64,
-    /// The session is to be opened; without, it lives already.
+    /// The session to be opened; `None` if it is alive already.
     pub opening: Option<Opening>,
     /// Bits per second.
     pub rate: u64,

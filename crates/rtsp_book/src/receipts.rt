@@ -1,8 +1,9 @@
 //! What an accepted step recorded.
-ghost use Rattle.std.specs.Prelude.{◌≡◌, ◌<◌, ◌≤◌, [], ◌∷◌, ◌++◌, length};
-ghost use Rattle.rtsp_book.specs.Receipts.{freed_pair, freed_pairs};
 
-use rtsp_record::{Record, Thing};
+ghost use Rattle.std.specs.Prelude.{◌≡◌, ◌<◌, ◌≤◌, [], ◌∷◌, ◌++◌, length};
+ghost use Rattle.rtsp_book.specs.Receipts.{freed_pair, freed_pairs, pair_under};
+
+use rtsp_record::{Holding, Record, Renewal, Thing};
 use std::marker::Model;
 
 /// The greatest number of records of one step.
@@ -27,26 +28,26 @@ impl Model for Receipt {
 }
 
 impl Receipt {
-    pub(crate) fn new() -> Self
+    /// A receipt without records, to be filled by a step. It may be filled again and again.
+    pub fn new() -> Self
         ensures { result ≡ [] }
     {
-        let blank = Record::Touch {
+        let blank = Record::Touch(Renewal {
             session: 0,
-            old: 0,
-            new: 0,
-        };
+            from: 0,
+            to: 0,
+        });
         Receipt {
             records: [blank; 64],
             len: 0,
         }
     }
 
-    pub(crate) fn one(change: Record) -> Self
-        ensures { result ≡ change ∷ [] }
+    // Forgets the records.
+    pub(crate) fn clear(&mut self)
+        ensures { self.new ≡ [] }
     {
-        let mut made = Receipt::new();
-        made.push(change);
-        made
+        self.len = 0;
     }
 
     pub(crate) fn push(&mut self, change: Record)
@@ -65,7 +66,7 @@ impl Receipt {
         &self.records[..self.len]
     }
 
-    /// The pairs of ports that were given back.
+    /// The pairs of ports that were freed.
     pub fn freed_pairs(&self) -> FreedPairs
         ensures { result ≡ freed_pairs self.now }
     {
@@ -73,8 +74,8 @@ impl Receipt {
     }
 }
 
-/// Pairs of ports that were given back, in order, at most 64: each by its first port, with the admission that held it.
-/// It is of fixed size and takes no memory.
+/// Pairs of ports that were given back, in order, at most 64: each by its first port, with the
+/// admission that held it. It is of fixed size and takes no memory.
 #[derive(Drop)]
 pub struct FreedPairs {
     pairs: [(u64, u16); 64],
@@ -109,7 +110,7 @@ impl FreedPairs {
         self.len += 1;
     }
 
-    /// The pairs, in the order in which they were given back.
+    /// The pairs, in the order in which they were freed.
     pub fn as_slice(&self) -> &[(u64, u16)]
         ensures value { result.now ≡ self.now }
         ensures short { length self.now ≤ 64 }
@@ -118,17 +119,23 @@ impl FreedPairs {
     }
 }
 
-// The pair that a record gives back, with its admission.
+// The pair that a record frees, with its admission.
 fn freed_pair(change: &Record) -> Option<(u64, u16)>
     ensures { result ≡ freed_pair change.now }
 {
-    match *change {
-        Record::Free {
-            admission,
-            thing: Thing::Pair(first_port),
-            ..
-        } => Some((admission, first_port)),
+    match change {
+        Record::Free(holding) => pair_under(holding),
         _ => None,
+    }
+}
+
+// The pair, by its first port, where that is what is held, with the admission.
+fn pair_under(holding: &Holding) -> Option<(u64, u16)>
+    ensures { result ≡ pair_under holding.now.admission holding.now.thing }
+{
+    match holding.thing {
+        Thing::Pair(first_port) => Some((holding.admission, first_port)),
+        Thing::Chan(_, _) | Thing::Rate(_) => None,
     }
 }
 

@@ -1,17 +1,18 @@
 //! Why a step is refused.
+
 use thiserror::Error;
 
-/// Why a step is refused, by ascending number from 1. Of several refusals that fit, the one with the least number is
-/// answered. A refused step changes nothing.
+/// Why a step is refused, by ascending number from 1. Of several refusals that fit, the one with
+/// the least number is answered. A refused step changes nothing.
 #[derive(Clone, Copy, Debug, PartialEq, Eq, Error)]
 pub enum Refusal {
     /// No living session has the number, or the id.
     #[error("no such session")]
     NoSession,
-    /// As many sessions live as may.
+    /// The limit of living sessions is reached.
     #[error("too many sessions")]
     TooManySessions,
-    /// The uplink has not so many bits per second left.
+    /// The uplink has fewer bits per second left than that.
     #[error("not enough bandwidth")]
     NoBandwidth,
     /// No pair of ports from there on is free.

@@ -1,94 +1,69 @@
-//! What a step is answered, from the book, what there is to hold and the number of entries of the journal.
-ghost use Rattle.std.specs.Prelude.{◌≡◌, ◌+◌, ◌≤◌};
-ghost use Rattle.rtsp_record.specs.Sums.{owed};
-ghost use Rattle.rtsp_record.specs.Sound.{Sound};
+//! What a step is answered, from the book, what there is to hold and the number of entries of the
+//! journal.
+
+ghost use Rattle.std.specs.Prelude.{◌≡◌, []};
+ghost use Rattle.rtsp_book.specs.Receipts.{filled};
 ghost use Rattle.rtsp_book.specs.Replies.{answer, IsAskable};
 
+mod case;
 mod committing;
 mod ending;
 mod holding;
 mod opening;
 mod playing;
 mod returning;
-mod room;
 mod sessions;
 
 use crate::receipts::Receipt;
 use crate::refusals::Refusal;
-use crate::representation::BookRep;
 use crate::steps::Step;
-pub(crate) use room::owed_after;
-use rtsp_record::Whole;
+pub(crate) use case::Case;
+use rtsp_sessions::BookRep;
+pub(crate) use sessions::is_opening;
 
-/// What a step is answered: the records that it makes, or the first refusal that fits.
-pub(crate) fn reply_to<B: BookRep>(
-    book: &B,
-    whole: &Whole,
-    entries: usize,
-    step: &Step,
-) -> Result<Receipt, Refusal>
-    requires whole { B.whole_of book.now ≡ whole.now }
-    requires sound { Sound whole.now (B.contents book.now) }
-    requires room { entries + owed (B.contents book.now) ≤ whole.now.journal }
-    requires askable { IsAskable step.now }
-    ensures { result ≡ answer whole.now entries (B.contents book.now) step.now }
-{
-    match *step {
-        Step::Open {
-            session,
-            id,
-            conn,
-            expires,
-        } => opening::open(book, whole, entries, session, id, conn, expires),
-        Step::HoldRate {
-            session,
-            admission,
-            bits,
-        } => holding::hold_rate(book, whole, entries, session, admission, bits),
-        Step::HoldPair {
-            session,
-            admission,
-            from,
-        } => holding::hold_pair(book, whole, entries, session, admission, from),
-        Step::HoldChan {
-            session,
-            admission,
-            conn,
-            wish,
-        } => holding::hold_chan(book, whole, entries, session, admission, conn, wish),
-        Step::Return {
-            session,
-            admission,
-            thing,
-        } => holding::return_thing(book, session, admission, thing),
-        Step::Commit {
-            session,
-            admission,
-            stream,
-            startup,
-        } => committing::commit(book, whole, entries, session, admission, stream, startup),
-        Step::Unwind { chain } => ending::unwind(book, &chain),
-        Step::Play {
-            session,
-            from,
-            stop,
-            unit_ms,
-            now,
-        } => playing::play(book, whole, entries, session, from, stop, unit_ms, now),
-        Step::Pause {
-            session,
-            unit_ms,
-            now,
-        } => playing::pause(book, whole, entries, session, unit_ms, now),
-        Step::Finish {
-            session,
-            unit_ms,
-            now,
-        } => playing::finish(book, whole, entries, session, unit_ms, now),
-        Step::Touch { session, until } => playing::touch(book, whole, entries, session, until),
-        Step::DropTrack { session, track } => ending::drop_track(book, session, track),
-        Step::End { session } => ending::end(book, session),
-        Step::Expire { now } => ending::expire(book, now),
-        Step::Hangup { conn } => ending::hang_up(book, conn),
+impl<'a, B: BookRep> Case<'a, B> {
+    /// The reply to a step: its records, or the first refusal that applies.
+    pub(crate) fn answer(&self, step: &Step, made: &mut Receipt) -> Result<(), Refusal>
+        requires askable { IsAskable step.now }
+        requires empty { made.old ≡ [] }
+        ensures { filled result made.new ≡ answer self.now.whole self.now.entries self.now.book step.now }
+    {
+        match *step {
+            Step::Open(life) => self.open(life, made),
+            Step::HoldRate {
+                session,
+                admission,
+                bits,
+            } => self.hold_rate(session, admission, bits, made),
+            Step::HoldPair {
+                session,
+                admission,
+                from,
+            } => self.hold_pair(session, admission, from, made),
+            Step::HoldChan(hold) => self.hold_chan(hold, made),
+            Step::Return {
+                session,
+                admission,
+                thing,
+            } => self.return_thing(session, admission, thing, made),
+            Step::Commit(commit) => self.commit(&commit, made),
+            Step::Unwind { chain } => self.unwind(&chain, made),
+            Step::Play(play) => self.play(play, made),
+            Step::Pause {
+                session,
+                unit_ms,
+                now,
+            } => self.pause(session, unit_ms, now, made),
+            Step::Finish {
+                session,
+                unit_ms,
+                now,
+            } => self.finish(session, unit_ms, now, made),
+            Step::Touch { session, until } => self.touch(session, until, made),
+            Step::DropTrack { session, track } => self.drop_track(session, track, made),
+            Step::End { session } => self.end(session, made),
+            Step::Expire { now } => self.expire(now, made),
+            Step::Hangup { conn } => self.hang_up(conn, made),
+        }
     }
 }

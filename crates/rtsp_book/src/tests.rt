@@ -1,8 +1,8 @@
-ghost use Rattle.rtsp_book.specs.Choices.{HasPorts};
+ghost use Rattle.rtsp_record.specs.Choices.{HasPorts};
 ghost use Rattle.rtsp_book.specs.Replies.{IsAskable};
 
 use crate::*;
-use rtsp_record::{Entry, Phase, Record, Stream, Thing, Whole};
+use rtsp_record::{Entry, Holding, Id, Life, Phase, Record, Setup, Stream, Thing, Whole};
 use std::test::Fail;
 
 const SMALL: Whole = Whole {
@@ -38,12 +38,12 @@ const OVER_CHANNELS: Stream = Stream {
 fn open(session: u64, id: u128) -> Step
     ensures { IsAskable result }
 {
-    Step::Open {
+    Step::Open(Life {
         session,
-        id,
+        id: Id::new(id),
         conn: 1,
         expires: 60_000,
-    }
+    })
 }
 
 fn rate(session: u64, admission: u64) -> Step
@@ -69,29 +69,29 @@ fn pair(session: u64, admission: u64) -> Step
 fn commit(session: u64, admission: u64, stream: Stream) -> Step
     ensures { IsAskable result }
 {
-    Step::Commit {
+    Step::Commit(Commit {
         session,
         admission,
         stream,
         startup: None,
-    }
+    })
 }
 
 fn free(session: u64, admission: u64, thing: Thing) -> Record {
-    Record::Free {
+    Record::Free(Holding {
         session,
         admission,
         thing,
-    }
+    })
 }
 
 fn close(session: u64, id: u128) -> Record {
-    Record::Close {
+    Record::Close(Life {
         session,
-        id,
+        id: Id::new(id),
         conn: 1,
         expires: 60_000,
-    }
+    })
 }
 
 // A session with a stream of a track over a pair, under admission 3.
@@ -152,16 +152,32 @@ fn a_renewed_session_expires_at_its_new_moment(rt: HostRuntime) -> Result<(), Fa
 }
 
 #[test]
+fn a_receipt_is_filled_again(rt: HostRuntime) -> Result<(), Fail> {
+    let mut kept: Kept<PlainBook> = Kept::open(rt.alloc(), &SMALL)?;
+    let mut made = Receipt::new();
+    kept.act_into(0, &open(2, 1), &mut made)?;
+    assert_eq!(rt; made.records().len(), 1);
+    assert_eq!(rt;
+        kept.act_into(0, &open(2, 1), &mut made),
+        Err(Refusal::IdTaken)
+    );
+    assert!(rt; made.records().is_empty());
+    kept.act_into(0, &Step::End { session: 2 }, &mut made)?;
+    assert_eq!(rt; made.records(), [close(2, 1)].as_slice());
+    Ok(())
+}
+
+#[test]
 fn a_session_ends_under_another_admission(rt: HostRuntime) -> Result<(), Fail> {
     let mut kept = with_stream(&rt, &SMALL)?;
     kept.act(0, &rate(2, 9))?;
     let ended = kept.act(0, &Step::Expire { now: 60_000 })?;
     let records = [
-        Record::Drop {
+        Record::Drop(Setup {
             session: 2,
             admission: 3,
             stream: OVER_PORTS,
-        },
+        }),
         free(2, 3, Thing::Pair(5000)),
         free(2, 3, Thing::Rate(80_000)),
         free(2, 9, Thing::Rate(80_000)),
@@ -192,25 +208,25 @@ fn a_stream_takes_the_place_of_one_of_its_track(rt: HostRuntime) -> Result<(), F
     kept.act(0, &rate(2, 4))?;
     kept.act(
         0,
-        &Step::HoldChan {
+        &Step::HoldChan(ChannelHold {
             session: 2,
             admission: 4,
             conn: 1,
             wish: Some(0),
-        },
+        }),
     )?;
     let exchanged = kept.act(0, &commit(2, 4, OVER_CHANNELS))?;
     let records = [
-        Record::Drop {
+        Record::Drop(Setup {
             session: 2,
             admission: 3,
             stream: OVER_PORTS,
-        },
-        Record::Add {
+        }),
+        Record::Add(Setup {
             session: 2,
             admission: 4,
             stream: OVER_CHANNELS,
-        },
+        }),
         free(2, 3, Thing::Pair(5000)),
         free(2, 3, Thing::Rate(80_000)),
     ];

@@ -1,5 +1,5 @@
 pub mod Items
-pub mod Turns
+pub mod TablesLemmas
 pub mod Joined
 pub mod PathLemmas
 pub mod DistinctLemmas

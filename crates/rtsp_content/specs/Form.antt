@@ -1,6 +1,7 @@
 -- The forms of the texts in a configuration.
 use Rattle.std.specs.Prelude.{ℕ, ◌==◌, ◌&&◌, ◌||◌, Bool, true, List, length, nat_le}
 use Rattle.std.specs.List.{list_all}
+use Rattle.rtsp_content.specs.Limits.{max_name, max_encoding}
 use Rattle.rtsp_content.specs.declared.keys.Form.{Form}
 use Rattle.rtsp_content.specs.declared.keys.Form.TheVariants.{Name, Encoding, Path}
 
@@ -25,15 +26,15 @@ is_encoding_byte b = is_lowercase b || is_uppercase b || is_digit b || (b == 45)
 abbrev pub is_short : ℕ → List ℕ → Bool
 is_short most text = nat_le 1 (length text) && nat_le (length text) most
 
--- 1 to 64 bytes of a name
+-- a name: 1 to 64 of its bytes
 abbrev pub is_name : List ℕ → Bool
-is_name text = is_short 64 text && list_all is_name_byte text
+is_name text = is_short max_name text && list_all is_name_byte text
 
--- 1 to 32 bytes of an encoding's name
+-- an encoding's name: 1 to 32 of its bytes
 abbrev pub is_encoding : List ℕ → Bool
-is_encoding text = is_short 32 text && list_all is_encoding_byte text
+is_encoding text = is_short max_encoding text && list_all is_encoding_byte text
 
--- the text has the form; a path is taken as it stands
+-- the text has the form; a path is taken as it is
 abbrev pub has_form : Form → List ℕ → Bool
 has_form Name text = is_name text
 has_form Encoding text = is_encoding text

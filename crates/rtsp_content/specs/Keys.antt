@@ -1,9 +1,10 @@
 -- What a key of a TOML table says, or its fault.
-use Rattle.std.specs.Prelude.{ℕ, ◌&&◌, ◌+◌, pos, nat_le, List, Option, Some, None, Ok, Err, if◌then◌else◌}
+use Rattle.std.specs.Prelude.{ℕ, ◌≤◌, ◌&&◌, ◌+◌, pos, nat_le, List, Option, Some, None, Ok, Err, if◌then◌else◌}
 use Rattle.toml.specs.Data.{Data, Items, no_items, item, Members, integer, string, get_member, as_table, as_array}
 use Rattle.rtsp_content.specs.declared.fault.TableFault.TheVariants.{Missing, BadValue}
 use Rattle.rtsp_content.specs.declared.keys.Form.{Form}
-use Rattle.rtsp_content.specs.Fault.{Read, ◌>>=◌}
+use Rattle.rtsp_content.specs.Fault.{Read}
+use Rattle.rtsp_text.specs.Results.{◌>>=◌}
 use Rattle.rtsp_content.specs.Form.{has_form}
 
 -- a whole number from `least` to `most`
@@ -53,6 +54,10 @@ table_in (Some d) = of_type (as_table d)
 abbrev pub item_count : Items → ℕ
 item_count no_items = 0
 item_count (item d ds) = 1 + item_count ds
+
+-- there are 1 to `most` items
+abbrev pub AreFew : ℕ → Items → Type 0
+AreFew most ds = (1 ≤ item_count ds) × (item_count ds ≤ most)
 
 -- an array of 1 to `most` items
 abbrev pub few : ℕ → Items → Read Items

@@ -1,13 +1,10 @@
 -- The description of a presentation in SDP (RFC 4566). Lines end with CR LF.
-use Rattle.std.specs.Prelude.{ℕ, ◌+◌, ◌*◌, ◌/◌, ◌%◌, List, [], ◌∷◌, ◌++◌, codes, decimal}
+use Rattle.std.specs.Prelude.{ℕ, ◌*◌, ◌/◌, List, [], ◌∷◌, ◌++◌, codes, decimal}
 use Rattle.std.specs.List.{concat, flat_map}
+use Rattle.rtsp_text.specs.Decimal.{three_digits}
 use Rattle.rtsp_content.specs.Track.{media_text}
 use Rattle.rtsp_content.specs.TrackValue.{TrackValue}
 use Rattle.rtsp_content.specs.PresentationValue.{PresentationValue}
-
--- the three digits of a number below 1,000
-abbrev pub three_digits : ℕ → List ℕ
-three_digits n = (48 + n / 100) ∷ (48 + n / 10 % 10) ∷ (48 + n % 10) ∷ []
 
 -- version, origin, name, connection, time, control, and the range from 0 to the length in seconds (RFC 7826, appendix D)
 unfoldable pub session_text : PresentationValue → List ℕ
@@ -20,7 +17,7 @@ session_text p =
     codes "c=IN IP4 0.0.0.0\r\n" ∷
     codes "t=0 0\r\n" ∷
     codes "a=control:*\r\n" ∷
-    codes "a=range:npt=0.000-" ∷ decimal (ms / 1000) ∷ codes "." ∷ three_digits (ms % 1000) ∷ codes "\r\n" ∷ [])
+    codes "a=range:npt=0.000-" ∷ decimal (ms / 1000) ∷ codes "." ∷ three_digits ms ∷ codes "\r\n" ∷ [])
 
 -- media, encoding and control of a track
 unfoldable pub track_text : TrackValue → List ℕ

@@ -2,8 +2,10 @@
 use Rattle.std.specs.Prelude.{[], codes, Option, Some, None, Ok, Err}
 use Rattle.toml.specs.Data.{Members, get_member}
 use Rattle.rtsp_content.specs.declared.fault.TableFault.TheVariants.{NotToml}
-use Rattle.rtsp_content.specs.Fault.{Read, ◌>>=◌}
+use Rattle.rtsp_content.specs.Fault.{Read}
+use Rattle.rtsp_text.specs.Results.{◌>>=◌}
 use Rattle.rtsp_content.specs.Keys.{table_in, list_in}
+use Rattle.rtsp_content.specs.Limits.{max_presentations}
 use Rattle.rtsp_content.specs.Server.{server_of}
 use Rattle.rtsp_content.specs.Presentation.{presentations_from}
 use Rattle.rtsp_content.specs.TableValue.{TableValue}
@@ -13,7 +15,7 @@ abbrev pub table_of : Members → Read TableValue
 table_of ms = do
   numbers ← table_in (get_member (codes "server") ms)
   server ← server_of numbers
-  items ← list_in 256 (get_member (codes "presentation") ms)
+  items ← list_in max_presentations (get_member (codes "presentation") ms)
   presentations ← presentations_from [] items
   Ok (record { server = server; presentations = presentations })
 

@@ -6,7 +6,9 @@ use Rattle.rtsp_content.specs.declared.fault.TableFault.TheVariants.{Missing, Ba
 use Rattle.rtsp_content.specs.declared.keys.Form.TheVariants.{Name, Encoding, Path}
 use Rattle.rtsp_content.specs.declared.track.Media.{Media}
 use Rattle.rtsp_content.specs.declared.track.Media.TheVariants.{Audio, Video}
-use Rattle.rtsp_content.specs.Fault.{Read, ◌>>=◌, must}
+use Rattle.rtsp_content.specs.Fault.{Read, must}
+use Rattle.rtsp_text.specs.Results.{◌>>=◌}
+use Rattle.rtsp_content.specs.Limits.{max_payload_type, max_clock, max_octets, max_ticks}
 use Rattle.rtsp_content.specs.Keys.{number_at, text_at, of_type}
 use Rattle.rtsp_content.specs.TrackValue.{TrackValue}
 
@@ -34,11 +36,11 @@ track_of before ms = do
   name ← text_at (codes "name") Name ms
   fresh ← must (not (has_track name before)) Duplicate
   media ← media_in (get_member (codes "media") ms)
-  payload_type ← number_at (codes "pt") 0 127 ms
+  payload_type ← number_at (codes "pt") 0 max_payload_type ms
   encoding ← text_at (codes "encoding") Encoding ms
-  clock ← number_at (codes "clock") 1 1000000 ms
-  octets ← number_at (codes "octets") 1 1400 ms
-  ticks ← number_at (codes "ticks") 1 1000000 ms
+  clock ← number_at (codes "clock") 1 max_clock ms
+  octets ← number_at (codes "octets") 1 max_octets ms
+  ticks ← number_at (codes "ticks") 1 max_ticks ms
   file ← text_at (codes "file") Path ms
   Ok (record { name = name; media = media; payload_type = payload_type; encoding = encoding; clock = clock; octets = octets; ticks = ticks; file = file })
 

@@ -1,6 +1,7 @@
 -- A track as contracts see it.
 use Rattle.std.specs.Prelude.{◌≡◌, ℕ, ◌≤◌, true, List, map}
 use Rattle.rtsp_content.specs.declared.track.Media.{Media}
+use Rattle.rtsp_content.specs.Limits.{max_payload_type, max_clock, max_octets, max_ticks}
 use Rattle.rtsp_content.specs.Form.{is_name, is_encoding}
 
 pub record TrackValue : Type 0 where
@@ -20,11 +21,11 @@ track_names tracks = map (λ t. t.name) tracks
 -- the limits of a track's numbers and the forms of its texts
 pub record IsTrackWithin (track : TrackValue) : Type 0 where
   pub name : is_name track.name ≡ true
-  pub payload_type : track.payload_type ≤ 127
+  pub payload_type : track.payload_type ≤ max_payload_type
   pub encoding : is_encoding track.encoding ≡ true
   pub clock_least : 1 ≤ track.clock
-  pub clock_most : track.clock ≤ 1000000
+  pub clock_most : track.clock ≤ max_clock
   pub octets_least : 1 ≤ track.octets
-  pub octets_most : track.octets ≤ 1400
+  pub octets_most : track.octets ≤ max_octets
   pub ticks_least : 1 ≤ track.ticks
-  pub ticks_most : track.ticks ≤ 1000000
+  pub ticks_most : track.ticks ≤ max_ticks

@@ -1,10 +1,11 @@
 //! What a path names.
 
-ghost use Rattle.std.specs.Prelude.{◌≡◌, ◌<◌, ◌≤◌, length, IfSome};
+ghost use Rattle.std.specs.Prelude.{◌≡◌, ◌<◌, ◌≤◌, length, bytes_eq, IfSome};
 ghost use Rattle.std.specs.List.{position_from};
+ghost use Rattle.rtsp_text.specs.Slices.{joined};
+ghost use Rattle.rtsp_content.specs.Limits.{max_presentations, max_tracks};
 ghost use Rattle.rtsp_content.specs.Paths.{is_presentation_path, is_track_path, find_from};
 
-use crate::pieces::is_joined;
 use crate::presentation::Presentation;
 use crate::track::Track;
 
@@ -21,7 +22,21 @@ pub enum Found {
     Nothing,
 }
 
-/// Whether the path is `/name` or `/name/`.
+// Whether a text is the pieces, one after another.
+fn is_joined(text: &[u8], pieces: &[&[u8]]) -> bool
+    ensures { result ≡ bytes_eq text.now (joined pieces.entry.now) }
+{
+    let mut rest = text;
+    for piece in pieces {
+        match rest.strip_prefix(piece) {
+            Some(tail) => rest = tail,
+            None => return false,
+        }
+    }
+    rest.is_empty()
+}
+
+// Whether the path is `/name` or `/name/`.
 fn is_presentation_path(path: &[u8], presentation: &Presentation) -> bool
     ensures { result ≡ is_presentation_path presentation.now path.now }
 {
@@ -29,7 +44,7 @@ fn is_presentation_path(path: &[u8], presentation: &Presentation) -> bool
     is_joined(path, &[b"/", name]) || is_joined(path, &[b"/", name, b"/"])
 }
 
-/// Whether the path is `/name/track`.
+// Whether the path is `/name/track`.
 fn is_track_path(path: &[u8], presentation: &Presentation, track: &Track) -> bool
     ensures { result ≡ is_track_path presentation.now path.now track.now }
 {
@@ -44,10 +59,11 @@ fn is_track_path(path: &[u8], presentation: &Presentation, track: &Track) -> boo
     )
 }
 
-/// The first track that the path names.
+// The first track that the path names.
 fn track_index(path: &[u8], presentation: &Presentation) -> Option<usize>
-    ensures value { result ≡ position_from (is_track_path presentation.now path.now) 0 presentation.now.tracks }
-    ensures within { IfSome result (λ j. j < 8) }
+    ensures value { result
+        ≡ position_from (is_track_path presentation.now path.now) 0 presentation.now.tracks }
+    ensures within { IfSome result (λ j. j < max_tracks) }
 {
     presentation
         .tracks()
@@ -55,9 +71,9 @@ fn track_index(path: &[u8], presentation: &Presentation) -> Option<usize>
         .position(|track| is_track_path(path, presentation, track))
 }
 
-/// What a path names among presentations.
+// What a path names among presentations.
 pub(crate) fn find_among(presentations: &[Presentation], path: &[u8]) -> Found
-    requires { length presentations.now ≤ 256 }
+    requires { length presentations.now ≤ max_presentations }
     ensures { result ≡ find_from 0 presentations.now path.now }
 {
     for (index, presentation) in presentations.iter().enumerate() {

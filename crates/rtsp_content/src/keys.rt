@@ -1,16 +1,19 @@
-//! What the keys of a TOML table say.
+//! The values at the keys of a TOML table.
 
 ghost use Rattle.std.specs.Prelude.{◌≡◌, ◌≤◌, true, Some, IfOk, string_bytes, option_map};
 ghost use Rattle.std.specs.List.{list_all};
 ghost use Rattle.toml.specs.Data.{get_member};
 ghost use Rattle.toml.specs.View.{view, table_view, array_view};
-ghost use Rattle.rtsp_content.specs.Fault.{GivesBy};
+ghost use Rattle.rtsp_text.specs.Results.{GivesBy};
+ghost use Rattle.rtsp_content.specs.declared.fault.TableFault.TheVariants.{OutOfMemory};
 ghost use Rattle.rtsp_content.specs.Form as form;
 ghost use Rattle.rtsp_content.specs.Form.{has_form};
 ghost use Rattle.rtsp_content.specs.Keys as keys;
-ghost use Rattle.rtsp_content.specs.Keys.{as_number, number_in, number_in_or, as_text, text_in, table_in, item_count, few, list_in};
+ghost use Rattle.rtsp_content.specs.Keys.{as_number, as_text, table_in, list_in};
+ghost use Rattle.rtsp_content.specs.Keys.{AreFew, few, item_count};
 
 use crate::fault::TableFault;
+use crate::limits::{MAX_ENCODING, MAX_NAME};
 use std::alloc::Global;
 use toml::value::Array;
 use toml::{Table, Value};
@@ -56,15 +59,16 @@ fn has_form(text: &str, form: Form) -> bool
     ensures { result ≡ has_form form text.now }
 {
     match form {
-        Form::Name => 1 <= text.len() && text.len() <= 64 && has_name_bytes(text),
-        Form::Encoding => 1 <= text.len() && text.len() <= 32 && has_encoding_bytes(text),
+        Form::Name => 1 <= text.len() && text.len() <= MAX_NAME && has_name_bytes(text),
+        Form::Encoding => 1 <= text.len() && text.len() <= MAX_ENCODING && has_encoding_bytes(text),
         Form::Path => true,
     }
 }
 
 /// The value at a key.
 pub fn value_at<'a>(table: &'a Table, key: &str) -> Option<&'a Value>
-    ensures { option_map (λ v. view v.now) result ≡ get_member key.now (table_view table.entry.now) }
+    ensures { option_map (λ v. view v.now) result
+        ≡ get_member key.now (table_view table.entry.now) }
 {
     table.get(key)
 }
@@ -116,7 +120,8 @@ pub fn number_at_or(
 }
 
 fn text(alloc: Global, value: &Value, form: Form) -> Result<String, TableFault>
-    ensures value { GivesBy (λ s. string_bytes s) result (as_text form (view value.now)) }
+    ensures value { GivesBy OutOfMemory (λ s. string_bytes s) result
+        (as_text form (view value.now)) }
     ensures form { IfOk result (λ s. has_form form (string_bytes s) ≡ true) }
 {
     let Some(text) = value.as_str() else {
@@ -125,15 +130,13 @@ fn text(alloc: Global, value: &Value, form: Form) -> Result<String, TableFault>
     if !has_form(text, form) {
         return Err(TableFault::BadValue);
     }
-    match String::from_str(alloc, text) {
-        Ok(text) => Ok(text),
-        Err(_) => Err(TableFault::OutOfMemory),
-    }
+    Ok(String::from_str(alloc, text)?)
 }
 
 /// A text of the form.
 pub fn text_at(alloc: Global, table: &Table, key: &str, form: Form) -> Result<String, TableFault>
-    ensures value { GivesBy (λ s. string_bytes s) result (keys.text_at key.now form (table_view table.now)) }
+    ensures value { GivesBy OutOfMemory (λ s. string_bytes s) result
+        (keys.text_at key.now form (table_view table.now)) }
     ensures form { IfOk result (λ s. has_form form (string_bytes s) ≡ true) }
 {
     match value_at(table, key) {
@@ -143,7 +146,8 @@ pub fn text_at(alloc: Global, table: &Table, key: &str, form: Form) -> Result<St
 }
 
 fn table(value: &Value) -> Result<&Table, TableFault>
-    ensures { GivesBy (λ t. table_view t.now) result (table_in (Some (view value.now))) }
+    ensures { GivesBy OutOfMemory (λ t. table_view t.now) result
+        (table_in (Some (view value.now))) }
 {
     match value.as_table() {
         Some(table) => Ok(table),
@@ -153,7 +157,8 @@ fn table(value: &Value) -> Result<&Table, TableFault>
 
 /// The table at a key.
 pub fn table_at<'a>(table: &'a Table, key: &str) -> Result<&'a Table, TableFault>
-    ensures { GivesBy (λ t. table_view t.now) result (table_in (get_member key.now (table_view table.entry.now))) }
+    ensures { GivesBy OutOfMemory (λ t. table_view t.now) result
+        (table_in (get_member key.now (table_view table.entry.now))) }
 {
     match value_at(table, key) {
         Some(value) => self::table(value),
@@ -168,8 +173,9 @@ fn item_count(items: &Array) -> usize
 }
 
 fn few(items: &Array, most: usize) -> Result<&Array, TableFault>
-    ensures value { GivesBy (λ v. array_view v.now) result (few most (array_view items.entry.now)) }
-    ensures count { IfOk result (λ v. (1 ≤ item_count (array_view v.now)) × (item_count (array_view v.now) ≤ most)) }
+    ensures value { GivesBy OutOfMemory (λ v. array_view v.now) result
+        (few most (array_view items.entry.now)) }
+    ensures count { IfOk result (λ v. AreFew most (array_view v.now)) }
 {
     let count = item_count(items);
     if 1 <= count && count <= most {
@@ -180,8 +186,9 @@ fn few(items: &Array, most: usize) -> Result<&Array, TableFault>
 }
 
 fn list(value: &Value, most: usize) -> Result<&Array, TableFault>
-    ensures value { GivesBy (λ v. array_view v.now) result (list_in most (Some (view value.now))) }
-    ensures count { IfOk result (λ v. (1 ≤ item_count (array_view v.now)) × (item_count (array_view v.now) ≤ most)) }
+    ensures value { GivesBy OutOfMemory (λ v. array_view v.now) result
+        (list_in most (Some (view value.now))) }
+    ensures count { IfOk result (λ v. AreFew most (array_view v.now)) }
 {
     match value.as_array() {
         Some(items) => few(items, most),
@@ -191,8 +198,9 @@ fn list(value: &Value, most: usize) -> Result<&Array, TableFault>
 
 /// The items at a key, of which there are 1 to `most`.
 pub fn list_at<'a>(table: &'a Table, key: &str, most: usize) -> Result<&'a Array, TableFault>
-    ensures value { GivesBy (λ v. array_view v.now) result (list_in most (get_member key.now (table_view table.entry.now))) }
-    ensures count { IfOk result (λ v. (1 ≤ item_count (array_view v.now)) × (item_count (array_view v.now) ≤ most)) }
+    ensures value { GivesBy OutOfMemory (λ v. array_view v.now) result
+        (list_in most (get_member key.now (table_view table.entry.now))) }
+    ensures count { IfOk result (λ v. AreFew most (array_view v.now)) }
 {
     match value_at(table, key) {
         Some(value) => list(value, most),

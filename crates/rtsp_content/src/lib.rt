@@ -1,10 +1,11 @@
-//! What the server serves: its configuration, the presentations and tracks in it, and how they are described.
+//! What the server serves: its configuration, the presentations and tracks in it, and their
+//! description.
 #![tactic(auto)]
 
 mod fault;
 mod found;
 mod keys;
-mod pieces;
+mod limits;
 mod presentation;
 mod reading;
 mod sdp;

@@ -1,9 +1,10 @@
 //! A presentation: tracks that are played together.
 
-ghost use Rattle.std.specs.Prelude.{◌≡◌, ◌≤◌, ◌+◌, ◌*◌, ◌<◌, true, length, option_copied, slice_get};
+ghost use Rattle.std.specs.Prelude.{◌≡◌, ◌≤◌, ◌*◌, true, length, option_copied, slice_get};
 ghost use Rattle.rtsp_content.specs.Distinct.{AreDistinct};
 ghost use Rattle.rtsp_content.specs.TrackValue.{track_names};
 ghost use Rattle.rtsp_content.specs.Form.{is_name};
+ghost use Rattle.rtsp_content.specs.Limits.{max_units, max_unit_ms, max_tracks};
 ghost use Rattle.rtsp_content.specs.Rate.{rate_of, IsRate};
 
 use crate::track::Track;
@@ -19,14 +20,15 @@ pub struct Presentation {
 }
 
 impl Model for Presentation {
-    ghost use Rattle.std.specs.Prelude.{string_bytes};
     ghost use Rattle.rtsp_content.specs.PresentationValue.{PresentationValue, IsPresentationWithin};
 
     ghost Value = { PresentationValue };
 
-    ghost view = { λ p. record { name = string_bytes p.name; units = p.units; unit_ms = p.unit_ms; tracks = p.tracks.items } };
+    ghost use Rattle.rtsp_content.specs.PresentationView.{presentation_value};
 
-    ghost invariant = { λ p. IsPresentationWithin (record { name = string_bytes p.name; units = p.units; unit_ms = p.unit_ms; tracks = p.tracks.items }) };
+    ghost view = { presentation_value };
+
+    ghost invariant = { λ p. IsPresentationWithin (presentation_value p) };
 }
 
 impl Presentation {
@@ -42,7 +44,7 @@ impl Presentation {
     pub fn units(&self) -> u32
         ensures value { result ≡ self.now.units }
         ensures least { 1 ≤ result }
-        ensures most { result ≤ 10000000 }
+        ensures most { result ≤ max_units }
     {
         self.units
     }
@@ -51,7 +53,7 @@ impl Presentation {
     pub fn unit_ms(&self) -> u32
         ensures value { result ≡ self.now.unit_ms }
         ensures least { 1 ≤ result }
-        ensures most { result ≤ 1000 }
+        ensures most { result ≤ max_unit_ms }
     {
         self.unit_ms
     }
@@ -67,7 +69,7 @@ impl Presentation {
     pub fn tracks(&self) -> &[Track]
         ensures value { result.now ≡ self.now.tracks }
         ensures least { 1 ≤ length result.now }
-        ensures most { length result.now ≤ 8 }
+        ensures most { length result.now ≤ max_tracks }
         ensures distinct { AreDistinct (track_names result.now) }
     {
         self.tracks.as_slice()
@@ -80,7 +82,8 @@ impl Presentation {
         self.tracks.get(usize::from(index))
     }
 
-    /// The bits per second that a stream of one of its tracks takes: a packet a unit, with 40 bytes of headers.
+    /// The bits per second of a stream of one of its tracks: a packet for each unit, with 40 bytes
+    /// of headers.
     pub fn rate(&self, track: &Track) -> u64
         ensures value { result ≡ rate_of self.now.unit_ms track.now.octets }
         ensures least { IsRate self.now.unit_ms track.now.octets result }

@@ -6,15 +6,20 @@ ghost use Rattle.toml.specs.View.{view, table_view, array_view};
 ghost use Rattle.rtsp_content.specs.Distinct.{AreDistinct};
 ghost use Rattle.rtsp_content.specs.TrackValue.{track_names};
 ghost use Rattle.rtsp_content.specs.PresentationValue.{presentation_names};
-ghost use Rattle.rtsp_content.specs.Fault.{Gives, GivesBy};
+ghost use Rattle.rtsp_text.specs.Results.{Gives, GivesBy};
+ghost use Rattle.rtsp_content.specs.declared.fault.TableFault.TheVariants.{OutOfMemory};
 ghost use Rattle.rtsp_content.specs.Keys.{item_count};
 ghost use Rattle.rtsp_content.specs.Track as track;
 ghost use Rattle.rtsp_content.specs.Track.{as_media, media_in, track_of, as_track};
 ghost use Rattle.rtsp_content.specs.Presentation as presentation;
-ghost use Rattle.rtsp_content.specs.Presentation.{tracks_from, presentation_of, as_presentation, presentations_from};
+ghost use Rattle.rtsp_content.specs.Presentation.{tracks_from, presentation_of};
+ghost use Rattle.rtsp_content.specs.Presentation.{as_presentation, presentations_from};
 
 use crate::fault::{TableFault, must};
 use crate::keys::{Form, list_at, number_at, text_at, value_at};
+use crate::limits::{
+    MAX_CLOCK, MAX_OCTETS, MAX_PAYLOAD_TYPE, MAX_TICKS, MAX_TRACKS, MAX_UNIT_MS, MAX_UNITS,
+};
 use crate::presentation::Presentation;
 use crate::track::{Media, Track};
 use std::alloc::Global;
@@ -52,17 +57,17 @@ fn has_track(name: &str, tracks: &[Track]) -> bool
 }
 
 fn read_track(alloc: Global, table: &Table, before: &[Track]) -> Result<Track, TableFault>
-    ensures value { Gives result (track_of before.now (table_view table.now)) }
+    ensures value { Gives OutOfMemory result (track_of before.now (table_view table.now)) }
     ensures fresh { IfOk result (λ t. track.has_track t.name before.now ≡ false) }
 {
     let name = text_at(alloc, table, "name", Form::Name)?;
     must(!has_track(name.as_str(), before), TableFault::Duplicate)?;
     let media = media_at(table, "media")?;
-    let payload_type = number_at(table, "pt", 0, 127)?;
+    let payload_type = number_at(table, "pt", 0, MAX_PAYLOAD_TYPE)?;
     let encoding = text_at(alloc, table, "encoding", Form::Encoding)?;
-    let clock = number_at(table, "clock", 1, 1_000_000)?;
-    let octets = number_at(table, "octets", 1, 1400)?;
-    let ticks = number_at(table, "ticks", 1, 1_000_000)?;
+    let clock = number_at(table, "clock", 1, MAX_CLOCK)?;
+    let octets = number_at(table, "octets", 1, MAX_OCTETS)?;
+    let ticks = number_at(table, "ticks", 1, MAX_TICKS)?;
     let file = text_at(alloc, table, "file", Form::Path)?;
     Ok(Track {
         name,
@@ -77,7 +82,7 @@ fn read_track(alloc: Global, table: &Table, before: &[Track]) -> Result<Track, T
 }
 
 fn track_in(alloc: Global, value: &Value, before: &[Track]) -> Result<Track, TableFault>
-    ensures value { Gives result (as_track before.now (view value.now)) }
+    ensures value { Gives OutOfMemory result (as_track before.now (view value.now)) }
     ensures fresh { IfOk result (λ t. track.has_track t.name before.now ≡ false) }
 {
     match value.as_table() {
@@ -87,20 +92,15 @@ fn track_in(alloc: Global, value: &Value, before: &[Track]) -> Result<Track, Tab
 }
 
 fn read_tracks(alloc: Global, values: &Array) -> Result<Vec<Track>, TableFault>
-    ensures value { GivesBy (λ v. v.items) result (tracks_from [] (array_view values.now)) }
+    ensures value { GivesBy OutOfMemory (λ v. v.items) result
+        (tracks_from [] (array_view values.now)) }
     ensures distinct { IfOk result (λ v. AreDistinct (track_names v.items)) }
     ensures count { IfOk result (λ v. length v.items ≡ item_count (array_view values.now)) }
 {
     let mut tracks = Vec::new(alloc);
     for value in values {
-        let track = match track_in(alloc, value, tracks.as_slice()) {
-            Ok(track) => track,
-            Err(fault) => return Err(fault),
-        };
-        match tracks.push(track) {
-            Ok(()) => {}
-            Err(_) => return Err(TableFault::OutOfMemory),
-        }
+        let track = track_in(alloc, value, tracks.as_slice())?;
+        tracks.push(track)?;
     }
     Ok(tracks)
 }
@@ -118,7 +118,7 @@ fn read_presentation(
     table: &Table,
     before: &[Presentation],
 ) -> Result<Presentation, TableFault>
-    ensures value { Gives result (presentation_of before.now (table_view table.now)) }
+    ensures value { Gives OutOfMemory result (presentation_of before.now (table_view table.now)) }
     ensures fresh { IfOk result (λ p. presentation.has_presentation p.name before.now ≡ false) }
 {
     let name = text_at(alloc, table, "name", Form::Name)?;
@@ -126,9 +126,9 @@ fn read_presentation(
         !has_presentation(name.as_str(), before),
         TableFault::Duplicate,
     )?;
-    let units = number_at(table, "units", 1, 10_000_000)?;
-    let unit_ms = number_at(table, "unit_ms", 1, 1000)?;
-    let tracks = read_tracks(alloc, list_at(table, "track", 8)?)?;
+    let units = number_at(table, "units", 1, MAX_UNITS)?;
+    let unit_ms = number_at(table, "unit_ms", 1, MAX_UNIT_MS)?;
+    let tracks = read_tracks(alloc, list_at(table, "track", MAX_TRACKS)?)?;
     Ok(Presentation {
         name,
         units: units as u32,
@@ -142,7 +142,7 @@ fn presentation_in(
     value: &Value,
     before: &[Presentation],
 ) -> Result<Presentation, TableFault>
-    ensures value { Gives result (as_presentation before.now (view value.now)) }
+    ensures value { Gives OutOfMemory result (as_presentation before.now (view value.now)) }
     ensures fresh { IfOk result (λ p. presentation.has_presentation p.name before.now ≡ false) }
 {
     match value.as_table() {
@@ -156,20 +156,15 @@ pub(crate) fn read_presentations(
     alloc: Global,
     values: &Array,
 ) -> Result<Vec<Presentation>, TableFault>
-    ensures value { GivesBy (λ v. v.items) result (presentations_from [] (array_view values.now)) }
+    ensures value { GivesBy OutOfMemory (λ v. v.items) result
+        (presentations_from [] (array_view values.now)) }
     ensures distinct { IfOk result (λ v. AreDistinct (presentation_names v.items)) }
     ensures count { IfOk result (λ v. length v.items ≡ item_count (array_view values.now)) }
 {
     let mut presentations = Vec::new(alloc);
     for value in values {
-        let presentation = match presentation_in(alloc, value, presentations.as_slice()) {
-            Ok(presentation) => presentation,
-            Err(fault) => return Err(fault),
-        };
-        match presentations.push(presentation) {
-            Ok(()) => {}
-            Err(_) => return Err(TableFault::OutOfMemory),
-        }
+        let presentation = presentation_in(alloc, value, presentations.as_slice())?;
+        presentations.push(presentation)?;
     }
     Ok(presentations)
 }

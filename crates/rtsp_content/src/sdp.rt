@@ -1,38 +1,26 @@
 //! The description of a presentation in SDP.
 
-ghost use Rattle.std.specs.Prelude.{◌≡◌, ◌+◌, ◌++◌, ◌<◌, ◌≤◌, length, vec_len, vec_capacity, OnOk, OnErr, IsOk};
-ghost use Rattle.std.specs.List.{flat_map};
-ghost use Rattle.rtsp_content.specs.Sdp as text;
+ghost use Rattle.std.specs.Prelude.{◌≡◌, ◌++◌, ◌≤◌, vec_capacity, OnOk, OnErr, IsOk};
+ghost use Rattle.rtsp_text.specs.Appending.{HasRoom};
 ghost use Rattle.rtsp_content.specs.Sdp.{session_text, track_text, sdp_of};
 
-use crate::pieces::append_all;
 use crate::presentation::Presentation;
 use crate::track::Track;
 use itoa::Buffer;
+use rtsp_text::{append_all, three_digits};
 use std::alloc::AllocError;
-
-fn three_digits(number: u64) -> [u8; 3]
-    requires { number < 1000 }
-    ensures { result ≡ text.three_digits number }
-{
-    [
-        b'0' + (number / 100) as u8,
-        b'0' + (number / 10 % 10) as u8,
-        b'0' + (number % 10) as u8,
-    ]
-}
 
 #[tactic(auto, unfolding(crate::specs::Sdp::session_text))]
 fn append_session(out: &mut Vec<u8>, presentation: &Presentation) -> Result<(), AllocError>
     ensures ok { OnOk result (out.new.items ≡ out.old.items ++ session_text presentation.now) }
     ensures err { OnErr result (out.new.items ≡ out.old.items) }
     ensures capacity { vec_capacity out.old ≤ vec_capacity out.new }
-    ensures succeeds { vec_len out.old + length (session_text presentation.now) ≤ vec_capacity out.old → IsOk result }
+    ensures succeeds { HasRoom out.old (session_text presentation.now) → IsOk result }
 {
     let length_ms = presentation.length_ms();
     let mut seconds = Buffer::new();
     let seconds = seconds.format(length_ms / 1000);
-    let decimals = three_digits(length_ms % 1000);
+    let decimals = three_digits(length_ms);
     append_all(
         out,
         &[
@@ -58,7 +46,7 @@ fn append_track(out: &mut Vec<u8>, track: &Track) -> Result<(), AllocError>
     ensures ok { OnOk result (out.new.items ≡ out.old.items ++ track_text track.now) }
     ensures err { OnErr result (out.new.items ≡ out.old.items) }
     ensures capacity { vec_capacity out.old ≤ vec_capacity out.new }
-    ensures succeeds { vec_len out.old + length (track_text track.now) ≤ vec_capacity out.old → IsOk result }
+    ensures succeeds { HasRoom out.old (track_text track.now) → IsOk result }
 {
     let mut payload_type = Buffer::new();
     let payload_type = payload_type.format(track.payload_type());
@@ -84,14 +72,14 @@ fn append_track(out: &mut Vec<u8>, track: &Track) -> Result<(), AllocError>
     )
 }
 
-/// Appends the description of a presentation (RFC 4566, RFC 7826 appendix D), or nothing where memory is wanting.
-/// It takes no memory where there is room.
+/// Writes the description of a presentation at the end (RFC 4566, RFC 7826 appendix D). A refused
+/// write leaves `out` as it was, and it takes no memory where there is room.
 #[tactic(auto, unfolding(crate::specs::Sdp::sdp_of))]
 pub fn write_sdp(out: &mut Vec<u8>, presentation: &Presentation) -> Result<(), AllocError>
     ensures ok { OnOk result (out.new.items ≡ out.old.items ++ sdp_of presentation.now) }
     ensures err { OnErr result (out.new.items ≡ out.old.items) }
     ensures capacity { vec_capacity out.old ≤ vec_capacity out.new }
-    ensures succeeds { vec_len out.old + length (sdp_of presentation.now) ≤ vec_capacity out.old → IsOk result }
+    ensures succeeds { HasRoom out.old (sdp_of presentation.now) → IsOk result }
 {
     let start = out.len();
     append_session(out, presentation)?;

@@ -6,6 +6,10 @@ ghost use Rattle.rtsp_content.specs.Server.{server_of, IsWithinLimits};
 
 use crate::fault::{TableFault, must};
 use crate::keys::{number_at, number_at_or};
+use crate::limits::{
+    DEFAULT_TIMEOUT, DEFAULT_WORKERS, GREATEST_PORT, LEAST_PORT, MAX_JOURNAL, MAX_PAIRS,
+    MAX_SESSIONS, MAX_TIMEOUT, MAX_UPLINK, MAX_WORKERS,
+};
 
 /// The numbers of the server.
 #[derive(Clone, Copy, Debug, PartialEq, Eq)]
@@ -16,16 +20,16 @@ pub struct Server {
     /// How many pairs of ports there are.
     pub pairs: u16,
 
-    /// Bits per second that all streams together may take.
+    /// The bits per second that all streams together may take.
     pub uplink: u64,
 
-    /// How many sessions may live at once.
+    /// How many sessions there may be at once.
     pub sessions: u16,
 
-    /// Seconds that a session lives without a request.
+    /// The seconds that a session lives without a request.
     pub timeout: u32,
 
-    /// How many entries the journal may have, owed ones included.
+    /// How many entries the journal may have, counting the returns that they owe.
     pub journal: u32,
 
     /// How many threads serve connections.
@@ -37,15 +41,18 @@ pub(crate) fn read_server(table: &toml::Table) -> Result<Server, TableFault>
     ensures value { result ≡ server_of (table_view table.now) }
     ensures limits { IfOk result IsWithinLimits }
 {
-    let first_port = number_at(table, "first_port", 1024, 65535)?;
+    let first_port = number_at(table, "first_port", LEAST_PORT, GREATEST_PORT)?;
     must(first_port % 2 == 0, TableFault::BadValue)?;
-    let pairs = number_at(table, "pairs", 0, 4096)?;
-    must(first_port + 2 * pairs <= 65536, TableFault::BadValue)?;
-    let uplink = number_at(table, "uplink", 0, 1_000_000_000_000)?;
-    let sessions = number_at(table, "sessions", 1, 4096)?;
-    let timeout = number_at_or(table, "timeout", 1, 86_400, 60)?;
-    let journal = number_at_or(table, "journal", 1, 1_000_000, 1_000_000)?;
-    let workers = number_at_or(table, "workers", 1, 64, 4)?;
+    let pairs = number_at(table, "pairs", 0, MAX_PAIRS)?;
+    must(
+        first_port + 2 * pairs <= GREATEST_PORT + 1,
+        TableFault::BadValue,
+    )?;
+    let uplink = number_at(table, "uplink", 0, MAX_UPLINK)?;
+    let sessions = number_at(table, "sessions", 1, MAX_SESSIONS)?;
+    let timeout = number_at_or(table, "timeout", 1, MAX_TIMEOUT, DEFAULT_TIMEOUT)?;
+    let journal = number_at_or(table, "journal", 1, MAX_JOURNAL, MAX_JOURNAL)?;
+    let workers = number_at_or(table, "workers", 1, MAX_WORKERS, DEFAULT_WORKERS)?;
     Ok(Server {
         first_port: first_port as u16,
         pairs: pairs as u16,

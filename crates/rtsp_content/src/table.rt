@@ -5,7 +5,9 @@ ghost use Rattle.toml.specs.Parse.{parse_document};
 ghost use Rattle.toml.specs.View.{table_view};
 ghost use Rattle.rtsp_content.specs.Distinct.{AreDistinct};
 ghost use Rattle.rtsp_content.specs.PresentationValue.{presentation_names};
-ghost use Rattle.rtsp_content.specs.Fault.{Gives};
+ghost use Rattle.rtsp_text.specs.Results.{Gives};
+ghost use Rattle.rtsp_content.specs.Limits.{max_presentations};
+ghost use Rattle.rtsp_content.specs.declared.fault.TableFault.TheVariants.{OutOfMemory};
 ghost use Rattle.rtsp_content.specs.Paths.{find_of, Names};
 ghost use Rattle.rtsp_content.specs.Server.{IsWithinLimits};
 ghost use Rattle.rtsp_content.specs.Table.{table_of, table_of_document};
@@ -13,6 +15,7 @@ ghost use Rattle.rtsp_content.specs.Table.{table_of, table_of_document};
 use crate::fault::TableFault;
 use crate::found::{Found, find_among};
 use crate::keys::{list_at, table_at};
+use crate::limits::MAX_PRESENTATIONS;
 use crate::presentation::Presentation;
 use crate::reading::read_presentations;
 use crate::server::{Server, read_server};
@@ -31,16 +34,21 @@ impl Model for Table {
 
     ghost Value = { TableValue };
 
-    ghost view = { λ t. record { server = t.server; presentations = t.presentations.items } };
+    ghost use Rattle.rtsp_content.specs.TableView.{table_value};
 
-    ghost invariant = { λ t. IsTableWithin (record { server = t.server; presentations = t.presentations.items }) };
+    ghost view = { table_value };
+
+    ghost invariant = { λ t. IsTableWithin (table_value t) };
 }
 
 fn read_table(alloc: Global, table: &toml::Table) -> Result<Table, TableFault>
-    ensures { Gives result (table_of (table_view table.now)) }
+    ensures { Gives OutOfMemory result (table_of (table_view table.now)) }
 {
     let server = read_server(table_at(table, "server")?)?;
-    let presentations = read_presentations(alloc, list_at(table, "presentation", 256)?)?;
+    let presentations = read_presentations(
+        alloc,
+        list_at(table, "presentation", MAX_PRESENTATIONS)?,
+    )?;
     Ok(Table {
         server,
         presentations,
@@ -48,10 +56,12 @@ fn read_table(alloc: Global, table: &toml::Table) -> Result<Table, TableFault>
 }
 
 impl Table {
-    /// Reads a configuration from the bytes of a TOML document. Keys that it does not know are ignored.
+    /// Reads a configuration from the bytes of a TOML document. Unknown keys are ignored.
     pub fn read(alloc: Global, bytes: &[u8]) -> Result<Table, TableFault>
-        ensures text { IsUtf8 bytes.now → Gives result (table_of_document (parse_document bytes.now)) }
-        ensures other { ¬ IsUtf8 bytes.now → (result ≡ Err TableFault.NotToml) ⊎ (result ≡ Err TableFault.OutOfMemory) }
+        ensures text { IsUtf8 bytes.now
+            → Gives OutOfMemory result (table_of_document (parse_document bytes.now)) }
+        ensures other { ¬ IsUtf8 bytes.now
+            → (result ≡ Err TableFault.NotToml) ⊎ (result ≡ Err TableFault.OutOfMemory) }
     {
         match toml::table_from_slice(alloc, bytes) {
             Ok(table) => read_table(alloc, &table),
@@ -75,7 +85,7 @@ impl Table {
     pub fn presentations(&self) -> &[Presentation]
         ensures value { result.now ≡ self.now.presentations }
         ensures least { 1 ≤ length result.now }
-        ensures most { length result.now ≤ 256 }
+        ensures most { length result.now ≤ max_presentations }
         ensures distinct { AreDistinct (presentation_names result.now) }
     {
         self.presentations.as_slice()
@@ -88,8 +98,8 @@ impl Table {
         self.presentations.get(usize::from(index))
     }
 
-    /// What a path names: `/name` and `/name/` a presentation, `/name/track` a track. Names are compared byte for
-    /// byte, and nothing in the path is decoded.
+    /// What a path names: `/name` and `/name/` a presentation, `/name/track` a track. Names are
+    /// compared byte for byte, and nothing in the path is decoded.
     pub fn find(&self, path: &[u8]) -> Found
         ensures value { result ≡ find_of self.now path.now }
         ensures names { Names self.now path.now result }

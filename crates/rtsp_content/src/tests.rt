@@ -2,6 +2,7 @@
 
 use super::*;
 use std::alloc::{AllocError, Global};
+use std::test::Fail;
 
 const TONE: &str = "\
 [server]
@@ -67,104 +68,86 @@ fn fault_with(alloc: Global, old: &str, new: &str) -> Result<Option<TableFault>,
 }
 
 #[test]
-fn describes_the_example(rt: HostRuntime) -> Result<(), AllocError> {
-    let table = Table::read(rt.alloc(), TONE.as_bytes());
-    assert!(rt; table.is_ok());
-    if let Ok(table) = table {
-        for presentation in table.presentations() {
-            let mut text = Vec::new(rt.alloc());
-            write_sdp(&mut text, presentation)?;
-            assert_eq!(rt; text.len(), 215);
-            assert!(rt; text.as_slice() == TONE_SDP.as_bytes());
-        }
+fn describes_the_example(rt: HostRuntime) -> Result<(), Fail> {
+    let table = Table::read(rt.alloc(), TONE.as_bytes())?;
+    let presentation = table.presentation(0).expect(&rt, "the first");
+    let mut text = Vec::new(rt.alloc());
+    write_sdp(&mut text, presentation)?;
+    assert_eq!(rt; text.len(), 215);
+    assert!(rt; text.as_slice() == TONE_SDP.as_bytes());
+    Ok(())
+}
+
+#[test]
+fn reads_the_example(rt: HostRuntime) -> Result<(), Fail> {
+    let table = Table::read(rt.alloc(), TONE.as_bytes())?;
+    let server = Server {
+        first_port: 5000,
+        pairs: 2,
+        uplink: 160_000,
+        sessions: 4,
+        timeout: 60,
+        journal: 1_000_000,
+        workers: 4,
+    };
+    assert_eq!(rt; table.server(), server);
+    assert_eq!(rt; table.presentations().len(), 1);
+    assert!(rt; table.presentation(1).is_none());
+    let presentation = table.presentation(0).expect(&rt, "the first");
+    assert_eq!(rt; presentation.name(), "tone");
+    assert_eq!(rt; presentation.units(), 500);
+    assert_eq!(rt; presentation.unit_ms(), 20);
+    assert_eq!(rt; presentation.length_ms(), 10_000);
+    assert_eq!(rt; presentation.tracks().len(), 2);
+    assert!(rt; presentation.track(2).is_none());
+    let track = presentation.track(1).expect(&rt, "the second");
+    assert_eq!(rt; track.name(), "b");
+    assert_eq!(rt; track.media(), Media::Audio);
+    assert_eq!(rt; track.media().as_str(), "audio");
+    assert_eq!(rt; track.payload_type(), 8);
+    assert_eq!(rt; track.encoding(), "PCMA");
+    assert_eq!(rt; track.clock(), 8000);
+    assert_eq!(rt; track.octets(), 160);
+    assert_eq!(rt; track.ticks(), 160);
+    assert_eq!(rt; track.file(), "tone-b.raw");
+    assert_eq!(rt; presentation.rate(track), 80_000);
+    Ok(())
+}
+
+#[test]
+fn finds_by_path(rt: HostRuntime) -> Result<(), Fail> {
+    let table = Table::read(rt.alloc(), TONE.as_bytes())?;
+    let paths = [
+        ("/tone", Found::Presentation(0)),
+        ("/tone/", Found::Presentation(0)),
+        ("/tone/a", Found::Track(0, 0)),
+        ("/tone/b", Found::Track(0, 1)),
+        ("/none", Found::Nothing),
+        ("/tone/c", Found::Nothing),
+        ("/tone/a/", Found::Nothing),
+        ("//tone", Found::Nothing),
+        ("/tone//", Found::Nothing),
+        ("/%74one", Found::Nothing),
+        ("tone", Found::Nothing),
+        ("/", Found::Nothing),
+        ("", Found::Nothing),
+    ];
+    for (path, found) in paths {
+        assert_eq!(rt; table.find(path.as_bytes()), found, "{path}");
     }
     Ok(())
 }
 
 #[test]
-fn reads_the_example(rt: HostRuntime) {
-    let table = Table::read(rt.alloc(), TONE.as_bytes());
-    assert!(rt; table.is_ok());
-    if let Ok(table) = table {
-        let server = Server {
-            first_port: 5000,
-            pairs: 2,
-            uplink: 160_000,
-            sessions: 4,
-            timeout: 60,
-            journal: 1_000_000,
-            workers: 4,
-        };
-        assert_eq!(rt; table.server(), server);
-        assert_eq!(rt; table.presentations().len(), 1);
-        assert!(rt; table.presentation(1).is_none());
-        let presentation = table.presentation(0);
-        assert!(rt; presentation.is_some());
-        if let Some(presentation) = presentation {
-            assert_eq!(rt; presentation.name(), "tone");
-            assert_eq!(rt; presentation.units(), 500);
-            assert_eq!(rt; presentation.unit_ms(), 20);
-            assert_eq!(rt; presentation.length_ms(), 10_000);
-            assert_eq!(rt; presentation.tracks().len(), 2);
-            assert!(rt; presentation.track(2).is_none());
-            let track = presentation.track(1);
-            assert!(rt; track.is_some());
-            if let Some(track) = track {
-                assert_eq!(rt; track.name(), "b");
-                assert_eq!(rt; track.media(), Media::Audio);
-                assert_eq!(rt; track.media().as_str(), "audio");
-                assert_eq!(rt; track.payload_type(), 8);
-                assert_eq!(rt; track.encoding(), "PCMA");
-                assert_eq!(rt; track.clock(), 8000);
-                assert_eq!(rt; track.octets(), 160);
-                assert_eq!(rt; track.ticks(), 160);
-                assert_eq!(rt; track.file(), "tone-b.raw");
-                assert_eq!(rt; presentation.rate(track), 80_000);
-            }
-        }
-    }
-}
-
-#[test]
-fn finds_by_path(rt: HostRuntime) {
-    let table = Table::read(rt.alloc(), TONE.as_bytes());
-    assert!(rt; table.is_ok());
-    if let Ok(table) = table {
-        let paths = [
-            ("/tone", Found::Presentation(0)),
-            ("/tone/", Found::Presentation(0)),
-            ("/tone/a", Found::Track(0, 0)),
-            ("/tone/b", Found::Track(0, 1)),
-            ("/none", Found::Nothing),
-            ("/tone/c", Found::Nothing),
-            ("/tone/a/", Found::Nothing),
-            ("//tone", Found::Nothing),
-            ("/tone//", Found::Nothing),
-            ("/%74one", Found::Nothing),
-            ("tone", Found::Nothing),
-            ("/", Found::Nothing),
-            ("", Found::Nothing),
-        ];
-        for (path, found) in paths {
-            assert_eq!(rt; table.find(path.as_bytes()), found, "{path}");
-        }
-    }
-}
-
-#[test]
-fn rounds_rates_up(rt: HostRuntime) -> Result<(), AllocError> {
+fn rounds_rates_up(rt: HostRuntime) -> Result<(), Fail> {
     let text = TONE.replacen(rt.alloc(), "octets = 160", "octets = 1", 1)?;
     let text = text
         .as_str()
         .replacen(rt.alloc(), "unit_ms = 20", "unit_ms = 3", 1)?;
-    let table = Table::read(rt.alloc(), text.as_bytes());
-    assert!(rt; table.is_ok());
-    if let Ok(table) = table {
-        for presentation in table.presentations() {
-            let track = presentation.track(0);
-            assert_eq!(rt; track.map(|track| presentation.rate(track)), Some(109_334));
-        }
-    }
+    let table = Table::read(rt.alloc(), text.as_bytes())?;
+    let presentation = table.presentation(0).expect(&rt, "the first");
+    let track = presentation.track(0).expect(&rt, "the first");
+    assert_eq!(rt; presentation.rate(track), 109_334);
     Ok(())
 }
 
@@ -297,7 +280,7 @@ fn keeps_every_limit(rt: HostRuntime) -> Result<(), AllocError> {
     Ok(())
 }
 
-/// A configuration with this many presentations, the last of which has this many tracks.
+/// A configuration with this many presentations, the first of which has this many tracks.
 fn with_counts(alloc: Global, presentations: u16, tracks: u16) -> Result<String, AllocError> {
     let mut text = String::from_str(
         alloc,

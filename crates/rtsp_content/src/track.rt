@@ -2,6 +2,7 @@
 
 ghost use Rattle.std.specs.Prelude.{◌≡◌, ◌≤◌, ◌^◌, ◌<◌, true};
 ghost use Rattle.rtsp_content.specs.Form.{is_name, is_encoding};
+ghost use Rattle.rtsp_content.specs.Limits.{max_payload_type, max_clock, max_octets, max_ticks};
 ghost use Rattle.rtsp_content.specs.Track.{media_text};
 
 use std::marker::Model;
@@ -25,7 +26,8 @@ impl Media {
     }
 }
 
-/// One media stream of a presentation: a raw file of units of one size, each sent as one RTP packet.
+/// One media stream of a presentation: a raw file of units of one size, each sent as one RTP
+/// packet.
 #[derive(Debug, Drop)]
 pub struct Track {
     pub(crate) name: String,
@@ -39,18 +41,19 @@ pub struct Track {
 }
 
 impl Model for Track {
-    ghost use Rattle.std.specs.Prelude.{string_bytes};
     ghost use Rattle.rtsp_content.specs.TrackValue.{TrackValue, IsTrackWithin};
 
     ghost Value = { TrackValue };
 
-    ghost view = { λ t. record { name = string_bytes t.name; media = t.media; payload_type = t.payload_type; encoding = string_bytes t.encoding; clock = t.clock; octets = t.octets; ticks = t.ticks; file = string_bytes t.file } };
+    ghost use Rattle.rtsp_content.specs.TrackView.{track_value};
 
-    ghost invariant = { λ t. IsTrackWithin (record { name = string_bytes t.name; media = t.media; payload_type = t.payload_type; encoding = string_bytes t.encoding; clock = t.clock; octets = t.octets; ticks = t.ticks; file = string_bytes t.file }) };
+    ghost view = { track_value };
+
+    ghost invariant = { λ t. IsTrackWithin (track_value t) };
 }
 
 impl Track {
-    /// The name, which stands in a path after its presentation's.
+    /// The name, which is in a path after its presentation's.
     pub fn name(&self) -> &str
         ensures value { result.now ≡ self.now.name }
         ensures form { is_name result.now ≡ true }
@@ -75,12 +78,12 @@ impl Track {
     /// The payload type of its RTP packets.
     pub fn payload_type(&self) -> u8
         ensures value { result ≡ self.now.payload_type }
-        ensures most { result ≤ 127 }
+        ensures most { result ≤ max_payload_type }
     {
         self.payload_type
     }
 
-    /// The name of its encoding, as SDP has it.
+    /// The name of its encoding in SDP.
     pub fn encoding(&self) -> &str
         ensures value { result.now ≡ self.now.encoding }
         ensures form { is_encoding result.now ≡ true }
@@ -92,7 +95,7 @@ impl Track {
     pub fn clock(&self) -> u32
         ensures value { result ≡ self.now.clock }
         ensures least { 1 ≤ result }
-        ensures most { result ≤ 1000000 }
+        ensures most { result ≤ max_clock }
     {
         self.clock
     }
@@ -101,7 +104,7 @@ impl Track {
     pub fn octets(&self) -> u16
         ensures value { result ≡ self.now.octets }
         ensures least { 1 ≤ result }
-        ensures most { result ≤ 1400 }
+        ensures most { result ≤ max_octets }
     {
         self.octets
     }
@@ -110,7 +113,7 @@ impl Track {
     pub fn ticks(&self) -> u32
         ensures value { result ≡ self.now.ticks }
         ensures least { 1 ≤ result }
-        ensures most { result ≤ 1000000 }
+        ensures most { result ≤ max_ticks }
     {
         self.ticks
     }

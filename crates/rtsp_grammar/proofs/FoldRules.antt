@@ -1,22 +1,21 @@
 -- Joining lines is what the second rule says.
 use Rattle.std.proofs.Common.{◌≡◌, ℕ, List, [], ◌∷◌, ◌++◌, length, refl, sym, ap, subst, ◌∙◌, inl, inr, Bool, true, false, cond, Result, Ok, Err, nat_lt}
 use Rattle.std.specs.List.{list_all, flat_map}
-use Rattle.std.proofs.lemmas.Bool.{ltb-false, ltb-true, le-ltb, lt-ltb}
+use Rattle.std.proofs.lemmas.Bool.{ltb-false, ltb-true, le-ltb, lt-ltb, and_parts, and_from}
+use Rattle.rtsp_text.specs.Results.{◌>>=◌}
 use Rattle.rtsp_grammar.specs.Folds.{begins_blank, fold_text, AreJoined, BeginsInFold, FoldRule}
-use Rattle.rtsp_grammar.specs.Reading.{◌>>=◌, folded, whole_lines, unfolded, wholes_of}
+use Rattle.rtsp_grammar.specs.Reading.{folded, unfolded_or_bad, unfolded, unfold_lines}
 use Rattle.rtsp_grammar.specs.declared.fault.MessageFault.{MessageFault}
 use Rattle.rtsp_grammar.specs.declared.fault.MessageFault.TheVariants.{BadHeader, HeadTooLong}
-use Rattle.rtsp_grammar.proofs.CutLemmas.{both_true}
-use Rattle.rtsp_grammar.proofs.ClassLemmas.{and_true}
 
 -- lines that continue the line before them, and then lines that are joined
-record Folding (lines : List (List ℕ)) (front : List ℕ) (wholes : List (List ℕ)) : Type 0 where
+record Folding (lines : List (List ℕ)) (front : List ℕ) (unfolded_lines : List (List ℕ)) : Type 0 where
   folds : List (List ℕ)
   rest : List (List ℕ)
   parts : lines ≡ folds ++ rest
   continues : list_all begins_blank folds ≡ true
   text : front ≡ flat_map fold_text folds
-  joined : AreJoined rest wholes
+  joined : AreJoined rest unfolded_lines
 
 abbrev with_line : Bool → List ℕ → List ℕ × List (List ℕ) → List ℕ × List (List ℕ)
 with_line b line rest = cond b (fold_text line ++ rest.0, rest.1) ([], (line ++ rest.0) ∷ rest.1)
@@ -30,7 +29,7 @@ folding (line ∷ lines) = go (begins_blank line) (folding lines) refl where
     folds = line ∷ f.folds;
     rest = f.rest;
     parts = ap (λ (ls : List (List ℕ)). line ∷ ls) f.parts;
-    continues = and_true (begins_blank line) (list_all begins_blank f.folds) e f.continues;
+    continues = and_from (begins_blank line) (list_all begins_blank f.folds) e f.continues;
     text = ap (λ (t : List ℕ). fold_text line ++ t) f.text;
     joined = f.joined;
   }
@@ -45,7 +44,7 @@ folding (line ∷ lines) = go (begins_blank line) (folding lines) refl where
 
 begins_in_fold : (lines : List (List ℕ)) (folds rest : List (List ℕ)) (b : ℕ) (more : List ℕ) → lines ≡ folds ++ rest → list_all begins_blank folds ≡ true → b ∷ more ≡ flat_map fold_text folds → BeginsInFold lines
 begins_in_fold lines [] rest b more parts all text = absurd cc
-begins_in_fold lines (fold ∷ folds) rest b more parts all text = subst BeginsInFold (sym parts) (both_true (begins_blank fold) (list_all begins_blank folds) all).0
+begins_in_fold lines (fold ∷ folds) rest b more parts all text = subst BeginsInFold (sym parts) (and_parts (begins_blank fold) (list_all begins_blank folds) all).0
 
 no_folds : (lines folds rest : List (List ℕ)) → lines ≡ folds ++ rest → [] ≡ flat_map fold_text folds → lines ≡ rest
 no_folds lines [] rest parts text = parts
@@ -53,64 +52,64 @@ no_folds lines (fold ∷ folds) rest parts text = absurd cc
 
 -- what is read
 abbrev Joined : List (List ℕ) → Result (List (List ℕ)) MessageFault → Type 0
-Joined lines (Ok wholes) = AreJoined lines wholes
+Joined lines (Ok unfolded_lines) = AreJoined lines unfolded_lines
 Joined lines (Err fault) = (fault ≡ BadHeader) × BeginsInFold lines
 
 joined_is_read : (lines : List (List ℕ)) → Joined lines (unfolded lines)
 joined_is_read lines = go (folded lines) (folding lines) where
-  go : (r : List ℕ × List (List ℕ)) → Folding lines r.0 r.1 → Joined lines (whole_lines r)
-  go ([], wholes) f = subst (λ (ls : List (List ℕ)). AreJoined ls wholes) (sym (no_folds lines f.folds f.rest f.parts f.text)) f.joined
-  go (b ∷ more, wholes) f = (refl, begins_in_fold lines f.folds f.rest b more f.parts f.continues f.text)
+  go : (r : List ℕ × List (List ℕ)) → Folding lines r.0 r.1 → Joined lines (unfolded_or_bad r)
+  go ([], unfolded_lines) f = subst (λ (ls : List (List ℕ)). AreJoined ls unfolded_lines) (sym (no_folds lines f.folds f.rest f.parts f.text)) f.joined
+  go (b ∷ more, unfolded_lines) f = (refl, begins_in_fold lines f.folds f.rest b more f.parts f.continues f.text)
 
-pub folds_reads : (lines : List (List ℕ)) → FoldRule lines (wholes_of lines)
-unfolding wholes_of
+pub folds_reads : (lines : List (List ℕ)) → FoldRule lines (unfold_lines lines)
+unfolding unfold_lines
 folds_reads lines = go (unfolded lines) (joined_is_read lines) where
-  limit : (wholes : List (List ℕ)) (t : Bool) → nat_lt 64 (length wholes) ≡ t → AreJoined lines wholes → FoldRule lines (cond t (Err HeadTooLong) (Ok wholes))
-  limit wholes true e h = inl (refl, (wholes, h, ltb-true _ _ e))
-  limit wholes false e h = (h, ltb-false _ _ e)
+  limit : (unfolded_lines : List (List ℕ)) (t : Bool) → nat_lt 64 (length unfolded_lines) ≡ t → AreJoined lines unfolded_lines → FoldRule lines (cond t (Err HeadTooLong) (Ok unfolded_lines))
+  limit unfolded_lines true e h = inl (refl, (unfolded_lines, h, ltb-true _ _ e))
+  limit unfolded_lines false e h = (h, ltb-false _ _ e)
 
-  go : (r : Result (List (List ℕ)) MessageFault) → Joined lines r → FoldRule lines (r >>= λ wholes. cond (nat_lt 64 (length wholes)) (Err HeadTooLong) (Ok wholes))
-  go (Ok wholes) h = limit wholes (nat_lt 64 (length wholes)) refl h
+  go : (r : Result (List (List ℕ)) MessageFault) → Joined lines r → FoldRule lines (r >>= λ unfolded_lines. cond (nat_lt 64 (length unfolded_lines)) (Err HeadTooLong) (Ok unfolded_lines))
+  go (Ok unfolded_lines) h = limit unfolded_lines (nat_lt 64 (length unfolded_lines)) refl h
   go (Err fault) h = inr h
 
 -- ---- lines that are joined
 
-folds_first : (folds rest : List (List ℕ)) (wholes : List (List ℕ)) → list_all begins_blank folds ≡ true → folded rest ≡ ([], wholes) → folded (folds ++ rest) ≡ (flat_map fold_text folds, wholes)
+folds_first : (folds rest : List (List ℕ)) (unfolded_lines : List (List ℕ)) → list_all begins_blank folds ≡ true → folded rest ≡ ([], unfolded_lines) → folded (folds ++ rest) ≡ (flat_map fold_text folds, unfolded_lines)
 unfolding folded
-folds_first [] rest wholes all e = e
-folds_first (fold ∷ folds) rest wholes all e =
-    let s = both_true (begins_blank fold) (list_all begins_blank folds) all in
+folds_first [] rest unfolded_lines all e = e
+folds_first (fold ∷ folds) rest unfolded_lines all e =
+    let s = and_parts (begins_blank fold) (list_all begins_blank folds) all in
     let blank = s.0 in
-    let later = folds_first folds rest wholes s.1 e in
+    let later = folds_first folds rest unfolded_lines s.1 e in
     rw (blank, later) refl
 
-line_first : (line : List ℕ) (lines : List (List ℕ)) (front : List ℕ) (wholes : List (List ℕ)) → begins_blank line ≡ false → folded lines ≡ (front, wholes) → folded (line ∷ lines) ≡ ([], (line ++ front) ∷ wholes)
+line_first : (line : List ℕ) (lines : List (List ℕ)) (front : List ℕ) (unfolded_lines : List (List ℕ)) → begins_blank line ≡ false → folded lines ≡ (front, unfolded_lines) → folded (line ∷ lines) ≡ ([], (line ++ front) ∷ unfolded_lines)
 unfolding folded
-line_first line lines front wholes plain e = rw (plain, e) refl
+line_first line lines front unfolded_lines plain e = rw (plain, e) refl
 
-joined_folded : (lines wholes : List (List ℕ)) → AreJoined lines wholes → folded lines ≡ ([], wholes)
+joined_folded : (lines unfolded_lines : List (List ℕ)) → AreJoined lines unfolded_lines → folded lines ≡ ([], unfolded_lines)
 unfolding folded
 joined_folded lines [] h = ap folded h
-joined_folded lines (whole ∷ wholes) h =
+joined_folded lines (unfolded_line ∷ unfolded_lines) h =
     let b = h.1 in
-    let later = joined_folded h.0 wholes h.2 in
-    ap folded b.parts ∙ line_first b.line (b.folds ++ h.0) (flat_map fold_text b.folds) wholes b.begins (folds_first b.folds h.0 wholes b.continues later) ∙ ap (λ (w : List ℕ). ([], w ∷ wholes)) (sym b.joined)
+    let later = joined_folded h.0 unfolded_lines h.2 in
+    ap folded b.parts ∙ line_first b.line (b.folds ++ h.0) (flat_map fold_text b.folds) unfolded_lines b.begins (folds_first b.folds h.0 unfolded_lines b.continues later) ∙ ap (λ (w : List ℕ). ([], w ∷ unfolded_lines)) (sym b.joined)
 
 fold_front : (lines : List (List ℕ)) → BeginsInFold lines → unfolded lines ≡ Err BadHeader
 unfolding folded
 fold_front [] h = absurd h
 fold_front (line ∷ lines) h = rw h refl
 
-pub folds_only : (lines : List (List ℕ)) (r : Result (List (List ℕ)) MessageFault) → FoldRule lines r → wholes_of lines ≡ r
-unfolding wholes_of
-folds_only lines (Ok wholes) h =
-    let e : unfolded lines ≡ Ok wholes = ap whole_lines (joined_folded lines wholes h.0) in
-    let short : nat_lt 64 (length wholes) ≡ false = le-ltb 64 (length wholes) h.1 in
+pub folds_only : (lines : List (List ℕ)) (r : Result (List (List ℕ)) MessageFault) → FoldRule lines r → unfold_lines lines ≡ r
+unfolding unfold_lines
+folds_only lines (Ok unfolded_lines) h =
+    let e : unfolded lines ≡ Ok unfolded_lines = ap unfolded_or_bad (joined_folded lines unfolded_lines h.0) in
+    let short : nat_lt 64 (length unfolded_lines) ≡ false = le-ltb 64 (length unfolded_lines) h.1 in
     rw (e, short) refl
 folds_only lines (Err fault) (inl h) =
-    let wholes = h.1.0 in
-    let e : unfolded lines ≡ Ok wholes = ap whole_lines (joined_folded lines wholes h.1.1) in
-    let long : nat_lt 64 (length wholes) ≡ true = lt-ltb 64 (length wholes) h.1.2 in
+    let unfolded_lines = h.1.0 in
+    let e : unfolded lines ≡ Ok unfolded_lines = ap unfolded_or_bad (joined_folded lines unfolded_lines h.1.1) in
+    let long : nat_lt 64 (length unfolded_lines) ≡ true = lt-ltb 64 (length unfolded_lines) h.1.2 in
     let f = sym h.0 in
     rw (e, long) (ap Err f)
 folds_only lines (Err fault) (inr h) =

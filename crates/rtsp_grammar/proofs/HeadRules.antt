@@ -2,13 +2,14 @@
 use Rattle.std.proofs.Common.{◌≡◌, ◌≢◌, ℕ, List, [], ◌∷◌, refl, sym, ap, inl, inr, Bool, true, false, cond, nat_lt, Result, Ok, Err}
 use Rattle.std.specs.Prelude.{codes}
 use Rattle.std.proofs.lemmas.Bool.{ltb-false, ltb-true, le-ltb, lt-ltb}
+use Rattle.rtsp_text.specs.Results.{◌>>=◌}
 use Rattle.rtsp_grammar.specs.Folds.{FoldRule}
 use Rattle.rtsp_grammar.specs.Head.{HeadRule}
 use Rattle.rtsp_grammar.specs.Header.{HeaderText, values_of}
 use Rattle.rtsp_grammar.specs.HeaderLine.{HeadersRule}
 use Rattle.rtsp_grammar.specs.Length.{is_length, ValueRule, ValuesRule, LengthRule}
 use Rattle.rtsp_grammar.specs.Number.{number_of}
-use Rattle.rtsp_grammar.specs.Reading.{◌>>=◌, start_of, wholes_of, headers_of, length_of_value, length_of_values, body_length, head_of}
+use Rattle.rtsp_grammar.specs.Reading.{start_of, unfold_lines, headers_of, header_lines_of, length_of_value, length_of_values, body_length, head_of}
 use Rattle.rtsp_grammar.specs.StartLine.{StartRule}
 use Rattle.rtsp_grammar.specs.declared.head.Head.{Head}
 use Rattle.rtsp_grammar.specs.declared.start_line.StartLine.{StartLine}
@@ -64,36 +65,36 @@ abbrev made_head : StartLine → List HeaderText → ℕ → Result (Head × ℕ
 made_head start headers n = Ok (record { start = start; headers = headers }, n)
 
 pub head_reads : (lines : List (List ℕ)) → lines ≢ [] → HeadRule lines (head_of lines)
-unfolding head_of
+unfolding head_of header_lines_of
 head_reads [] some = absurd (some refl)
 head_reads (first ∷ others) some = go_start (start_of first) (start_reads first) where
-  go_length : (start : StartLine) (wholes : List (List ℕ)) (headers : List HeaderText) (r : Result ℕ MessageFault) → StartRule first (Ok start) → FoldRule others (Ok wholes) → HeadersRule wholes (Ok headers) → LengthRule headers r
+  go_length : (start : StartLine) (unfolded_lines : List (List ℕ)) (headers : List HeaderText) (r : Result ℕ MessageFault) → StartRule first (Ok start) → FoldRule others (Ok unfolded_lines) → HeadersRule unfolded_lines (Ok headers) → LengthRule headers r
       → HeadRule (first ∷ others) (r >>= made_head start headers)
-  go_length start wholes headers (Ok n) s f h l = record { wholes = wholes; start = s; folds = f; headers = h; length = l }
-  go_length start wholes headers (Err fault) s f h l = inr (inr (record { start_line = start; wholes = wholes; values = headers; start = s; folds = f; headers = h; broken = l }))
+  go_length start unfolded_lines headers (Ok n) s f h l = record { unfolded_lines = unfolded_lines; start = s; folds = f; headers = h; length = l }
+  go_length start unfolded_lines headers (Err fault) s f h l = inr (inr (record { start_line = start; unfolded_lines = unfolded_lines; values = headers; start = s; folds = f; headers = h; broken = l }))
 
-  go_headers : (start : StartLine) (wholes : List (List ℕ)) (r : Result (List HeaderText) MessageFault) → StartRule first (Ok start) → FoldRule others (Ok wholes) → HeadersRule wholes r
+  go_headers : (start : StartLine) (unfolded_lines : List (List ℕ)) (r : Result (List HeaderText) MessageFault) → StartRule first (Ok start) → FoldRule others (Ok unfolded_lines) → HeadersRule unfolded_lines r
       → HeadRule (first ∷ others) (r >>= λ headers. body_length headers >>= made_head start headers)
-  go_headers start wholes (Ok headers) s f h = go_length start wholes headers (body_length headers) s f h (length_reads headers)
-  go_headers start wholes (Err fault) s f h = inr (inl (record { start_line = start; wholes = wholes; start = s; folds = f; broken = h }))
+  go_headers start unfolded_lines (Ok headers) s f h = go_length start unfolded_lines headers (body_length headers) s f h (length_reads headers)
+  go_headers start unfolded_lines (Err fault) s f h = inr (inl (record { start_line = start; unfolded_lines = unfolded_lines; start = s; folds = f; broken = h }))
 
   go_folds : (start : StartLine) (r : Result (List (List ℕ)) MessageFault) → StartRule first (Ok start) → FoldRule others r
-      → HeadRule (first ∷ others) (r >>= λ wholes. headers_of wholes >>= λ headers. body_length headers >>= made_head start headers)
-  go_folds start (Ok wholes) s f = go_headers start wholes (headers_of wholes) s f (headers_reads wholes)
+      → HeadRule (first ∷ others) ((r >>= headers_of) >>= λ headers. body_length headers >>= made_head start headers)
+  go_folds start (Ok unfolded_lines) s f = go_headers start unfolded_lines (headers_of unfolded_lines) s f (headers_reads unfolded_lines)
   go_folds start (Err fault) s f = inl (inr (record { start_line = start; start = s; broken = f }))
 
   go_start : (r : Result StartLine MessageFault) → StartRule first r
-      → HeadRule (first ∷ others) (r >>= λ start. wholes_of others >>= λ wholes. headers_of wholes >>= λ headers. body_length headers >>= made_head start headers)
-  go_start (Ok start) s = go_folds start (wholes_of others) s (folds_reads others)
+      → HeadRule (first ∷ others) (r >>= λ start. (unfold_lines others >>= headers_of) >>= λ headers. body_length headers >>= made_head start headers)
+  go_start (Ok start) s = go_folds start (unfold_lines others) s (folds_reads others)
   go_start (Err fault) s = inl (inl s)
 
 pub head_only : (lines : List (List ℕ)) (r : Result (Head × ℕ) MessageFault) → HeadRule lines r → head_of lines ≡ r
-unfolding head_of
+unfolding head_of header_lines_of
 head_only [] r h = absurd h
 head_only (first ∷ others) (Ok found) h =
     let a = start_only first (Ok found.0.start) h.start in
-    let b = folds_only others (Ok h.wholes) h.folds in
-    let c = headers_only h.wholes (Ok found.0.headers) h.headers in
+    let b = folds_only others (Ok h.unfolded_lines) h.folds in
+    let c = headers_only h.unfolded_lines (Ok found.0.headers) h.headers in
     let d = length_only found.0.headers (Ok found.1) h.length in
     rw (a, b, c, d) refl
 head_only (first ∷ others) (Err fault) (inl (inl h)) = let a = start_only first (Err fault) h in rw a refl
@@ -103,12 +104,12 @@ head_only (first ∷ others) (Err fault) (inl (inr h)) =
     rw (a, b) refl
 head_only (first ∷ others) (Err fault) (inr (inl h)) =
     let a = start_only first (Ok h.start_line) h.start in
-    let b = folds_only others (Ok h.wholes) h.folds in
-    let c = headers_only h.wholes (Err fault) h.broken in
+    let b = folds_only others (Ok h.unfolded_lines) h.folds in
+    let c = headers_only h.unfolded_lines (Err fault) h.broken in
     rw (a, b, c) refl
 head_only (first ∷ others) (Err fault) (inr (inr h)) =
     let a = start_only first (Ok h.start_line) h.start in
-    let b = folds_only others (Ok h.wholes) h.folds in
-    let c = headers_only h.wholes (Ok h.values) h.headers in
+    let b = folds_only others (Ok h.unfolded_lines) h.folds in
+    let c = headers_only h.unfolded_lines (Ok h.values) h.headers in
     let d = length_only h.values (Err fault) h.broken in
     rw (a, b, c, d) refl

@@ -1,86 +1,82 @@
 -- What is read of header lines is what the third rule says.
-use Rattle.std.proofs.Common.{◌≡◌, ℕ, List, [], ◌∷◌, ◌++◌, take, drop, refl, sym, ap, ◌∙◌, append_assoc, inl, inr, Bool, true, false, cond, eqb, Result, Ok, Err}
+use Rattle.std.proofs.Common.{◌≡◌, List, ℕ, [], ◌∷◌, ◌++◌, drop, refl, sym, ap, ◌∙◌, append_assoc, inl, inr, Bool, true, false, cond, Option, Some, None, Result, Ok, Err}
 use Rattle.std.specs.Prelude.{◌&&◌}
-use Rattle.std.specs.List.{list_all, list_any, prefix_len}
+use Rattle.std.specs.List.{list_all}
+use Rattle.std.proofs.lemmas.Bool.{and_parts}
 use Rattle.std.proofs.lemmas.List.{take-append-drop}
-use Rattle.rtsp_grammar.specs.Bytes.{is_token_byte, is_blank, is_value_byte}
-use Rattle.rtsp_grammar.specs.Cut.{cut, is_other}
+use Rattle.rtsp_text.specs.Bytes.{is_blank, is_other, is_token, is_token_byte}
+use Rattle.rtsp_text.specs.Results.{◌>>=◌}
+use Rattle.rtsp_text.specs.SplitOnce.{split_once, IsSplitAt}
+use Rattle.rtsp_text.specs.Trim.{trim_end, trimmed}
+use Rattle.rtsp_text.proofs.ByteLemmas.{all_joined, all_other, some_parts}
+use Rattle.rtsp_text.proofs.PaddingLemmas.{back_blank, kept, padded_only, trim_end_pad, trimmed_padded}
+use Rattle.rtsp_text.proofs.SplitLemmas.{split_found, split_is}
+use Rattle.rtsp_grammar.specs.Bytes.{is_value_byte}
 use Rattle.rtsp_grammar.specs.Header.{HeaderText}
 use Rattle.rtsp_grammar.specs.HeaderLine.{SpellsHeader, AreHeaders, HasNoHeader, HeadersRule}
-use Rattle.rtsp_grammar.specs.Reading.{◌>>=◌, header_of, headers_of}
-use Rattle.rtsp_grammar.specs.Trim.{trim_start, trim_end}
-use Rattle.rtsp_grammar.specs.Words.{is_token}
+use Rattle.rtsp_grammar.specs.Reading.{header_of_halves, header_of, headers_of}
 use Rattle.rtsp_grammar.specs.declared.fault.MessageFault.{MessageFault}
 use Rattle.rtsp_grammar.specs.declared.fault.MessageFault.TheVariants.{BadHeader}
-use Rattle.rtsp_grammar.proofs.CutLemmas.{both_true, cut_found}
-use Rattle.rtsp_grammar.proofs.ClassLemmas.{clash, all_other, some_parts, all_joined, token_end, any_parts, any_found}
-use Rattle.rtsp_grammar.proofs.TrimEnds.{trim_end_pad, value_trimmed, front_blank, kept, back_blank, trimmed_ends}
-
--- the tests of a header line
-abbrev header_tests : List ℕ → Bool
-header_tests line = list_any (λ b. eqb b 58) line && is_token (trim_end (cut 58 line).0) && list_all is_value_byte (trim_end (trim_start (cut 58 line).1))
-
-abbrev cut_header : List ℕ → HeaderText
-cut_header line = record { name = trim_end (cut 58 line).0; value = trim_end (trim_start (cut 58 line).1) }
+use Rattle.rtsp_grammar.proofs.ClassLemmas.{token_end}
 
 regroup : (name pad before value behind : List ℕ) → name ++ pad ++ 58 ∷ before ++ value ++ behind ≡ (name ++ pad) ++ 58 ∷ (before ++ (value ++ behind))
 regroup name pad before value behind = simp append_assoc
-
-abbrev made_header : List ℕ → List ℕ → HeaderText
-made_header x y = record { name = x; value = y }
-
-header_read : (line : List ℕ) (h : HeaderText) → SpellsHeader line h → (header_tests line ≡ true) × (cut_header line ≡ h)
-header_read line h s =
-    let m = some_parts is_token_byte h.name s.fits.name in
-    let whole = s.parts ∙ regroup h.name s.pad s.before h.value s.behind in
-    let a : cut 58 line ≡ (h.name ++ s.pad, s.before ++ (h.value ++ s.behind)) = ap (cut 58) whole ∙ cut_found 58 (h.name ++ s.pad) (s.before ++ (h.value ++ s.behind)) (all_joined (is_other 58) h.name s.pad (all_other is_token_byte 58 h.name refl m.1) (all_other is_blank 58 s.pad refl s.pad_blank)) in
-    let b : list_any (λ b. eqb b 58) line ≡ true = ap (list_any (λ b. eqb b 58)) whole ∙ any_found 58 (h.name ++ s.pad) (s.before ++ (h.value ++ s.behind)) in
-    let n : trim_end (h.name ++ s.pad) ≡ h.name = trim_end_pad h.name s.pad s.pad_blank (token_end h.name m.1) in
-    let v : trim_end (trim_start (s.before ++ (h.value ++ s.behind))) ≡ h.value = value_trimmed s.before h.value s.behind s.fits.ends s.before_blank s.behind_blank in
-    let name = s.fits.name in let value = s.fits.value in
-    (rw (b, a, n, v, name, value) refl, ap (λ (p : List ℕ × List ℕ). made_header (trim_end p.0) (trim_end (trim_start p.1))) a ∙ ap (λ (x : List ℕ). made_header x (trim_end (trim_start (s.before ++ (h.value ++ s.behind))))) n ∙ ap (made_header h.name) v)
-
-header_spelled : (line : List ℕ) → header_tests line ≡ true → SpellsHeader line (cut_header line)
-header_spelled line e =
-    let outer = both_true (list_any (λ b. eqb b 58) line && is_token (trim_end (cut 58 line).0)) (list_all is_value_byte (trim_end (trim_start (cut 58 line).1))) e in
-    let inner = both_true (list_any (λ b. eqb b 58) line) (is_token (trim_end (cut 58 line).0)) outer.0 in
-    let front : List ℕ = (cut 58 line).0 in
-    let back : List ℕ = (cut 58 line).1 in
-    let f : front ≡ trim_end front ++ drop (kept front) front = sym (take-append-drop (kept front) front) in
-    let g : back ≡ take (prefix_len is_blank back) back ++ trim_start back = sym (take-append-drop (prefix_len is_blank back) back) in
-    let h : trim_start back ≡ trim_end (trim_start back) ++ drop (kept (trim_start back)) (trim_start back) = sym (take-append-drop (kept (trim_start back)) (trim_start back)) in
-    record {
-      pad = drop (kept front) front;
-      before = take (prefix_len is_blank back) back;
-      behind = drop (kept (trim_start back)) (trim_start back);
-      parts = any_parts 58 line inner.0 ∙ ap (λ (x : List ℕ). x ++ 58 ∷ back) f ∙ ap (λ (x : List ℕ). (trim_end front ++ drop (kept front) front) ++ 58 ∷ x) (g ∙ ap (λ (x : List ℕ). take (prefix_len is_blank back) back ++ x) h)
-          ∙ sym (regroup (trim_end front) (drop (kept front) front) (take (prefix_len is_blank back) back) (trim_end (trim_start back)) (drop (kept (trim_start back)) (trim_start back)));
-      fits = record { name = inner.1; value = outer.1; ends = trimmed_ends back };
-      pad_blank = back_blank front;
-      before_blank = front_blank back;
-      behind_blank = back_blank (trim_start back);
-    }
 
 -- ---- one line
 
 header_only : (line : List ℕ) (h : HeaderText) → SpellsHeader line h → header_of line ≡ Ok h
 unfolding header_of
 header_only line h s =
-    let r = header_read line h s in
-    let passes = r.0 in
-    let made = r.1 in
-    rw passes (ap Ok made)
+    let m = some_parts is_token_byte h.name s.fits.name in
+    let back : List ℕ = s.before ++ (h.value ++ s.behind) in
+    let a : split_once 58 line ≡ Some (h.name ++ s.pad, back) = ap (split_once 58) (s.parts ∙ regroup h.name s.pad s.before h.value s.behind) ∙ split_found 58 (h.name ++ s.pad) back (all_joined (is_other 58) h.name s.pad (all_other is_token_byte 58 h.name refl m.1) (all_other is_blank 58 s.pad refl s.pad_blank)) in
+    let n : trim_end (h.name ++ s.pad) ≡ h.name = trim_end_pad h.name s.pad s.pad_blank (token_end h.name m.1) in
+    let v : trimmed back ≡ h.value = padded_only back h.value (record { before = s.before; behind = s.behind; parts = refl; before_blank = s.before_blank; behind_blank = s.behind_blank; ends = s.fits.ends }) in
+    let name = s.fits.name in
+    let value = s.fits.value in
+    rw (a, n, v, name, value) refl
+
+header_spelled : (line name value : List ℕ) → line ≡ name ++ 58 ∷ value → (is_token (trim_end name) && list_all is_value_byte (trimmed value)) ≡ true → SpellsHeader line (record { name = trim_end name; value = trimmed value })
+header_spelled line name value parts e =
+    let tests = and_parts (is_token (trim_end name)) (list_all is_value_byte (trimmed value)) e in
+    let core = trimmed_padded value in
+    let front : name ≡ trim_end name ++ drop (kept name) name = sym (take-append-drop (kept name) name) in
+    record {
+      pad = drop (kept name) name;
+      before = core.before;
+      behind = core.behind;
+      parts = parts ∙ ap (λ (x : List ℕ). x ++ 58 ∷ value) front ∙ ap (λ (x : List ℕ). (trim_end name ++ drop (kept name) name) ++ 58 ∷ x) core.parts ∙ sym (regroup (trim_end name) (drop (kept name) name) core.before (trimmed value) core.behind);
+      fits = record { name = tests.0; value = tests.1; ends = core.ends };
+      pad_blank = back_blank name;
+      before_blank = core.before_blank;
+      behind_blank = core.behind_blank;
+    }
+
+-- a line that is read is a header
+abbrev Found : List ℕ → Result HeaderText MessageFault → Type 0
+Found line (Ok h) = SpellsHeader line h
+Found line (Err fault) = fault ≡ BadHeader
+
+header_found : (line : List ℕ) → Found line (header_of line)
+unfolding header_of
+header_found line = first (split_once 58 line) (split_is 58 line) where
+  second : (name value : List ℕ) → line ≡ name ++ 58 ∷ value → (t : Bool) → (is_token (trim_end name) && list_all is_value_byte (trimmed value)) ≡ t → Found line (cond t (Ok (record { name = trim_end name; value = trimmed value })) (Err BadHeader))
+  second name value parts true e = header_spelled line name value parts e
+  second name value parts false e = refl
+
+  first : (halves : Option (List ℕ × List ℕ)) → IsSplitAt 58 line halves → Found line (header_of_halves halves)
+  first None s = refl
+  first (Some (name, value)) s = second name value s.0 (is_token (trim_end name) && list_all is_value_byte (trimmed value)) refl
 
 abbrev Read : List ℕ → Result HeaderText MessageFault → Type 0
 Read line (Ok h) = SpellsHeader line h
 Read line (Err fault) = (fault ≡ BadHeader) × ((h : HeaderText) → ¬ SpellsHeader line h)
 
 header_reads : (line : List ℕ) → Read line (header_of line)
-unfolding header_of
-header_reads line = go (header_tests line) refl where
-  go : (x : Bool) → header_tests line ≡ x → Read line (cond x (Ok (cut_header line)) (Err BadHeader))
-  go true e = header_spelled line e
-  go false e = (refl, λ h s. clash (header_tests line) (header_read line h s).0 e)
+header_reads line = go (header_of line) refl (header_found line) where
+  go : (r : Result HeaderText MessageFault) → header_of line ≡ r → Found line r → Read line r
+  go (Ok h) e s = s
+  go (Err fault) e s = (s, λ h k. let other : Ok h ≡ Err fault = sym (header_only line h k) ∙ e in absurd cc)
 
 -- ---- all lines
 

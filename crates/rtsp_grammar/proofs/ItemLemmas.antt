@@ -2,9 +2,9 @@
 use Rattle.std.proofs.Common.{◌≡◌, ℕ, ◌+◌, ◌<◌, ◌≤◌, ◌⊎◌, List, [], ◌∷◌, ◌++◌, length, get_or, take, drop, refl, sym, ap, subst, ◌∙◌, append_assoc, arith, inl, inr, Ok, Err, Result, min, false, eqb}
 use Rattle.std.proofs.lemmas.List.{take_at, take-append-drop, length-append, length-take, length-drop, take-take, drop-append-le}
 use Rattle.std.proofs.Math.Seq.{take-append-add}
+use Rattle.rtsp_text.specs.Results.{Gives}
 use Rattle.rtsp_grammar.specs.Lines.{blank_text, lines_text, IsHead, IsOpenHead}
 use Rattle.rtsp_grammar.specs.Frame.{frame_text, IsFrame, BeginsFrame}
-use Rattle.rtsp_grammar.specs.Gives.{Gives}
 use Rattle.rtsp_grammar.specs.Head.{HeadRule}
 use Rattle.rtsp_grammar.specs.Header.{HeaderText}
 use Rattle.rtsp_grammar.specs.Reading.{head_of}
@@ -108,7 +108,7 @@ frame_of_window text message n b e lt sign =
     (subst BeginsFrame (ap (λ (x : List ℕ). x ++ drop 8192 text) e ∙ sym (rest_of_window text n b)) (begins_more message (drop 8192 text) (begins_at message lt sign)), omega (arith, ap length e, length-drop n (take 8192 text), length-take 8192 text))
 
 pub broken_rules : (text message : List ℕ) (n : ℕ) (lines : List (List ℕ)) (len : ℕ) (fault : MessageFault) → HasBlank (take 8192 text) n → message ≡ drop n (take 8192 text) → ¬ BeginsFrame message → IsHead message lines len
-    → Gives (Err fault) (head_of lines) → (fault ≡ OutOfMemory) ⊎ HasFault text fault
+    → Gives OutOfMemory (Err fault) (head_of lines) → (fault ≡ OutOfMemory) ⊎ HasFault text fault
 broken_rules text message n lines len fault b e not_frame h (inl memory) = inl memory
 broken_rules text message n lines len fault b e not_frame h (inr reads) = inr (inr (rule_broken text message n lines len fault b e not_frame h reads))
 

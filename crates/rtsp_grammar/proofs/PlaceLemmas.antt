@@ -13,8 +13,8 @@ part_kept bytes more from to a b =
 
 pub header_kept : (bytes more : List ℕ) (p : Place) → IsWithin bytes p → header_at (bytes ++ more) p ≡ header_at bytes p
 header_kept bytes more p w =
-    let a = part_kept bytes more p.start p.middle w.0 (omega (arith, w.1, w.2)) in
-    let b = part_kept bytes more p.middle p.stop w.1 w.2 in
+    let a = part_kept bytes more p.name p.value w.0 (omega (arith, w.1, w.2)) in
+    let b = part_kept bytes more p.value p.end w.1 w.2 in
     rw (a, b) refl
 
 pub headers_kept : (bytes more : List ℕ) (ps : List Place) → AreWithin bytes ps → headers_at (bytes ++ more) ps ≡ headers_at bytes ps
@@ -46,10 +46,10 @@ last_at front part =
     rw (a, n) (take_all (length part) part (omega arith))
 
 pub pushed_headers : (bytes name value : List ℕ) (ps : List Place) → AreWithin bytes ps →
-    headers_at ((bytes ++ name) ++ value) (ps ++ record { start = length bytes; middle = length (bytes ++ name); stop = length ((bytes ++ name) ++ value) } ∷ [])
+    headers_at ((bytes ++ name) ++ value) (ps ++ record { name = length bytes; value = length (bytes ++ name); end = length ((bytes ++ name) ++ value) } ∷ [])
     ≡ headers_at bytes ps ++ record { name = name; value = value } ∷ []
 pushed_headers bytes name value ps w =
-    let a = map_last (header_at ((bytes ++ name) ++ value)) ps (record { start = length bytes; middle = length (bytes ++ name); stop = length ((bytes ++ name) ++ value) }) in
+    let a = map_last (header_at ((bytes ++ name) ++ value)) ps (record { name = length bytes; value = length (bytes ++ name); end = length ((bytes ++ name) ++ value) }) in
     let b : headers_at ((bytes ++ name) ++ value) ps ≡ headers_at bytes ps = ap (λ (l : List ℕ). headers_at l ps) (append_assoc bytes name value) ∙ headers_kept bytes (name ++ value) ps w in
     let c = part_at bytes name value in
     let d = last_at (bytes ++ name) value in
@@ -60,25 +60,25 @@ within_last bytes [] p w h = (h, w)
 within_last bytes (q ∷ ps) p w h = (w.0, within_last bytes ps p w.1 h)
 
 pub pushed_within : (bytes name value : List ℕ) (ps : List Place) → AreWithin bytes ps →
-    AreWithin ((bytes ++ name) ++ value) (ps ++ record { start = length bytes; middle = length (bytes ++ name); stop = length ((bytes ++ name) ++ value) } ∷ [])
+    AreWithin ((bytes ++ name) ++ value) (ps ++ record { name = length bytes; value = length (bytes ++ name); end = length ((bytes ++ name) ++ value) } ∷ [])
 pushed_within bytes name value ps w =
     let e = length-append bytes name in
     let f = length-append (bytes ++ name) value in
-    within_last ((bytes ++ name) ++ value) ps (record { start = length bytes; middle = length (bytes ++ name); stop = length ((bytes ++ name) ++ value) })
+    within_last ((bytes ++ name) ++ value) ps (record { name = length bytes; value = length (bytes ++ name); end = length ((bytes ++ name) ++ value) })
     (subst (λ (l : List ℕ). AreWithin l ps) (sym (append_assoc bytes name value)) (within_kept bytes (name ++ value) ps w))
     (omega (arith, e), omega (arith, f), omega arith)
 
 -- the same header seen from its place
 pub got : (bytes : List ℕ) (p : Place) → IsWithin bytes p →
-    header_at bytes p ≡ record { name = drop p.start (take p.middle (take p.stop bytes)); value = drop p.middle (take p.stop bytes) }
+    header_at bytes p ≡ record { name = drop p.name (take p.value (take p.end bytes)); value = drop p.value (take p.end bytes) }
 got bytes p w =
-    let a : take p.middle (take p.stop bytes) ≡ take p.middle bytes = take-take p.middle p.stop bytes w.1 in
-    let b : drop p.start (take p.middle bytes) ≡ take (p.middle - p.start) (drop p.start bytes) = ap (λ (n : ℕ). drop p.start (take n bytes)) (omega (arith, w.0)) ∙ drop-take p.start (p.middle - p.start) bytes in
-    let c : drop p.middle (take p.stop bytes) ≡ take (p.stop - p.middle) (drop p.middle bytes) = ap (λ (n : ℕ). drop p.middle (take n bytes)) (omega (arith, w.1)) ∙ drop-take p.middle (p.stop - p.middle) bytes in
+    let a : take p.value (take p.end bytes) ≡ take p.value bytes = take-take p.value p.end bytes w.1 in
+    let b : drop p.name (take p.value bytes) ≡ take (p.value - p.name) (drop p.name bytes) = ap (λ (n : ℕ). drop p.name (take n bytes)) (omega (arith, w.0)) ∙ drop-take p.name (p.value - p.name) bytes in
+    let c : drop p.value (take p.end bytes) ≡ take (p.end - p.value) (drop p.value bytes) = ap (λ (n : ℕ). drop p.value (take n bytes)) (omega (arith, w.1)) ∙ drop-take p.value (p.end - p.value) bytes in
     rw (a, b, c) refl
 
 pub pushed : (bytes name value one all : List ℕ) (ps qs : List Place) (start middle stop : ℕ) → AreWithin bytes ps →
-    one ≡ bytes ++ name → all ≡ one ++ value → start ≡ length bytes → middle ≡ length one → stop ≡ length all → qs ≡ ps ++ record { start = start; middle = middle; stop = stop } ∷ [] →
+    one ≡ bytes ++ name → all ≡ one ++ value → start ≡ length bytes → middle ≡ length one → stop ≡ length all → qs ≡ ps ++ record { name = start; value = middle; end = stop } ∷ [] →
     AreWithin all qs × (headers_at all qs ≡ headers_at bytes ps ++ record { name = name; value = value } ∷ [])
 pushed bytes name value one all ps qs start middle stop w e1 e2 s m t e3 =
     rw (e3, s, m, t, e2, e1) (pushed_within bytes name value ps w, pushed_headers bytes name value ps w)

@@ -1,12 +1,11 @@
 -- A text has one first line, and one head.
 use Rattle.std.proofs.Common.{◌≡◌, ℕ, zero, suc, ◌⊎◌, List, [], ◌∷◌, ◌++◌, length, refl, sym, ap, subst, ◌∙◌, append_assoc, arith, inl, inr, Bool, true, false, cond, eqb}
 use Rattle.std.specs.Prelude.{not, ◌||◌}
-use Rattle.std.proofs.lemmas.Bool.{eqb-true}
+use Rattle.std.proofs.lemmas.Bool.{eqb-true, and_parts}
 use Rattle.std.specs.List.{list_all, AllByRecursion}
 use Rattle.rtsp_grammar.specs.Bytes.{is_line_byte}
 use Rattle.rtsp_grammar.specs.Lines.{blank_text, line_text, lines_text, IsLine, IsBroken, IsOpen, BeginsBare}
 use Rattle.rtsp_grammar.specs.Item.{BeginsBlank}
-use Rattle.rtsp_grammar.proofs.CutLemmas.{both_true}
 
 pub data View : Type 0 where
   ended : List ℕ → List ℕ → View
@@ -39,7 +38,7 @@ view_plain b bytes e = let n = neither (eqb b 13) (eqb b 10) e in rw (n.1, n.0) 
 pub view_ended : (line rest : List ℕ) → list_all is_line_byte line ≡ true → view (line ++ 13 ∷ 10 ∷ rest) ≡ ended line rest
 view_ended [] rest e = refl
 view_ended (b ∷ line) rest e =
-    let p = both_true _ _ e in
+    let p = and_parts _ _ e in
     view_plain b (line ++ 13 ∷ 10 ∷ rest) p.0 ∙ ap (onto b) (view_ended line rest p.1)
 
 view_bare : (rest : List ℕ) → BeginsBare rest → view rest ≡ broken
@@ -54,14 +53,14 @@ view_bare (b ∷ c ∷ rest) (inr h) = go (eqb c 10) refl where
 pub view_broken : (line rest : List ℕ) → list_all is_line_byte line ≡ true → BeginsBare rest → view (line ++ rest) ≡ broken
 view_broken [] rest e bare = view_bare rest bare
 view_broken (b ∷ line) rest e bare =
-    let p = both_true _ _ e in
+    let p = and_parts _ _ e in
     view_plain b (line ++ rest) p.0 ∙ ap (onto b) (view_broken line rest p.1 bare)
 
 pub view_open : (line rest : List ℕ) → list_all is_line_byte line ≡ true → (rest ≡ []) ⊎ (rest ≡ 13 ∷ []) → view (line ++ rest) ≡ open_end
 view_open [] rest e (inl h) = rw h refl
 view_open [] rest e (inr h) = rw h refl
 view_open (b ∷ line) rest e h =
-    let p = both_true _ _ e in
+    let p = and_parts _ _ e in
     view_plain b (line ++ rest) p.0 ∙ ap (onto b) (view_open line rest p.1 h)
 
 pub broken_views : (text : List ℕ) → IsBroken text → view text ≡ broken

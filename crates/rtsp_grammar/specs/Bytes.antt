@@ -11,17 +11,9 @@ is_line_end b = b == 13 || b == 10
 abbrev pub is_line_byte : ℕ → Bool
 is_line_byte b = not (is_line_end b)
 
--- a byte of a token: a letter, a digit or one of fifteen signs
-abbrev pub is_token_byte : ℕ → Bool
-is_token_byte b = is_ascii_alphanumeric b || list_any (λ c. c == b) (codes "!#$%&'*+-.^_~`|")
-
 -- a byte of a URI: visible ASCII, 21 to 7e
 abbrev pub is_uri_byte : ℕ → Bool
 is_uri_byte b = nat_le 33 b && nat_le b 126
-
--- a space or a tab (WSP)
-abbrev pub is_blank : ℕ → Bool
-is_blank b = b == 32 || b == 9
 
 -- a byte of a header's value: 20 to 7e, tab, and 80 to ff (TEXT)
 abbrev pub is_value_byte : ℕ → Bool

@@ -11,10 +11,10 @@ use Rattle.rtsp_grammar.specs.declared.fault.MessageFault.{MessageFault}
 
 -- the lines of a head keep the four rules, and announce a body of this many bytes
 pub record SpellsHead (first : List ℕ) (others : List (List ℕ)) (head : Head) (body : ℕ) : Type 0 where
-  pub wholes : List (List ℕ)
+  pub unfolded_lines : List (List ℕ)
   pub start : StartRule first (Ok head.start)
-  pub folds : FoldRule others (Ok wholes)
-  pub headers : HeadersRule wholes (Ok head.headers)
+  pub folds : FoldRule others (Ok unfolded_lines)
+  pub headers : HeadersRule unfolded_lines (Ok head.headers)
   pub length : LengthRule head.headers (Ok body)
 
 -- they keep the first rule and break the second
@@ -26,19 +26,19 @@ pub record BreaksFolds (first : List ℕ) (others : List (List ℕ)) (fault : Me
 -- they keep two rules and break the third
 pub record BreaksHeaders (first : List ℕ) (others : List (List ℕ)) (fault : MessageFault) : Type 0 where
   pub start_line : StartLine
-  pub wholes : List (List ℕ)
+  pub unfolded_lines : List (List ℕ)
   pub start : StartRule first (Ok start_line)
-  pub folds : FoldRule others (Ok wholes)
-  pub broken : HeadersRule wholes (Err fault)
+  pub folds : FoldRule others (Ok unfolded_lines)
+  pub broken : HeadersRule unfolded_lines (Err fault)
 
 -- they keep three rules and break the fourth
 pub record BreaksLength (first : List ℕ) (others : List (List ℕ)) (fault : MessageFault) : Type 0 where
   pub start_line : StartLine
-  pub wholes : List (List ℕ)
+  pub unfolded_lines : List (List ℕ)
   pub values : List HeaderText
   pub start : StartRule first (Ok start_line)
-  pub folds : FoldRule others (Ok wholes)
-  pub headers : HeadersRule wholes (Ok values)
+  pub folds : FoldRule others (Ok unfolded_lines)
+  pub headers : HeadersRule unfolded_lines (Ok values)
   pub broken : LengthRule values (Err fault)
 
 -- the head that the lines spell with the length of its body, or the fault of the first rule that they break

@@ -1,16 +1,12 @@
 -- The third rule: header lines (RFC 7826 sections 5.2 and 20.2.3).
-use Rattle.std.specs.Prelude.{◌≡◌, ℕ, ◌-◌, ◌<◌, ◌⊎◌, true, false, List, [], ◌∷◌, ◌++◌, length, slice_index, Result, Ok, Err}
+use Rattle.std.specs.Prelude.{◌≡◌, ℕ, ◌⊎◌, true, List, [], ◌∷◌, ◌++◌, Result, Ok, Err}
 use Rattle.std.specs.List.{list_all}
-use Rattle.rtsp_grammar.specs.Bytes.{is_blank, is_value_byte}
+use Rattle.rtsp_text.specs.Trim.{HasPlainEnds}
+use Rattle.rtsp_text.specs.Bytes.{is_blank, is_token}
+use Rattle.rtsp_grammar.specs.Bytes.{is_value_byte}
 use Rattle.rtsp_grammar.specs.Header.{HeaderText}
-use Rattle.rtsp_grammar.specs.Words.{is_token}
 use Rattle.rtsp_grammar.specs.declared.fault.MessageFault.{MessageFault}
 use Rattle.rtsp_grammar.specs.declared.fault.MessageFault.TheVariants.{BadHeader}
-
--- no space or tab at either end
-pub record HasPlainEnds (text : List ℕ) : Type 0 where
-  pub first : 0 < length text → is_blank (slice_index text 0) ≡ false
-  pub last : 0 < length text → is_blank (slice_index text (length text - 1)) ≡ false
 
 -- a token, and a value without spaces and tabs at its ends
 pub record IsHeader (header : HeaderText) : Type 0 where

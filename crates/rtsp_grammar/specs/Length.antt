@@ -1,7 +1,8 @@
 -- The fourth rule: the length of the body (RFC 7826 section 18.17, Content-Length).
 use Rattle.std.specs.Prelude.{◌≡◌, ℕ, ◌<◌, ◌≤◌, ◌⊎◌, Bool, ◌&&◌, true, false, nat_le, List, [], ◌∷◌, length, codes, Result, Ok, Err}
+use Rattle.rtsp_text.specs.Bytes.{is_number}
 use Rattle.rtsp_grammar.specs.Header.{HeaderText, values_of}
-use Rattle.rtsp_grammar.specs.Number.{is_number, number_of}
+use Rattle.rtsp_grammar.specs.Number.{number_of}
 use Rattle.rtsp_grammar.specs.declared.fault.MessageFault.{MessageFault}
 use Rattle.rtsp_grammar.specs.declared.fault.MessageFault.TheVariants.{BodyTooLong, BadLength}
 

@@ -55,6 +55,11 @@ pub record BeginsLines (text : List ℕ) (lines : List (List ℕ)) (rest : List 
   pub parts : text ≡ lines_text lines ++ rest
   pub each : AllByRecursion IsLine lines
 
+-- the text is these lines
+pub record AreLines (text : List ℕ) (lines : List (List ℕ)) : Type 0 where
+  pub parts : text ≡ lines_text lines
+  pub each : AllByRecursion IsLine lines
+
 -- lines, and then one that a CR or an LF alone ends
 pub record IsBrokenHead (text : List ℕ) : Type 0 where
   pub lines : List (List ℕ)

@@ -1,15 +1,8 @@
 -- Words of a message: tokens, methods and URIs (RFC 7826 section 20.1).
 use Rattle.std.specs.Prelude.{ℕ, Bool, ◌&&◌, not, ◌==◌, nat_eq, List, [], ◌∷◌, length}
 use Rattle.std.specs.List.{list_all, starts_with}
-use Rattle.rtsp_grammar.specs.Bytes.{is_token_byte, is_uri_byte}
-
--- one byte or more, each of which passes
-abbrev pub is_some_of : (ℕ → Bool) → List ℕ → Bool
-is_some_of test bytes = not (length bytes == 0) && list_all test bytes
-
--- one byte of a token or more
-abbrev pub is_token : List ℕ → Bool
-is_token bytes = is_some_of is_token_byte bytes
+use Rattle.rtsp_text.specs.Bytes.{is_token_byte, is_some_of, is_token}
+use Rattle.rtsp_grammar.specs.Bytes.{is_uri_byte}
 
 -- a token that doesn't begin with `$`, the sign of a frame
 abbrev pub is_method : List ℕ → Bool

@@ -29,16 +29,16 @@ headers_text [] = []
 headers_text (h ∷ hs) = header_text h ++ headers_text hs
 
 -- a first line
-abbrev pub first_text : StartLine → List ℕ
-first_text start = line_text (start_text start)
+abbrev pub start_line_text : StartLine → List ℕ
+start_line_text start = line_text (start_text start)
 
 -- what stands after it: the headers, the empty line and the body
-abbrev pub rest_text : List HeaderText → List ℕ → List ℕ
-rest_text headers body = headers_text headers ++ 13 ∷ 10 ∷ body
+abbrev pub headers_and_body_text : List HeaderText → List ℕ → List ℕ
+headers_and_body_text headers body = headers_text headers ++ 13 ∷ 10 ∷ body
 
 -- a head and a body
 abbrev pub message_text : Head → List ℕ → List ℕ
-message_text head body = first_text head.start ++ rest_text head.headers body
+message_text head body = start_line_text head.start ++ headers_and_body_text head.headers body
 
 abbrev pub request_text : Request → List ℕ
 request_text r = message_text (request_head r) r.body

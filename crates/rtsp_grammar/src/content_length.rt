@@ -3,10 +3,10 @@
 ghost use Rattle.std.specs.Prelude.{◌≡◌};
 ghost use Rattle.rtsp_grammar.specs.Reading.{length_of_value, body_length};
 
-use crate::bytes::is_number;
 use crate::fault::MessageFault;
 use crate::header::Headers;
-use crate::version::number;
+use crate::number::number;
+use rtsp_text::is_number;
 
 const BODY_LIMIT: u32 = 65_536;
 

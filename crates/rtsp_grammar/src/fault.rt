@@ -6,10 +6,10 @@ ghost use Rattle.rtsp_grammar.specs.declared.fault.MessageFault.TheVariants.{Out
 use std::alloc::{AllocError, AllocFailed};
 use thiserror::Error;
 
-/// The first rule of the grammar that a text breaks, or want of memory.
+/// The first rule of the grammar that a text breaks, or that memory ran out.
 #[derive(Clone, Copy, Debug, PartialEq, Eq, Error)]
 pub enum MessageFault {
-    /// A line ends in a CR or an LF alone, or the first line is neither a request line nor a
+    /// A line has a CR or an LF alone, or the first line is neither a request line nor a
     /// status line.
     #[error("bad line")]
     BadLine,

@@ -6,7 +6,7 @@ ghost use Rattle.rtsp_grammar.specs.declared.fault.MessageFault.TheVariants.{Out
 
 use crate::fault::MessageFault;
 use crate::message::Frame;
-use crate::text::Text;
+use rtsp_text::Text;
 use std::alloc::Global;
 
 /// Reads the frame at the front, and how many bytes it takes. None: more bytes are needed.

@@ -1,18 +1,19 @@
 //! The head of a message.
 
-ghost use Rattle.std.specs.Prelude.{◌≡◌};
-ghost use Rattle.rtsp_grammar.specs.Gives.{Gives};
-ghost use Rattle.rtsp_grammar.specs.HeadAt.{texts};
+ghost use Rattle.std.specs.Prelude.{◌≡◌, List, ℕ};
+ghost use Rattle.rtsp_grammar.specs.declared.fault.MessageFault.TheVariants.{OutOfMemory};
+ghost use Rattle.rtsp_text.specs.Results.{Gives};
+ghost use Rattle.rtsp_grammar.specs.HeadAt.{HoldsHead};
 ghost use Rattle.rtsp_grammar.specs.Reading.{head_of};
 
 use crate::content_length::body_length;
 use crate::fault::MessageFault;
-use crate::folds::wholes_of;
+use crate::head_at::HeadText;
 use crate::header::Headers;
 use crate::header_line::headers_of;
 use crate::message::{Item, Request, Response};
 use crate::start_line::{StartLine, start_of};
-use crate::text::Text;
+use rtsp_text::Text;
 use std::alloc::Global;
 
 /// A message without its body.
@@ -58,15 +59,11 @@ impl Head {
 
 /// The head that lines spell, and the length of its body.
 #[tactic(auto, unfolding(crate::specs::Reading::head_of))]
-pub fn head_of(alloc: Global, lines: &[&[u8]]) -> Result<(Head, usize), MessageFault>
-    ensures { Gives result (head_of (texts lines.now)) }
+pub fn head_of(alloc: Global, text: HeadText<'_>) -> Result<(Head, usize), MessageFault>
+    ensures { (lines : List (List ℕ)) → HoldsHead lines text.entry → Gives OutOfMemory result (head_of lines) }
 {
-    let Some((first, others)) = lines.split_first() else {
-        return Err(MessageFault::BadLine);
-    };
-    let start = start_of(alloc, first)?;
-    let wholes = wholes_of(alloc, others)?;
-    let headers = headers_of(alloc, &wholes)?;
+    let start = start_of(alloc, text.first)?;
+    let headers = headers_of(alloc, text.headers, text.count)?;
     let length = body_length(&headers)?;
     Ok((Head { start, headers }, length))
 }

@@ -1,24 +1,27 @@
 //! Headers of a message, kept in one buffer.
 
 ghost use Rattle.std.specs.Prelude.{◌≡◌, ◌<◌, ◌≤◌, ◌+◌, [], ◌∷◌, ◌++◌, length, OnOk, OnErr, IfOk, slice_get, option_map, Some, IsOk, IsTrue, ◌↔◌};
-ghost use Rattle.rtsp_grammar.specs.Draft.{Takes, HasRoom};
+ghost use Rattle.rtsp_grammar.specs.HeadersBuilder.{Takes, HasRoom};
 ghost use Rattle.rtsp_grammar.specs.Header.{is_named, values_of};
 
 use std::alloc::{AllocError, Global};
 use std::marker::Model;
 
-/// Where a header stands in the buffer: its name from `start`, its value from `middle` to `stop`.
+// Where a header is in the buffer: its name begins at `name`, its value at `value`, and it ends
+// before `end`.
 #[derive(Clone, Copy, Debug)]
 struct Place {
-    start: usize,
-    middle: usize,
-    stop: usize,
+    name: usize,
+    value: usize,
+    end: usize,
 }
 
-/// One header of a message.
+/// One header of a message (RFC 7826 section 5.2).
 #[derive(Clone, Copy, Debug)]
 pub struct Header<'a> {
+    /// As it was written: names are compared without regard to case.
     pub name: &'a [u8],
+    /// Without blanks at its ends, and with a space for each fold.
     pub value: &'a [u8],
 }
 
@@ -53,26 +56,29 @@ impl Model for Headers {
 impl Headers {
     ghost use Rattle.rtsp_grammar.specs.HeaderView.{shown};
 
+    /// How many there are, each line with its folds counted once.
     pub fn len(&self) -> usize
         ensures { result ≡ length self.now }
     {
         self.places.len()
     }
 
+    /// Whether there is none.
     pub fn is_empty(&self) -> bool
         ensures { IsTrue result ↔ (self.now ≡ []) }
     {
         self.places.is_empty()
     }
 
+    /// The header at an index, in the message's order.
     pub fn get(&self, index: usize) -> Header<'_>
         requires { index < length self.now }
         ensures { slice_get self.now index ≡ Some (shown result) }
     {
         let place = self.places[index];
-        let (front, _) = self.bytes.split_at(place.stop);
-        let (front, value) = front.split_at(place.middle);
-        let (_, name) = front.split_at(place.start);
+        let (front, _) = self.bytes.split_at(place.end);
+        let (front, value) = front.split_at(place.value);
+        let (_, name) = front.split_at(place.name);
         Header { name, value }
     }
 
@@ -89,7 +95,7 @@ impl Headers {
         count
     }
 
-    /// The value of the header of this name that stands after `before` others of that name.
+    /// The value of the header of this name that comes after `before` others of that name.
     pub fn nth_value(&self, name: &[u8], before: usize) -> Option<&[u8]>
         ensures { option_map (λ v. v.now) result ≡ slice_get (values_of name.now self.now) before }
     {
@@ -107,43 +113,50 @@ impl Headers {
     }
 }
 
-/// Headers that are being made, and the room that is left for more.
+/// Headers that are being made, and the room that is left for more: how many, and how many bytes of
+/// their names and values.
 #[derive(Debug, Drop)]
-pub struct Draft {
+pub struct HeadersBuilder {
     bytes: Vec<u8>,
     places: Vec<Place>,
 }
 
-impl Model for Draft {
-    ghost use Rattle.std.specs.Prelude.{◌-◌, length, vec_capacity};
-    ghost use Rattle.rtsp_grammar.specs.Draft.{DraftText};
-    ghost use Rattle.rtsp_grammar.specs.Headers.{headers_at, AreWithin};
+impl Model for HeadersBuilder {
+    ghost use Rattle.rtsp_grammar.specs.HeadersBuilder.{BuiltHeaders};
+    ghost use Rattle.rtsp_grammar.specs.Headers.{AreWithin};
 
-    ghost Value = { DraftText };
+    ghost Value = { BuiltHeaders };
 
-    ghost view = { λ d. record { headers = headers_at d.bytes.items d.places.items; lines = vec_capacity d.places - length d.places.items; bytes = vec_capacity d.bytes - length d.bytes.items } };
+    ghost use Rattle.rtsp_grammar.specs.BuiltHeaders.{built_headers};
+
+    ghost view = { built_headers };
 
     ghost invariant = { λ d. AreWithin d.bytes.items d.places.items };
 }
 
-impl Draft {
-    pub fn new(alloc: Global) -> Draft
+impl HeadersBuilder {
+    /// No header yet, and no room, which takes no memory.
+    pub fn new(alloc: Global) -> HeadersBuilder
         ensures { result.headers ≡ [] }
     {
-        Draft {
+        HeadersBuilder {
             bytes: Vec::new(alloc),
             places: Vec::new(alloc),
         }
     }
 
-    /// An empty draft with room for so many headers, and for so many bytes of their names and values.
-    pub fn with_room(alloc: Global, lines: usize, bytes: usize) -> Result<Draft, AllocError>
+    /// No header yet, and room for so many with so many bytes of names and values.
+    pub fn with_room(
+        alloc: Global,
+        lines: usize,
+        bytes: usize,
+    ) -> Result<HeadersBuilder, AllocError>
         ensures { IfOk result (λ d. (d.headers ≡ []) × (lines ≤ d.lines) × (bytes ≤ d.bytes)) }
     {
-        let mut draft = Draft::new(alloc);
-        draft.places.reserve(lines)?;
-        draft.bytes.reserve(bytes)?;
-        Ok(draft)
+        let mut headers = HeadersBuilder::new(alloc);
+        headers.places.reserve(lines)?;
+        headers.bytes.reserve(bytes)?;
+        Ok(headers)
     }
 
     /// Adds a header at the end, or nothing. It takes no memory where there is room.
@@ -154,23 +167,24 @@ impl Draft {
     {
         self.places.reserve(1)?;
         self.bytes.reserve(name.len() + value.len())?;
-        let start = self.bytes.len();
+        let name_at = self.bytes.len();
         self.bytes.extend_from_slice(name).unwrap();
-        let middle = self.bytes.len();
+        let value_at = self.bytes.len();
         self.bytes.extend_from_slice(value).unwrap();
-        let stop = self.bytes.len();
+        let end = self.bytes.len();
         self.places.push_reserved(Place {
-            start,
-            middle,
-            stop,
+            name: name_at,
+            value: value_at,
+            end,
         });
         Ok(())
     }
 
+    /// The headers that were added, in their order.
     pub fn into_headers(self) -> Headers
         ensures { result ≡ self.headers }
     {
-        let Draft { bytes, places } = self;
+        let HeadersBuilder { bytes, places } = self;
         Headers { bytes, places }
     }
 }

@@ -1,43 +1,88 @@
 //! The header lines of a message.
 
-ghost use Rattle.std.specs.Prelude.{◌≡◌, IfOk, IfErr};
-ghost use Rattle.rtsp_grammar.specs.Gives.{Gives};
+ghost use Rattle.std.specs.Prelude.{◌≡◌, ◌<◌, List, ℕ, length, IfOk, IfErr};
+ghost use Rattle.rtsp_grammar.specs.declared.fault.MessageFault.TheVariants.{OutOfMemory};
+ghost use Rattle.rtsp_text.specs.Results.{Gives};
+ghost use Rattle.rtsp_grammar.specs.HeaderSteps.{ReadsFirst, PushesHeader};
 ghost use Rattle.rtsp_grammar.specs.HeaderView.{shown};
-ghost use Rattle.rtsp_grammar.specs.Reading.{header_of, headers_of};
+ghost use Rattle.rtsp_grammar.specs.Lines.{AreLines};
+ghost use Rattle.rtsp_grammar.specs.Reading.{header_of, folded, header_lines_of};
 
-use crate::bytes::{are_value_bytes, is_token};
-use crate::cut::{cut_at, trim_end, trim_start};
+use crate::bytes::are_value_bytes;
 use crate::fault::MessageFault;
-use crate::folds::WholeLine;
-use crate::header::{Draft, Header, Headers};
+use crate::folds::{begins_blank, unfold};
+use crate::header::{Header, Headers, HeadersBuilder};
+use crate::line::split_line;
+use rtsp_text::{is_token, split_once, trim_end, trimmed};
 use std::alloc::Global;
 
-/// The header that a line spells.
+// More headers are HeadTooLong.
+const HEADER_LIMIT: usize = 64;
+
+// The header that a line spells.
 #[tactic(auto, unfolding(crate::specs::Reading::header_of))]
 fn header_of(line: &[u8]) -> Result<Header<'_>, MessageFault>
     ensures ok { IfOk result (λ h. header_of line.now ≡ Ok (shown h)) }
     ensures err { IfErr result (λ fault. header_of line.now ≡ Err fault) }
 {
-    if !line.contains(&b':') {
+    let Some((name, value)) = split_once(line, b':') else {
         return Err(MessageFault::BadHeader);
-    }
-    let (name, value) = cut_at(line, b':');
+    };
     let name = trim_end(name);
-    let value = trim_end(trim_start(value));
+    let value = trimmed(value);
     if !(is_token(name) && are_value_bytes(value)) {
         return Err(MessageFault::BadHeader);
     }
     Ok(Header { name, value })
 }
 
-/// The headers that lines spell.
-pub fn headers_of(alloc: Global, lines: &[WholeLine]) -> Result<Headers, MessageFault>
-    ensures { Gives result (headers_of lines.now) }
+// Adds the header that a line spells.
+fn push_line(headers: &mut HeadersBuilder, line: &[u8]) -> Result<(), MessageFault>
+    ensures { PushesHeader result headers.old.headers headers.new.headers (header_of line.now) }
 {
-    let mut draft = Draft::new(alloc);
-    for line in lines {
-        let header = header_of(line.as_bytes())?;
-        draft.push(header.name, header.value)?;
+    let header = header_of(line)?;
+    headers.push(header.name, header.value)?;
+    Ok(())
+}
+
+// Adds the header that the first line spells with the lines that continue it, and gives the other
+// lines. A line that is continued is joined in `unfolded`.
+fn next_header<'a>(
+    headers: &mut HeadersBuilder,
+    unfolded: &mut Vec<u8>,
+    lines: &'a [u8],
+) -> Result<&'a [u8], MessageFault>
+    requires { 0 < length lines.now }
+    ensures reads { ReadsFirst result headers.old.headers headers.new.headers lines.now }
+    ensures shorter { IfOk result (λ rest. length rest.now < length lines.now) }
+{
+    let (line, rest) = split_line(lines);
+    if !begins_blank(rest) {
+        push_line(headers, line)?;
+        return Ok(rest);
     }
-    Ok(draft.into_headers())
+    unfolded.clear();
+    unfolded.extend_from_slice(line)?;
+    let rest = unfold(unfolded, rest)?;
+    push_line(headers, unfolded)?;
+    Ok(rest)
+}
+
+/// The headers that lines spell, of which so many continue no other line.
+pub fn headers_of(alloc: Global, lines: &[u8], count: usize) -> Result<Headers, MessageFault>
+    ensures { (ls : List (List ℕ)) → AreLines lines.now ls → count ≡ length (folded ls).1 → Gives OutOfMemory result (header_lines_of ls) }
+{
+    if begins_blank(lines) {
+        return Err(MessageFault::BadHeader);
+    }
+    if count > HEADER_LIMIT {
+        return Err(MessageFault::HeadTooLong);
+    }
+    let mut headers = HeadersBuilder::with_room(alloc, count, lines.len())?;
+    let mut unfolded = Vec::new(alloc);
+    let mut left = lines;
+    'headers: while !left.is_empty() {
+        left = next_header(&mut headers, &mut unfolded, left)?;
+    }
+    Ok(headers.into_headers())
 }

@@ -5,28 +5,28 @@ ghost use Rattle.rtsp_grammar.specs.Reading.{ReadsRules, OneReading};
 ghost use Rattle.rtsp_grammar.specs.Stream.{KeepsItems};
 ghost use Rattle.rtsp_grammar.specs.Writing.{ReadsBack};
 
-/// What is read of a head's lines is what the four rules say of them, and they say nothing else.
+/// A head's lines are read as the four rules say, and the rules allow no other reading.
 pub fn law_reads_rules()
     ensures reads { ReadsRules }
     ensures one { OneReading }
 {}
 
-/// A text has one answer, also when more bytes follow it.
+/// A text has one answer, and keeps it when more bytes follow.
 pub fn law_one_answer()
     ensures { OneAnswer }
 {}
 
-/// An answer is that of each longer text.
+/// The answer of a text is also that of each longer text.
 pub fn law_stays()
     ensures { Stays }
 {}
 
-/// A text that leaves it open has no answer.
+/// An undecided text has no answer.
 pub fn law_no_answer()
     ensures { NoAnswer }
 {}
 
-/// A text of bytes that leaves it open has a longer one with an answer.
+/// For each undecided text there is a longer one that has an answer.
 pub fn law_opens_out()
     ensures { OpensOut }
 {}
@@ -36,7 +36,7 @@ pub fn law_reads_back()
     ensures { ReadsBack }
 {}
 
-/// The items given of a prefix are the first of those of the whole stream, however it is cut.
+/// The items read from a prefix are the first items of the whole stream, however it is cut.
 pub fn law_keeps_items()
     ensures { KeepsItems }
 {}

@@ -3,34 +3,35 @@
 
 mod bytes;
 mod content_length;
-mod cut;
 mod fault;
 mod folds;
 mod frame;
 mod head;
-mod head_lines;
+mod head_at;
 mod header;
 mod header_line;
 mod laws;
 mod line;
 mod message;
+mod method;
+mod number;
 mod read;
 mod start_line;
-mod text;
 mod version;
 mod write;
 mod written_len;
 
 pub use fault::MessageFault;
-pub use header::{Draft, Header, Headers};
+pub use header::{Header, Headers, HeadersBuilder};
 pub use laws::{
     law_keeps_items, law_no_answer, law_one_answer, law_opens_out, law_reads_back, law_reads_rules,
     law_stays,
 };
 pub use message::{Frame, Item, Request, Response};
+pub use method::Method;
 pub use read::read_item;
-pub use text::Text;
-pub use version::is_version_2_0;
+pub use rtsp_text::Text;
+pub use version::Version;
 pub use write::{write_frame, write_request, write_response};
 
 #[cfg(test)]

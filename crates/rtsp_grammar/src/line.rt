@@ -1,24 +1,28 @@
 //! Lines of a head.
 
+ghost use Rattle.std.specs.Prelude.{◌≡◌};
 ghost use Rattle.rtsp_grammar.specs.Bytes.{is_line_byte};
+ghost use Rattle.rtsp_grammar.specs.Reading.{split_line};
 ghost use Rattle.rtsp_grammar.specs.Span.{IsSpan};
 ghost use Rattle.rtsp_grammar.specs.LineAt.{IsLineAt};
+
+use rtsp_text::split_once;
 
 const CR: u8 = 13;
 
 const LF: u8 = 10;
 
-/// What stands at the front of a text.
+/// What is at the front of a text.
 pub enum Line<'a> {
     /// A line without its CR LF, and what follows.
     Ended { line: &'a [u8], rest: &'a [u8] },
-    /// A CR or an LF alone ends the line.
+    /// The line has a CR without LF, or an LF without CR.
     Broken,
-    /// The line's end hasn't come.
+    /// The line isn't ended yet.
     Open,
 }
 
-/// How many bytes stand before the first CR or LF.
+// How many bytes there are before the first CR or LF.
 fn plain_len(bytes: &[u8]) -> usize
     ensures { IsSpan is_line_byte bytes.now result }
 {
@@ -50,5 +54,18 @@ pub fn line_at(bytes: &[u8]) -> Line<'_>
     Line::Ended {
         line: &bytes[..end],
         rest: &bytes[end + 2..],
+    }
+}
+
+/// The first of lines that are known to end in CR LF, and the others.
+pub fn split_line(lines: &[u8]) -> (&[u8], &[u8])
+    ensures { (result.0.now, result.1.now) ≡ split_line lines.now }
+{
+    let Some((line, rest)) = split_once(lines, CR) else {
+        return (lines, &[]);
+    };
+    match rest {
+        [_, others @ ..] => (line, others),
+        [] => (line, rest),
     }
 }

@@ -1,25 +1,32 @@
-//! What stands on a connection: requests, responses and frames.
+//! What follows one another on a connection: requests, responses and frames.
 
 use crate::header::Headers;
-use crate::text::Text;
+use crate::method::Method;
+use crate::version::Version;
+use rtsp_text::Text;
 
 /// A request (RFC 7826 section 7).
 #[derive(Debug, Drop)]
 pub struct Request {
-    pub method: Text,
+    pub method: Method,
+    /// As it is written, `*` too; one that is read has at most 1,024 bytes.
     pub uri: Text,
-    pub version: Text,
+    pub version: Version,
     pub headers: Headers,
+    /// What Content-Length announces; one that is read has at most 65,536 bytes.
     pub body: Text,
 }
 
-/// A response (RFC 7826 section 8). A status has three digits, so it is at most 999.
+/// A response (RFC 7826 section 8).
 #[derive(Debug, Drop)]
 pub struct Response {
-    pub version: Text,
+    pub version: Version,
+    /// Three digits, so at most 999.
     pub status: u16,
+    /// The rest of the status line, which may be empty.
     pub reason: Text,
     pub headers: Headers,
+    /// What Content-Length announces; one that is read has at most 65,536 bytes.
     pub body: Text,
 }
 
@@ -27,10 +34,11 @@ pub struct Response {
 #[derive(Debug, Drop)]
 pub struct Frame {
     pub channel: u8,
+    /// At most 65,535 bytes.
     pub payload: Text,
 }
 
-/// One of the three, as they follow one another on a connection.
+/// What follows one another on a connection: a request, a response or a frame.
 #[derive(Debug, Drop)]
 pub enum Item {
     Request(Request),

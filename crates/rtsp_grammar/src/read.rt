@@ -11,15 +11,15 @@ ghost use Rattle.rtsp_grammar.specs.declared.fault.MessageFault.TheVariants.{Out
 use crate::fault::MessageFault;
 use crate::frame::read_frame;
 use crate::head::head_of;
-use crate::head_lines::{HeadLines, head_at};
+use crate::head_at::{HeadAt, head_at};
 use crate::message::Item;
-use crate::text::Text;
+use rtsp_text::Text;
 use std::alloc::Global;
 
-/// The bytes that a head may have, with the empty lines before it.
+// The bytes that a head may have, with the empty lines before it.
 const HEAD_LIMIT: usize = 8192;
 
-/// How many bytes of empty lines stand at the front.
+// How many bytes of empty lines there are at the front.
 fn blank_len(bytes: &[u8]) -> usize
     ensures { HasBlank bytes.now result }
 {
@@ -30,7 +30,7 @@ fn blank_len(bytes: &[u8]) -> usize
     at
 }
 
-/// The bytes among which a head ends, if it does.
+// The bytes among which a head ends, if it does.
 fn head_window(bytes: &[u8]) -> &[u8]
     ensures { result.now ≡ take 8192 bytes.now }
 {
@@ -40,7 +40,7 @@ fn head_window(bytes: &[u8]) -> &[u8]
     &bytes[..HEAD_LIMIT]
 }
 
-/// The frame after this many bytes of empty lines.
+// The frame after this many bytes of empty lines.
 fn frame_item(
     alloc: Global,
     bytes: &[u8],
@@ -61,7 +61,7 @@ fn frame_item(
     }
 }
 
-/// The message after this many bytes of empty lines; `message` is the window after them.
+// The message after this many bytes of empty lines; `message` is the window after them.
 fn message_item(
     alloc: Global,
     bytes: &[u8],
@@ -76,16 +76,16 @@ fn message_item(
     ensures none { IfOk result (λ found. IfNone found (IsUndecided bytes.now)) }
     ensures fault { IfErr result (λ f. (f ≡ OutOfMemory) ⊎ HasFault bytes.now f) }
 {
-    match head_at(alloc, message)? {
-        HeadLines::Broken => Err(MessageFault::BadLine),
-        HeadLines::Open => {
+    match head_at(message) {
+        HeadAt::Broken => Err(MessageFault::BadLine),
+        HeadAt::Open => {
             if bytes.len() >= HEAD_LIMIT {
                 return Err(MessageFault::HeadTooLong);
             }
             Ok(None)
         }
-        HeadLines::Ended { lines, len } => {
-            let (head, announced) = head_of(alloc, &lines)?;
+        HeadAt::Ended { head, len } => {
+            let (head, announced) = head_of(alloc, head)?;
             let (_, rest) = bytes.split_at(blank + len);
             if rest.len() < announced {
                 return Ok(None);
@@ -113,9 +113,10 @@ fn item_at(alloc: Global, bytes: &[u8]) -> Result<Option<(Item, usize)>, Message
 
 /// Reads the item at the front of the bytes, and how many of them it takes.
 ///
-/// None says that more bytes are needed to tell. Any other answer is that of each longer input
-/// too, but for want of memory. A fault is of the first rule that the bytes break: line ends,
-/// the head's length, the first line, folds, headers, the body's length.
+/// None: more bytes are needed. Any other answer is that of each longer input too, unless memory
+/// runs out. A fault is that of the first rule that the bytes break: line ends, the head's length,
+/// the first line, folds, headers, the body's length. It takes memory for the URI, for the headers
+/// (twice) and for the body where there is one, and for a method or a version that isn't known.
 pub fn read_item(alloc: Global, bytes: &[u8]) -> Result<Option<(Item, usize)>, MessageFault>
     // The first bytes spell the item.
     ensures length { IfOk result (λ found. IfSome found (λ x. x.1 ≤ length bytes.now)) }

@@ -1,13 +1,14 @@
 //! The first line of a message.
 
-ghost use Rattle.rtsp_grammar.specs.Gives.{Gives};
+ghost use Rattle.rtsp_grammar.specs.declared.fault.MessageFault.TheVariants.{OutOfMemory};
+ghost use Rattle.rtsp_text.specs.Results.{Gives};
 ghost use Rattle.rtsp_grammar.specs.Reading.{start_of, request_line_of, status_line_of, status_of};
 
 use crate::bytes::{is_method, is_uri};
-use crate::cut::cut_at;
 use crate::fault::MessageFault;
-use crate::text::Text;
-use crate::version::is_version;
+use crate::method::Method;
+use crate::version::{Version, is_version};
+use rtsp_text::{Text, split_once};
 use std::alloc::Global;
 
 const URI_LIMIT: usize = 1024;
@@ -16,12 +17,12 @@ const URI_LIMIT: usize = 1024;
 #[derive(Debug, Drop)]
 pub enum StartLine {
     Request {
-        method: Text,
+        method: Method,
         uri: Text,
-        version: Text,
+        version: Version,
     },
     Status {
-        version: Text,
+        version: Version,
         status: u16,
         reason: Text,
     },
@@ -29,10 +30,14 @@ pub enum StartLine {
 
 #[tactic(auto, unfolding(crate::specs::Reading::request_line_of))]
 fn request_line_of(alloc: Global, line: &[u8]) -> Result<StartLine, MessageFault>
-    ensures { Gives result (request_line_of line.now) }
+    ensures { Gives OutOfMemory result (request_line_of line.now) }
 {
-    let (method, rest) = cut_at(line, b' ');
-    let (uri, version) = cut_at(rest, b' ');
+    let Some((method, rest)) = split_once(line, b' ') else {
+        return Err(MessageFault::BadLine);
+    };
+    let Some((uri, version)) = split_once(rest, b' ') else {
+        return Err(MessageFault::BadLine);
+    };
     if !(is_method(method) && is_uri(uri) && is_version(version)) {
         return Err(MessageFault::BadLine);
     }
@@ -40,15 +45,15 @@ fn request_line_of(alloc: Global, line: &[u8]) -> Result<StartLine, MessageFault
         return Err(MessageFault::UriTooLong);
     }
     Ok(StartLine::Request {
-        method: Text::from_slice(alloc, method)?,
+        method: Method::from_slice(alloc, method)?,
         uri: Text::from_slice(alloc, uri)?,
-        version: Text::from_slice(alloc, version)?,
+        version: Version::from_slice(alloc, version)?,
     })
 }
 
-/// The three digits, the space and the reason after a version and a space.
+// The three digits, the space and the reason after a version and a space.
 fn status_of(alloc: Global, version: &[u8], rest: &[u8]) -> Result<StartLine, MessageFault>
-    ensures { Gives result (status_of version.now rest.now) }
+    ensures { Gives OutOfMemory result (status_of version.now rest.now) }
 {
     let [a, b, c, space, reason @ ..] = rest else {
         return Err(MessageFault::BadLine);
@@ -58,7 +63,7 @@ fn status_of(alloc: Global, version: &[u8], rest: &[u8]) -> Result<StartLine, Me
     }
     let status = 100 * u16::from(a - b'0') + 10 * u16::from(b - b'0') + u16::from(c - b'0');
     Ok(StartLine::Status {
-        version: Text::from_slice(alloc, version)?,
+        version: Version::from_slice(alloc, version)?,
         status,
         reason: Text::from_slice(alloc, reason)?,
     })
@@ -66,9 +71,11 @@ fn status_of(alloc: Global, version: &[u8], rest: &[u8]) -> Result<StartLine, Me
 
 #[tactic(auto, unfolding(crate::specs::Reading::status_line_of))]
 fn status_line_of(alloc: Global, line: &[u8]) -> Result<StartLine, MessageFault>
-    ensures { Gives result (status_line_of line.now) }
+    ensures { Gives OutOfMemory result (status_line_of line.now) }
 {
-    let (version, rest) = cut_at(line, b' ');
+    let Some((version, rest)) = split_once(line, b' ') else {
+        return Err(MessageFault::BadLine);
+    };
     if !is_version(version) {
         return Err(MessageFault::BadLine);
     }
@@ -78,7 +85,7 @@ fn status_line_of(alloc: Global, line: &[u8]) -> Result<StartLine, MessageFault>
 /// Reads a request line or a status line.
 #[tactic(auto, unfolding(crate::specs::Reading::start_of))]
 pub fn start_of(alloc: Global, line: &[u8]) -> Result<StartLine, MessageFault>
-    ensures { Gives result (start_of line.now) }
+    ensures { Gives OutOfMemory result (start_of line.now) }
 {
     if line.starts_with(b"RTSP/") {
         return status_line_of(alloc, line);

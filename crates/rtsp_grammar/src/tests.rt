@@ -1,20 +1,21 @@
 use crate::fault::MessageFault;
-use crate::header::{Draft, Headers};
+use crate::header::{Headers, HeadersBuilder};
 use crate::laws;
 use crate::message::{Frame, Item, Request, Response};
+use crate::method::Method;
 use crate::read::read_item;
-use crate::text::Text;
-use crate::version::is_version_2_0;
+use crate::version::Version;
 use crate::write::{write_frame, write_request, write_response};
+use rtsp_text::Text;
 use std::alloc::{AllocError, Global};
 use std::test::Fail;
 
-/// The fault of a text.
+// The fault of a text.
 fn fault_of(alloc: Global, text: &[u8]) -> Option<MessageFault> {
     read_item(alloc, text).err()
 }
 
-// The item that stands at the front of a text, with its size.
+// The item at the front of a text, with its size.
 fn item_in(alloc: Global, text: &[u8]) -> Option<(Item, usize)> {
     match read_item(alloc, text) {
         Ok(found) => found,
@@ -22,7 +23,7 @@ fn item_in(alloc: Global, text: &[u8]) -> Option<(Item, usize)> {
     }
 }
 
-// The frame, the request or the response that stands at the front of a text, with its size.
+// The frame, the request or the response at the front of a text, with its size.
 fn frame_in(alloc: Global, text: &[u8]) -> Option<(Frame, usize)> {
     let (item, size) = item_in(alloc, text)?;
     match item {
@@ -85,9 +86,9 @@ fn written_frames(rt: HostRuntime) -> Result<(), Fail> {
 
 // Whether this is the request of the test below.
 fn is_setup(request: &Request) -> bool {
-    request.method.as_bytes() == b"SETUP".as_slice()
+    matches!(request.method, Method::Setup)
         && request.uri.as_bytes() == b"rtsp://h/a".as_slice()
-        && is_version_2_0(request.version.as_bytes())
+        && matches!(request.version, Version::Rtsp2)
         && request.body.as_bytes() == b"abc".as_slice()
 }
 
@@ -120,7 +121,26 @@ fn requests(rt: HostRuntime) -> Result<(), Fail> {
     Ok(())
 }
 
-/// Each proper front of a request leaves it open, and the whole has an item.
+// Whether this is a method that the standard doesn't name, in version 2.0.
+fn is_another(request: &Request) -> bool {
+    matches!(&request.method, Method::Other(name) if name.as_bytes() == b"play".as_slice())
+        && matches!(request.version, Version::Rtsp2)
+}
+
+#[test]
+fn other_methods(rt: HostRuntime) -> Result<(), Fail> {
+    let request = request_in(rt.alloc(), b"play * RTSP/02.00\r\n\r\n");
+    assert!(rt; matches!(request, Some((ref it, 21)) if is_another(it)));
+    assert!(rt;
+        matches!(
+            Method::from_slice(rt.alloc(), b"PLAY_NOTIFY")?,
+            Method::PlayNotify
+        )
+    );
+    Ok(())
+}
+
+// Each proper front of a request leaves it open, and the whole has an item.
 #[test]
 fn cuts(rt: HostRuntime) -> Result<(), Fail> {
     let text = b"\r\nPLAY rtsp://h/a RTSP/2.0\r\nCSeq: 3\r\n x\r\nContent-Length: 2\r\n\r\nhi";
@@ -134,7 +154,7 @@ fn cuts(rt: HostRuntime) -> Result<(), Fail> {
 fn is_of_version_1(response: &Response) -> bool {
     response.status == 200
         && response.reason.as_bytes() == b"OK".as_slice()
-        && !is_version_2_0(response.version.as_bytes())
+        && response.version.as_bytes() == b"RTSP/1.0".as_slice()
 }
 
 #[test]
@@ -142,19 +162,18 @@ fn responses(rt: HostRuntime) -> Result<(), Fail> {
     let text = b"RTSP/1.0 200 OK\r\nCSeq: 1\r\n\r\n";
     let response = response_in(rt.alloc(), text);
     assert!(rt; matches!(response, Some((ref it, 28)) if is_of_version_1(it)));
-    assert!(rt; is_version_2_0(b"RTSP/02.00"));
     Ok(())
 }
 
 // A response with no reason, and one header.
 fn short_response(alloc: Global) -> Result<Response, AllocError> {
-    let mut draft = Draft::with_room(alloc, 1, 8)?;
-    draft.push(b"CSeq", b"12")?;
+    let mut headers = HeadersBuilder::with_room(alloc, 1, 8)?;
+    headers.push(b"CSeq", b"12")?;
     Ok(Response {
-        version: Text::fixed(b"RTSP/2.0"),
+        version: Version::Rtsp2,
         status: 7,
         reason: Text::fixed(b""),
-        headers: draft.into_headers(),
+        headers: headers.into_headers(),
         body: Text::from_vec(Vec::new(alloc)),
     })
 }
@@ -207,7 +226,7 @@ fn faults(rt: HostRuntime) -> Result<(), Fail> {
     Ok(())
 }
 
-/// The laws hold of every text; here they are called.
+// The laws hold of every text; here they are called.
 #[test]
 fn called_laws(rt: HostRuntime) -> Result<(), Fail> {
     laws::law_reads_rules();
@@ -217,7 +236,7 @@ fn called_laws(rt: HostRuntime) -> Result<(), Fail> {
     laws::law_opens_out();
     laws::law_reads_back();
     laws::law_keeps_items();
-    let none = Draft::new(rt.alloc()).into_headers();
+    let none = HeadersBuilder::new(rt.alloc()).into_headers();
     assert!(rt; Headers::is_empty(&none));
     Ok(())
 }

@@ -1,45 +1,66 @@
-//! Numbers, and the protocol's version.
+//! The protocol's version.
 
-ghost use Rattle.std.specs.Prelude.{◌≡◌, ◌↔◌, IsTrue, min};
-ghost use Rattle.rtsp_grammar.specs.Number.{number_of};
-ghost use Rattle.rtsp_grammar.specs.Reading.{is_version};
-ghost use Rattle.rtsp_grammar.specs.Version.{IsVersion20};
+ghost use Rattle.std.specs.Prelude.{◌≡◌, IfOk};
+ghost use Rattle.rtsp_grammar.specs.Reading.{is_version, is_version_2_0, version_of};
+ghost use Rattle.rtsp_grammar.specs.Version.{version_text};
 
-use crate::bytes::is_number;
-use crate::cut::cut_at;
+use crate::number::number;
+use rtsp_text::{Text, is_number, split_once};
+use std::alloc::{AllocError, Global};
 
-/// A greater number is read as this one.
-const GREATEST: u32 = 100_000;
-
-/// The number that digits write, at most 100,000.
-pub fn number(digits: &[u8]) -> u32
-    ensures { result ≡ min (number_of digits.now) 100000 }
-{
-    let mut value = 0u32;
-    for digit in digits {
-        value = (10 * value + u32::from(digit.saturating_sub(b'0'))).min(GREATEST);
-    }
-    value
+/// The protocol's version (RFC 7826 sections 4.1 and 20.2.2).
+#[derive(Debug, Drop)]
+pub enum Version {
+    /// 2.0. Its numbers are compared as numbers, so that leading zeros count for nothing.
+    Rtsp2,
+    /// Any other, as it is written: `RTSP/1.0`.
+    Other(Text),
 }
 
-pub fn is_version(bytes: &[u8]) -> bool
-    ensures { result ≡ is_version bytes.now }
+impl Version {
+    /// The version that a text is. Only another than 2.0 takes memory.
+    #[tactic(auto, unfolding(crate::specs::Reading::version_of))]
+    pub(crate) fn from_slice(alloc: Global, text: &[u8]) -> Result<Version, AllocError>
+        ensures { IfOk result (λ version. version ≡ version_of text.now) }
+    {
+        if is_version_2_0(text) {
+            return Ok(Version::Rtsp2);
+        }
+        Ok(Version::Other(Text::from_slice(alloc, text)?))
+    }
+
+    /// The version, as it is written: 2.0 without leading zeros.
+    pub fn as_bytes(&self) -> &[u8]
+        ensures { result.now ≡ version_text self.now }
+    {
+        match self {
+            Version::Rtsp2 => b"RTSP/2.0",
+            Version::Other(text) => text.as_bytes(),
+        }
+    }
+}
+
+/// Whether this is the protocol's name, a slash, and two numbers with a dot between them.
+pub fn is_version(text: &[u8]) -> bool
+    ensures { result ≡ is_version text.now }
 {
-    if !bytes.starts_with(b"RTSP/") {
+    if !text.starts_with(b"RTSP/") {
         return false;
     }
-    let (major, minor) = cut_at(&bytes[5..], b'.');
-    is_number(major) && is_number(minor)
+    match split_once(&text[5..], b'.') {
+        Some((major, minor)) => is_number(major) && is_number(minor),
+        None => false,
+    }
 }
 
-/// Whether this is the version 2.0. Its numbers are compared as numbers, so that leading zeros
-/// count for nothing (RFC 7826 section 4.1).
-pub fn is_version_2_0(text: &[u8]) -> bool
-    ensures { IsTrue result ↔ IsVersion20 text.now }
+fn is_version_2_0(text: &[u8]) -> bool
+    ensures { result ≡ is_version_2_0 text.now }
 {
     if !is_version(text) {
         return false;
     }
-    let (major, minor) = cut_at(&text[5..], b'.');
-    number(major) == 2 && number(minor) == 0
+    match split_once(&text[5..], b'.') {
+        Some((major, minor)) => number(major) == 2 && number(minor) == 0,
+        None => false,
+    }
 }

@@ -1,17 +1,17 @@
 //! Writing items at the end of a buffer.
 
 ghost use Rattle.std.specs.Prelude.{◌≡◌, ◌<◌, ◌≤◌, ◌^◌, ◌++◌, length, vec_capacity, IsOk, OnOk, OnErr};
+ghost use Rattle.rtsp_text.specs.Appending.{HasRoom};
 ghost use Rattle.rtsp_grammar.specs.Frame.{frame_text};
-ghost use Rattle.rtsp_grammar.specs.Number.{three_digits};
 ghost use Rattle.rtsp_grammar.specs.HeaderView.{shown};
 ghost use Rattle.rtsp_grammar.specs.Item.{request_head, response_head};
-ghost use Rattle.rtsp_grammar.specs.Room.{HasRoomFor};
-ghost use Rattle.rtsp_grammar.specs.Writing.{first_text, header_text, headers_text, rest_text};
+ghost use Rattle.rtsp_grammar.specs.Writing.{start_line_text, header_text, headers_text, headers_and_body_text};
 ghost use Rattle.rtsp_grammar.specs.Writing.{request_text, response_text};
 
 use crate::header::{Header, Headers};
 use crate::message::{Frame, Request, Response};
 use crate::written_len::{request_line_len, rest_len, status_line_len};
+use rtsp_text::three_digits;
 use std::alloc::AllocError;
 
 const DOLLAR: u8 = 0x24;
@@ -19,7 +19,7 @@ const DOLLAR: u8 = 0x24;
 fn put_header(out: &mut Vec<u8>, header: Header<'_>) -> Result<(), AllocError>
     ensures text { OnOk result (out.new.items ≡ out.old.items ++ header_text (shown header.entry)) }
     ensures capacity { vec_capacity out.old ≤ vec_capacity out.new }
-    ensures succeeds { HasRoomFor out.old (header_text (shown header.entry)) → IsOk result }
+    ensures succeeds { HasRoom out.old (header_text (shown header.entry)) → IsOk result }
 {
     out.extend_from_slice(header.name)?;
     out.extend_from_slice(b": ")?;
@@ -30,7 +30,7 @@ fn put_header(out: &mut Vec<u8>, header: Header<'_>) -> Result<(), AllocError>
 fn put_headers(out: &mut Vec<u8>, headers: &Headers) -> Result<(), AllocError>
     ensures text { OnOk result (out.new.items ≡ out.old.items ++ headers_text headers.now) }
     ensures capacity { vec_capacity out.old ≤ vec_capacity out.new }
-    ensures succeeds { HasRoomFor out.old (headers_text headers.now) → IsOk result }
+    ensures succeeds { HasRoom out.old (headers_text headers.now) → IsOk result }
 {
     for index in 0..headers.len() {
         put_header(out, headers.get(index))?;
@@ -38,10 +38,10 @@ fn put_headers(out: &mut Vec<u8>, headers: &Headers) -> Result<(), AllocError>
     Ok(())
 }
 
-/// The headers, the empty line and the body.
+// The headers, the empty line and the body.
 fn put_rest(out: &mut Vec<u8>, headers: &Headers, body: &[u8]) -> Result<(), AllocError>
-    ensures text { OnOk result (out.new.items ≡ out.old.items ++ rest_text headers.now body.now) }
-    ensures succeeds { HasRoomFor out.old (rest_text headers.now body.now) → IsOk result }
+    ensures text { OnOk result (out.new.items ≡ out.old.items ++ headers_and_body_text headers.now body.now) }
+    ensures succeeds { HasRoom out.old (headers_and_body_text headers.now body.now) → IsOk result }
 {
     put_headers(out, headers)?;
     out.extend_from_slice(b"\r\n")?;
@@ -49,9 +49,9 @@ fn put_rest(out: &mut Vec<u8>, headers: &Headers, body: &[u8]) -> Result<(), All
 }
 
 fn put_request_line(out: &mut Vec<u8>, request: &Request) -> Result<(), AllocError>
-    ensures text { OnOk result (out.new.items ≡ out.old.items ++ first_text (request_head request.now).start) }
+    ensures text { OnOk result (out.new.items ≡ out.old.items ++ start_line_text (request_head request.now).start) }
     ensures capacity { vec_capacity out.old ≤ vec_capacity out.new }
-    ensures succeeds { HasRoomFor out.old (first_text (request_head request.now).start) → IsOk result }
+    ensures succeeds { HasRoom out.old (start_line_text (request_head request.now).start) → IsOk result }
 {
     out.extend_from_slice(request.method.as_bytes())?;
     out.push(b' ')?;
@@ -61,22 +61,14 @@ fn put_request_line(out: &mut Vec<u8>, request: &Request) -> Result<(), AllocErr
     out.extend_from_slice(b"\r\n")
 }
 
-/// The last three digits of a number.
-fn three_digits(number: u16) -> [u8; 3]
-    ensures { result ≡ three_digits number }
-{
-    let digit = |n: u16| b'0' + (n % 10) as u8;
-    [digit(number / 100), digit(number / 10), digit(number)]
-}
-
 fn put_status_line(out: &mut Vec<u8>, response: &Response) -> Result<(), AllocError>
-    ensures text { OnOk result (out.new.items ≡ out.old.items ++ first_text (response_head response.now).start) }
+    ensures text { OnOk result (out.new.items ≡ out.old.items ++ start_line_text (response_head response.now).start) }
     ensures capacity { vec_capacity out.old ≤ vec_capacity out.new }
-    ensures succeeds { HasRoomFor out.old (first_text (response_head response.now).start) → IsOk result }
+    ensures succeeds { HasRoom out.old (start_line_text (response_head response.now).start) → IsOk result }
 {
     out.extend_from_slice(response.version.as_bytes())?;
     out.push(b' ')?;
-    out.extend_from_slice(&three_digits(response.status))?;
+    out.extend_from_slice(&three_digits(u64::from(response.status)))?;
     out.push(b' ')?;
     out.extend_from_slice(response.reason.as_bytes())?;
     out.extend_from_slice(b"\r\n")
@@ -87,7 +79,7 @@ pub fn write_request(out: &mut Vec<u8>, request: &Request) -> Result<(), AllocEr
     ensures ok { OnOk result (out.new.items ≡ out.old.items ++ request_text request.now) }
     ensures err { OnErr result (out.new.items ≡ out.old.items) }
     // It asks for no memory where there is room.
-    ensures succeeds { HasRoomFor out.old (request_text request.now) → IsOk result }
+    ensures succeeds { HasRoom out.old (request_text request.now) → IsOk result }
 {
     let line = request_line_len(request);
     let rest = rest_len(&request.headers, request.body.as_bytes());
@@ -103,7 +95,7 @@ pub fn write_response(out: &mut Vec<u8>, response: &Response) -> Result<(), Allo
     ensures ok { OnOk result (out.new.items ≡ out.old.items ++ response_text response.now) }
     ensures err { OnErr result (out.new.items ≡ out.old.items) }
     // It asks for no memory where there is room.
-    ensures succeeds { HasRoomFor out.old (response_text response.now) → IsOk result }
+    ensures succeeds { HasRoom out.old (response_text response.now) → IsOk result }
 {
     let line = status_line_len(response);
     let rest = rest_len(&response.headers, response.body.as_bytes());
@@ -119,7 +111,7 @@ pub fn write_frame(out: &mut Vec<u8>, frame: &Frame) -> Result<(), AllocError>
     ensures ok { OnOk result (out.new.items ≡ out.old.items ++ frame_text frame.now) }
     ensures err { OnErr result (out.new.items ≡ out.old.items) }
     // It asks for no memory where there is room.
-    ensures succeeds { HasRoomFor out.old (frame_text frame.now) → IsOk result }
+    ensures succeeds { HasRoom out.old (frame_text frame.now) → IsOk result }
 {
     let payload = frame.payload.as_bytes();
     out.reserve(4 + payload.len())?;

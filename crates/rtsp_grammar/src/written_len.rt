@@ -3,7 +3,7 @@
 ghost use Rattle.std.specs.Prelude.{◌≡◌, ◌-◌, ◌^◌, length, min};
 ghost use Rattle.rtsp_grammar.specs.HeaderView.{shown};
 ghost use Rattle.rtsp_grammar.specs.Item.{request_head, response_head};
-ghost use Rattle.rtsp_grammar.specs.Writing.{first_text, header_text, headers_text, rest_text};
+ghost use Rattle.rtsp_grammar.specs.Writing.{start_line_text, header_text, headers_text, headers_and_body_text};
 
 use crate::header::{Header, Headers};
 use crate::message::{Request, Response};
@@ -28,9 +28,9 @@ fn headers_len(headers: &Headers) -> usize
     total
 }
 
-/// The bytes after the first line, or `usize::MAX`.
+/// How many bytes follow the first line, at most `usize::MAX`.
 pub fn rest_len(headers: &Headers, body: &[u8]) -> usize
-    ensures { result ≡ min (length (rest_text headers.now body.now)) (2 ^ 64 - 1) }
+    ensures { result ≡ min (length (headers_and_body_text headers.now body.now)) (2 ^ 64 - 1) }
 {
     headers_len(headers)
         .saturating_add(2)
@@ -39,7 +39,7 @@ pub fn rest_len(headers: &Headers, body: &[u8]) -> usize
 
 /// The bytes of the first line, or `usize::MAX`.
 pub fn request_line_len(request: &Request) -> usize
-    ensures { result ≡ min (length (first_text (request_head request.now).start)) (2 ^ 64 - 1) }
+    ensures { result ≡ min (length (start_line_text (request_head request.now).start)) (2 ^ 64 - 1) }
 {
     let method = request.method.as_bytes().len();
     let uri = request.uri.as_bytes().len();
@@ -52,7 +52,7 @@ pub fn request_line_len(request: &Request) -> usize
 
 /// The bytes of the first line, or `usize::MAX`.
 pub fn status_line_len(response: &Response) -> usize
-    ensures { result ≡ min (length (first_text (response_head response.now).start)) (2 ^ 64 - 1) }
+    ensures { result ≡ min (length (start_line_text (response_head response.now).start)) (2 ^ 64 - 1) }
 {
     let version = response.version.as_bytes().len();
     let reason = response.reason.as_bytes().len();

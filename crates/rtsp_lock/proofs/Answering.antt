@@ -1,5 +1,5 @@
 -- What a call promises, from what it found and what it put back.
-use Rattle.std.proofs.Common.{◌≡◌, ℕ, ◌+◌, ◌-◌, ◌≤◌, ◌<◌, List, [], ◌∷◌, ◌++◌, length, drop, ap, sym, ◌∙◌, subst, arith, append-nil, le_refl, refl, Option, Result, Ok, Err, IfOk, IfErr, OnErr, ◌⊎◌, IsTrue}
+use Rattle.std.proofs.Common.{◌≡◌, ℕ, ◌+◌, ◌-◌, ◌≤◌, ◌<◌, List, [], ◌∷◌, ◌++◌, length, drop, ap, sym, ◌∙◌, subst, arith, append-nil, le_refl, refl, Option, Result, Ok, Err, IfOk, OnErr}
 use Rattle.std.proofs.Math.Seq.{drop-append_seam}
 use Rattle.atomic_table.specs.Table.{Me}
 use Rattle.rtsp_record.specs.declared.holdings.Whole.{Whole}
@@ -10,15 +10,14 @@ use Rattle.rtsp_record.specs.Sums.{owed}
 use Rattle.rtsp_record.specs.Rules.{IsLegal}
 use Rattle.rtsp_book.specs.declared.steps.Step.{Step}
 use Rattle.rtsp_book.specs.declared.refusals.Refusal.{Refusal}
-use Rattle.rtsp_book.specs.declared.refusals.Refusal.TheVariants.{OutOfMemory}
 use Rattle.rtsp_book.specs.declared.kept.NumbersSpent.{NumbersSpent}
-use Rattle.rtsp_book.specs.Replies.{reply, is_growing}
-use Rattle.rtsp_book.specs.Kept.{History, MakesRecords, entries_by, extended}
+use Rattle.rtsp_book.specs.Kept.{History, history, entries_by, extended}
+use Rattle.rtsp_book.specs.Answers.{Answers, written, noted_by}
 use Rattle.rtsp_lock.specs.declared.view.View.{View}
-use Rattle.rtsp_lock.specs.Entries.{entries_of, OnlyOf, Later, LeftOf, written}
+use Rattle.rtsp_lock.specs.Entries.{entries_of, OnlyOf, Later, LeftOf}
 use Rattle.rtsp_lock.specs.Rule.{Fits}
 use Rattle.rtsp_lock.specs.Steps.{holding, noting, settled, parent, child, numbers}
-use Rattle.rtsp_lock.specs.Calls.{Found, Stays, Answers, Acted, Looked, Drew, Made}
+use Rattle.rtsp_lock.specs.Calls.{Found, Stays, Acted, Looked, Drew, Made}
 use Rattle.rtsp_lock.proofs.Entries.{later_self, left_own, left_none, only_by}
 
 -- the view of a seat that is known
@@ -95,16 +94,9 @@ stays v v' k k' es a whole lawful fits more own up =
     }
 
 -- what an act leaves, accepted or refused
-pub act_leaves : (k k' : History) (actor : ℕ) (step : Step) (answer : Result (List Record) Refusal) → IfOk answer (λ made. (reply k.whole k.journal step ≡ Ok made) × (k' ≡ extended k actor made)) → OnErr answer (k' ≡ k) → k' ≡ extended k actor (written answer)
-act_leaves k k' actor step (Ok made) done refused = done.1
-act_leaves k k' actor step (Err r) done refused = refused ∙ ap (λ (j : List Entry). record { journal = j; next = k.next; whole = k.whole }) (sym (append-nil k.journal))
-
--- what it is answered
-pub act_answers : (k k' : History) (actor : ℕ) (step : Step) (answer : Result (List Record) Refusal) → IfOk answer (λ made. (reply k.whole k.journal step ≡ Ok made) × (k' ≡ extended k actor made))
-    → IfErr answer (λ r. (reply k.whole k.journal step ≡ Err r) ⊎ ((r ≡ OutOfMemory) × IsTrue (is_growing step) × MakesRecords (reply k.whole k.journal step)))
-    → Answers k.whole k.journal step answer
-act_answers k k' actor step (Ok made) done reason = done.0
-act_answers k k' actor step (Err r) done reason = reason
+pub act_leaves : (k k' : History) (actor : ℕ) (answer : Result (List Record) Refusal) → k' ≡ noted_by actor k answer → k' ≡ extended k actor (written answer)
+act_leaves k k' actor (Ok made) noted = noted
+act_leaves k k' actor (Err r) noted = noted ∙ ap (λ (j : List Entry). history k.whole j k.next) (sym (append-nil k.journal))
 
 numbers_none : (a b : ℕ) → b ≡ a → numbers a (b - a) ≡ []
 numbers_none a b e = let none : b - a ≡ 0 = omega (arith, e) in ap (numbers a) none
@@ -112,22 +104,33 @@ numbers_none a b e = let none : b - a ≡ 0 = omega (arith, e) in ap (numbers a)
 numbers_one : (a b : ℕ) → b ≡ a + 1 → numbers a (b - a) ≡ a ∷ []
 numbers_one a b e = let one : b - a ≡ 1 = omega (arith, e) in ap (numbers a) one
 
-pub acts : (v v' v1 v2 : View) (k k' : History) (actor : ℕ) (step : Step) (answer : Result (List Record) Refusal) → v1 ≡ holding v k.journal k.next → v2 ≡ noting v1 k'.journal k'.next → v' ≡ settled v2 → actor ≡ v.actor → k.whole ≡ v.whole
-    → Lawful k → Lawful k' → Fits v.whole k.journal k.next v → Answers k.whole k.journal step answer → k' ≡ extended k actor (written answer) → Acted v v' step answer
-acts v v' v1 v2 k k' actor step answer held noted put is whole lawful lawful' fits answers leaves =
+-- a seat's turn: it holds a book, notes what it leaves, and puts that back
+pub record Turn (v v1 v2 v' : View) (k k' : History) : Type 0 where
+  pub held : v1 ≡ holding v k.journal k.next
+  pub noted : v2 ≡ noting v1 k'.journal k'.next
+  pub put : v' ≡ settled v2
+  pub whole : k.whole ≡ v.whole
+  pub lawful : Lawful k
+  pub left : Lawful k'
+  pub fits : Fits v.whole k.journal k.next v
+
+-- a turn in which a step was answered
+pub acts : {v v1 v2 v' : View} {k k' : History} (actor : ℕ) (step : Step) (answer : Result (List Record) Refusal) → Turn v v1 v2 v' k k' → actor ≡ v.actor → Answers k.whole k.journal step answer → k' ≡ noted_by actor k answer → Acted v v' step answer
+acts {v = v} {v1 = v1} {v2 = v2} {v' = v'} {k = k} {k' = k'} actor step answer t is answers noted =
+    let leaves = act_leaves k k' actor answer noted in
     let es = entries_by v.actor (written answer) in
     let more : k'.journal ≡ k.journal ++ es = ap (λ (h : History). h.journal) leaves ∙ ap (λ (n : ℕ). k.journal ++ entries_by n (written answer)) is in
     let same : k'.next ≡ k.next = ap (λ (h : History). h.next) leaves in
-    let of : k'.whole ≡ v.whole = ap (λ (h : History). h.whole) leaves ∙ whole in
-    let a = after v v' v1 v2 k k' es held noted put more in
+    let of : k'.whole ≡ v.whole = ap (λ (h : History). h.whole) leaves ∙ t.whole in
+    let a = after v v' v1 v2 k k' es t.held t.noted t.put more in
     record {
       journal = k.journal;
-      found = finds v k whole lawful fits;
-      answers = subst (λ (w : Whole). Answers w k.journal step answer) whole answers;
+      found = finds v k t.whole t.lawful t.fits;
+      answers = subst (λ (w : Whole). Answers w k.journal step answer) t.whole answers;
       seen = a.0.seen ∙ more;
       mine = a.0.mine;
       drawn = a.1 ∙ (ap (λ (l : List ℕ). v.drawn ++ l) (numbers_none k.next k'.next same) ∙ append-nil v.drawn);
-      stays = stays v v' k k' es a.0 of lawful' fits more (only_by v.actor (written answer)) (omega (arith, same));
+      stays = stays v v' k k' es a.0 of t.left t.fits more (only_by v.actor (written answer)) (omega (arith, same));
     }
 
 -- a book as it was, but that its next number may be greater

@@ -1,6 +1,7 @@
 -- Each step of the lock keeps its rule.
 use Rattle.std.proofs.Common.{◌≡◌, ◌≢◌, ℕ, zero, suc, ◌≤◌, ◌<◌, true, false, eqb, List, [], ◌∷◌, ◌++◌, length, set, refl, ap, sym, ◌∙◌, subst, arith, inl, inr, ⊎_elim, Option, Some, append-nil, length-set, get_or-set_same, true≢false, le_refl}
 use Rattle.std.specs.Prelude.{slice_index}
+use mathlib.Core.Option as opt
 use mathlib.Core.Option.{some, none, some-injective, some-ne-none}
 use lib.ListN.{get_elem?}
 use prog.Atomic.{either}
@@ -8,10 +9,10 @@ use Rattle.atomic_table.specs.Table.{State, Me, Act, keeps, takes, gives, step, 
 use Rattle.atomic_table.proofs.Lists.{at_set, set_again, set_here, exchanged, at_longer}
 use Rattle.rtsp_record.specs.declared.changes.Entry.{Entry}
 use Rattle.rtsp_record.specs.declared.holdings.Whole.{Whole}
-use Rattle.rtsp_book.specs.Kept.{History}
+use Rattle.rtsp_book.specs.Kept.{History, history}
 use Rattle.rtsp_lock.specs.declared.view.View.{View}
-use Rattle.rtsp_lock.specs.Entries.{OnlyOf, Later}
-use Rattle.rtsp_lock.specs.Rule.{history, Fits, Apart, AtHome, Out, Keeps, first_view}
+use Rattle.rtsp_lock.specs.Entries.{entries_of, OnlyOf, Later}
+use Rattle.rtsp_lock.specs.Rule.{Fits, Apart, AtHome, Out, Keeps, first_view}
 use Rattle.rtsp_lock.specs.Steps.{holding, noting, settled, parent, child, taken, noted, given}
 use Rattle.rtsp_lock.proofs.Entries.{later_self, left_none, has_none, set_at, not_true, at_snoc_index}
 use Rattle.rtsp_lock.proofs.Views.{common_set, common_snoc, held_fits, noted_fits}
@@ -45,6 +46,50 @@ starts w = record {
     nobody : (k : ℕ) (v : View) → get_elem? (first_view w ∷ []) k ≡ some v → v.holds ≡ false
     nobody k v e = sym (ap (λ (x : View). x.holds) (one k v e).1)
 
+-- only this seat holds, where no other did
+only_this : (views : List View) (id : ℕ) (u : View) → ((k : ℕ) (x : View) → k ≢ id → get_elem? views k ≡ some x → x.holds ≡ true → ⊥) → (k : ℕ) (x : View) → get_elem? (set views id u) k ≡ some x → x.holds ≡ true → k ≡ id
+only_this views id u no_other k x e holds =
+    ⊎_elim (λ (t : (k ≡ id) × (u ≡ x)). t.0) (λ (t : (k ≢ id) × (get_elem? views k ≡ some x)). absurd (no_other k x t.0 t.1 holds)) (at_set views id k u x e)
+
+-- the word after the step, as it was read
+one_word_after : (words : List ℕ) (after : ℕ) → length words ≡ 1 → slice_index (set words 0 after) 0 ≡ after
+one_word_after words after one = get_or-set_same words 0 after 0 (omega (arith, one))
+
+-- a free lock is out, and its seat holds what was at home
+out_taken : (w : Whole) (j : List Entry) (n : ℕ) (s : State (Option History) View) (id : ℕ) (v : View) (words : List ℕ) (homes : List (opt.Option (Option History))) → AtHome w j n s → get_elem? s.views id ≡ some v → slice_index words 0 ≡ 1
+    → Out w j n (record { words = words; homes = homes; views = set s.views id (holding v j n) })
+out_taken w j n s id v words homes a at word = record {
+  word = word;
+  seat = id;
+  view = holding v j n;
+  at = set_at s.views id (holding v j n) v at;
+  holds = refl;
+  others = only_this s.views id (holding v j n) (λ k x ne e hx. true≢false (sym hx ∙ a.nobody k x e));
+  found = refl;
+  next = refl;
+  more = [];
+  left = sym (append-nil j);
+  own = tt;
+  left_next = le_refl n;
+}
+
+-- a lock that is out stays so, where its word is 1 again
+out_stays : (w : Whole) (j : List Entry) (n : ℕ) (s : State (Option History) View) (words : List ℕ) → Out w j n s → slice_index words 0 ≡ 1 → Out w j n (record { words = words; homes = s.homes; views = s.views })
+out_stays w j n s words o word = record {
+  word = word;
+  seat = o.seat;
+  view = o.view;
+  at = o.at;
+  holds = o.holds;
+  others = o.others;
+  found = o.found;
+  next = o.next;
+  more = o.more;
+  left = o.left;
+  own = o.own;
+  left_next = o.left_next;
+}
+
 -- the word becomes 1, and the slot goes out, where the word was 0
 pub takes_it : (w : Whole) (slots id : ℕ) (m : Me (Option History) View) → Allows (Keeps w) slots id m 0 (λ n. either (eqb n 0) 1 n) (taken (step slots 0 0 1 none) m)
 takes_it w slots id m s g wide at _ = ⊎_elim free busy g.place
@@ -76,20 +121,7 @@ takes_it w slots id m s g wide at _ = ⊎_elim free busy g.place
             journal = h;
             number = n;
             common = common_set w h h n n s.views id m.0 u g.common at (λ k x ne e. g.common.fits k x e) (held_fits w h n m.0 fits) refl (λ x hx. inl hx) g.common.actors;
-            place = inr (record {
-              word = get_or-set_same s.words 0 after 0 (omega (arith, g.one_word)) ∙ either_hit found 0 1 a.word;
-              seat = id;
-              view = u;
-              at = set_at s.views id u m.0 at;
-              holds = refl;
-              others = λ k x e hx. ⊎_elim (λ (t : (k ≡ id) × (u ≡ x)). t.0) (λ (t : (k ≢ id) × (get_elem? s.views k ≡ some x)). absurd (true≢false (sym hx ∙ a.nobody k x t.1))) (at_set s.views id k u x e);
-              found = refl;
-              next = refl;
-              more = [];
-              left = sym (append-nil h);
-              own = tt;
-              left_next = le_refl n;
-            });
+            place = inr (out_taken w h n s id m.0 _ _ a at (one_word_after s.words after g.one_word ∙ either_hit found 0 1 a.word));
           },
           (λ _. record { journal = h; number = n; value = ap (λ (x : Whole). (0, Some (history x h n)) ∷ m.1) (sym fits.whole); view = refl; fits = subst (λ (x : Whole). Fits x h n m.0) (sym fits.whole) fits; fresh = g.common.actors }, λ ne. absurd (ne a.word)),
         )
@@ -105,20 +137,7 @@ takes_it w slots id m s g wide at _ = ⊎_elim free busy g.place
             journal = h;
             number = n;
             common = g.common;
-            place = inr (record {
-              word = get_or-set_same s.words 0 after 0 (omega (arith, g.one_word)) ∙ (either_miss found 0 1 ne ∙ o.word);
-              seat = o.seat;
-              view = o.view;
-              at = o.at;
-              holds = o.holds;
-              others = o.others;
-              found = o.found;
-              next = o.next;
-              more = o.more;
-              left = o.left;
-              own = o.own;
-              left_next = o.left_next;
-            });
+            place = inr (out_stays w h n s (set s.words 0 after) o (one_word_after s.words after g.one_word ∙ either_miss found 0 1 ne ∙ o.word));
           }),
           (λ e. absurd (ne e), λ _. refl),
         )
@@ -159,6 +178,25 @@ gives_back w slots id v value more one holds is s g wide at _ = ⊎_elim free bu
       refl,
     )
 
+-- the lock is out still, where the holder noted what it will leave
+out_noted : (w : Whole) (j : List Entry) (n : ℕ) (s : State (Option History) View) (id : ℕ) (v : View) (words : List ℕ) (homes : List (opt.Option (Option History))) (value : History) (es : List Entry) → Out w j n s → get_elem? s.views id ≡ some v → v.holds ≡ true
+    → value.journal ≡ v.found ++ es → OnlyOf v.actor es → v.next ≤ value.next → v.found ≡ j → v.next ≡ n → slice_index words 0 ≡ 1
+    → Out w j n (record { words = words; homes = homes; views = set s.views id (noting v value.journal value.next) })
+out_noted w j n s id v words homes value es o at holds journal own up found next word = record {
+  word = word;
+  seat = id;
+  view = noting v value.journal value.next;
+  at = set_at s.views id (noting v value.journal value.next) v at;
+  holds = holds;
+  others = only_this s.views id (noting v value.journal value.next) (λ k x ne e hx. ne (o.others k x e hx ∙ sym (o.others id v at holds)));
+  found = found;
+  next = next;
+  more = es;
+  left = journal ∙ ap (λ (l : List Entry). l ++ es) found;
+  own = own;
+  left_next = omega (arith, up, next);
+}
+
 -- the holder notes what it will put back
 pub notes_it : (w : Whole) (slots id : ℕ) (m : Me (Option History) View) (value : History) (es : List Entry) → m.0.holds ≡ true → value.journal ≡ m.0.found ++ es → OnlyOf m.0.actor es → m.0.next ≤ value.next
     → Allows (Keeps w) slots id m 0 (λ n. either (eqb n 1) 1 n) (noted (step slots 0 1 1 (some (Some value))) m)
@@ -195,39 +233,61 @@ notes_it w slots id m value es holds journal own up s g wide at _ = ⊎_elim fre
             journal = g.journal;
             number = g.number;
             common = common_set w g.journal g.journal g.number g.number s.views id v u g.common at (λ k x ne e. g.common.fits k x e) (noted_fits w g.journal g.number v value.journal value.next fits) refl (λ x hx. inl hx) g.common.actors;
-            place = inr (record {
-              word = get_or-set_same s.words 0 after 0 (omega (arith, g.one_word)) ∙ either_hit found 1 1 o.word;
-              seat = id;
-              view = u;
-              at = set_at s.views id u v at;
-              holds = holds;
-              others = λ k x e hx. ⊎_elim (λ (t : (k ≡ id) × (u ≡ x)). t.0) (λ (t : (k ≢ id) × (get_elem? s.views k ≡ some x)). o.others k x t.1 hx ∙ sym (o.others id v at holds)) (at_set s.views id k u x e);
-              found = found_as;
-              next = next_as;
-              more = es;
-              left = journal ∙ ap (λ (l : List Entry). l ++ es) found_as;
-              own = own;
-              left_next = omega (arith, up, next_as);
-            });
+            place = inr (out_noted w g.journal g.number s id v (set s.words 0 after) s.homes value es o at holds journal own up found_as next_as (one_word_after s.words after g.one_word ∙ either_hit found 1 1 o.word));
           },
           refl,
         )
+
+-- What fits once the holder has made a seat for the number that it drew.
+module _ (w : Whole) (j : List Entry) (n : ℕ) (v : View) (fits : Fits w j n v) (found : v.found ≡ j) (next : v.next ≡ n) (room : v.next < v.left_next) where
+  -- others fit with the next number as it is now
+  other_fits : (x : View) → Fits w j n x → Fits w j v.left_next x
+  other_fits x q =
+      let le = q.next in
+      let lt = q.actor in
+      record { whole = q.whole; later = q.later; mine = q.mine; next = omega (arith, le, next, room); actor = omega (arith, lt, next, room); drawn = λ z hz. let b = q.drawn z hz in omega (arith, b, next, room) }
+
+  -- the holder
+  parent_fits : Fits w j v.left_next (parent v)
+  parent_fits =
+      let lt = fits.actor in
+      record { whole = fits.whole; later = fits.later; mine = fits.mine; next = le_refl v.left_next; actor = omega (arith, lt, next, room); drawn = λ z hz. let b = fits.drawn z hz in omega (arith, b, next, room) }
+
+  -- the seat that it makes
+  child_fits : ((a : ℕ) → n ≤ a → entries_of a j ≡ []) → Fits w j v.left_next (child v)
+  child_fits actors = record { whole = fits.whole; later = subst (λ (l : List Entry). Later l j) (sym found) (later_self j); mine = left_none v.next j (actors v.next (omega (arith, next))); next = le_refl v.left_next; actor = room; drawn = λ z hz. absurd (has_none z hz) }
+
+  -- which is apart from each seat with an earlier actor
+  child_apart : (x : View) → x.actor < n → Apart x (child v)
+  child_apart x below = record { actor = λ q. absurd (omega (arith, q, below, next)); drawn = λ z hx hy. absurd (has_none z hy) }
+
+-- the lock is out still, where its holder has made a seat
+out_split : (w : Whole) (j : List Entry) (n : ℕ) (s : State (Option History) View) (id : ℕ) (v : View) → Out w j n s → get_elem? s.views id ≡ some v → v.holds ≡ true → v.found ≡ j → (more : List Entry) → v.left ≡ j ++ more → OnlyOf v.actor more
+    → Out w j v.left_next (record { words = s.words; homes = s.homes; views = set s.views id (parent v) ++ child v ∷ [] })
+out_split w j n s id v o at holds found more left own = record {
+  word = o.word;
+  seat = id;
+  view = parent v;
+  at = at_longer (set s.views id (parent v)) (child v ∷ []) id (parent v) (set_at s.views id (parent v) v at);
+  holds = holds;
+  others = λ k x e hx. ⊎_elim
+      (λ (t : get_elem? (set s.views id (parent v)) k ≡ some x). only_this s.views id (parent v) (λ k x ne e hx. ne (o.others k x e hx ∙ sym (o.others id v at holds))) k x t hx)
+      (λ (t : (k ≡ length (set s.views id (parent v))) × (child v ≡ x)). absurd (true≢false (sym hx ∙ ap (λ (q : View). q.holds) (sym t.1))))
+      (at_snoc_index (set s.views id (parent v)) (child v) x k e);
+  found = found;
+  next = refl;
+  more = more;
+  left = left;
+  own = own;
+  left_next = le_refl v.left_next;
+}
 
 -- the holder makes a seat, whose actor is the number that it drew
 pub splits_it : (w : Whole) (id : ℕ) (v : View) → v.holds ≡ true → v.next < v.left_next → Splits (Keeps w) id v (parent v) (child v)
 splits_it w id v holds room s g at = ⊎_elim free busy g.place
   where
-    u : View
-    u = parent v
-
-    y : View
-    y = child v
-
-    views : List View
-    views = set s.views id u ++ y ∷ []
-
     after : State (Option History) View
-    after = record { words = s.words; homes = s.homes; views = views }
+    after = record { words = s.words; homes = s.homes; views = set s.views id (parent v) ++ child v ∷ [] }
 
     free : AtHome w g.journal g.number s → Keeps w after
     free a = absurd (true≢false (sym holds ∙ a.nobody id v at))
@@ -239,36 +299,14 @@ splits_it w id v holds room s g at = ⊎_elim free busy g.place
         let f = g.common.fits id v at in
         let next = next_is w s g id v at holds o in
         let found = found_is w s g id v at holds o in
-        let lt = f.actor in
-        let parent_fits : Fits w h v.left_next u = record { whole = f.whole; later = f.later; mine = f.mine; next = le_refl v.left_next; actor = omega (arith, lt, next, room); drawn = λ z hz. let b = f.drawn z hz in omega (arith, b, next, room) } in
-        let others : ((k : ℕ) (x : View) → k ≢ id → get_elem? s.views k ≡ some x → Fits w h v.left_next x) = λ k x ne e. let q = g.common.fits k x e in let le = q.next in let la = q.actor in
-        record { whole = q.whole; later = q.later; mine = q.mine; next = omega (arith, le, next, room); actor = omega (arith, la, next, room); drawn = λ z hz. let b = q.drawn z hz in omega (arith, b, next, room) } in
-        let child_fits : Fits w h v.left_next y = record { whole = f.whole; later = subst (λ (l : List Entry). Later l h) (sym found) (later_self h); mine = left_none v.next h (g.common.actors v.next (omega (arith, next))); next = le_refl v.left_next; actor = room; drawn = λ z hz. absurd (has_none z hz) } in
-        let below : ((k : ℕ) (x : View) → get_elem? (set s.views id u) k ≡ some x → x.actor < n) = λ k x e. ⊎_elim (λ (t : (k ≡ id) × (u ≡ x)). subst (λ (q : View). q.actor < n) t.1 lt) (λ (t : (k ≢ id) × (get_elem? s.views k ≡ some x)). (g.common.fits k x t.1).actor) (at_set s.views id k u x e) in
-        let apart : ((k : ℕ) (x : View) → get_elem? (set s.views id u) k ≡ some x → Apart x y) = λ k x e. let b = below k x e in
-        record { actor = λ q. absurd (omega (arith, q, b, next)); drawn = λ z hx hy. absurd (has_none z hy) } in
+        let fits = common_set w h h n v.left_next s.views id v (parent v) g.common at (λ k x ne e. other_fits w h n v f found next room x (g.common.fits k x e)) (parent_fits w h n v f found next room) refl (λ x hx. inl hx) (λ a le. g.common.actors a (omega (arith, le, next, room))) in
+        let below : ((k : ℕ) (x : View) → get_elem? (set s.views id (parent v)) k ≡ some x → x.actor < n) = λ k x e. ⊎_elim (λ (t : (k ≡ id) × (parent v ≡ x)). subst (λ (q : View). q.actor < n) t.1 f.actor) (λ (t : (k ≢ id) × (get_elem? s.views k ≡ some x)). (g.common.fits k x t.1).actor) (at_set s.views id k (parent v) x e) in
         record {
           one_word = g.one_word;
           journal = h;
           number = v.left_next;
-          common = common_snoc w h v.left_next (set s.views id u) y (common_set w h h n v.left_next s.views id v u g.common at others parent_fits refl (λ x hx. inl hx) (λ a le. g.common.actors a (omega (arith, le, next, room)))) child_fits apart;
-          place = inr (record {
-            word = o.word;
-            seat = id;
-            view = u;
-            at = at_longer (set s.views id u) (y ∷ []) id u (set_at s.views id u v at);
-            holds = holds;
-            others = λ k x e hx. ⊎_elim
-                (λ (t : get_elem? (set s.views id u) k ≡ some x). ⊎_elim (λ (t' : (k ≡ id) × (u ≡ x)). t'.0) (λ (t' : (k ≢ id) × (get_elem? s.views k ≡ some x)). o.others k x t'.1 hx ∙ sym (o.others id v at holds)) (at_set s.views id k u x t))
-                (λ (t : (k ≡ length (set s.views id u)) × (y ≡ x)). absurd (true≢false (sym hx ∙ ap (λ (q : View). q.holds) (sym t.1))))
-                (at_snoc_index (set s.views id u) y x k e);
-            found = found;
-            next = refl;
-            more = o.more;
-            left = left_is w s g id v at holds o;
-            own = own_is w s g id v at holds o;
-            left_next = le_refl v.left_next;
-          });
+          common = common_snoc w h v.left_next (set s.views id (parent v)) (child v) fits (child_fits w h n v f found next room g.common.actors) (λ k x e. child_apart w h n v f found next room x (below k x e));
+          place = inr (out_split w h n s id v o at holds found o.more (left_is w s g id v at holds o) (own_is w s g id v at holds o));
         }
 
 pub gives_as : (w : Whole) (slots id : ℕ) (m : Me (Option History) View) → slots ≡ 1 → m.0.holds ≡ true → m.1 ≡ (0, Some (history m.0.whole m.0.left m.0.left_next)) ∷ rest m.1

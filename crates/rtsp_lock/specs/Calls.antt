@@ -1,5 +1,5 @@
 -- What the calls of a seat promise. Each tells the journal that it found.
-use Rattle.std.specs.Prelude.{◌≡◌, ◌≢◌, ◌⊎◌, ℕ, ◌+◌, ◌≤◌, List, [], ◌∷◌, ◌++◌, length, IsTrue, Result, Ok, Err}
+use Rattle.std.specs.Prelude.{◌≡◌, ◌≢◌, ℕ, ◌+◌, ◌≤◌, List, [], ◌∷◌, ◌++◌, length, Result}
 use Rattle.rtsp_record.specs.declared.holdings.Whole.{Whole}
 use Rattle.rtsp_record.specs.declared.changes.Entry.{Entry}
 use Rattle.rtsp_record.specs.declared.changes.Record.{Record}
@@ -8,13 +8,12 @@ use Rattle.rtsp_record.specs.Sums.{owed}
 use Rattle.rtsp_record.specs.Rules.{IsLegal}
 use Rattle.rtsp_book.specs.declared.steps.Step.{Step}
 use Rattle.rtsp_book.specs.declared.refusals.Refusal.{Refusal}
-use Rattle.rtsp_book.specs.declared.refusals.Refusal.TheVariants.{OutOfMemory}
-use Rattle.rtsp_book.specs.Replies.{reply, is_growing}
-use Rattle.rtsp_book.specs.Kept.{History, MakesRecords, entries_by}
+use Rattle.rtsp_book.specs.Answers.{Answers, written}
+use Rattle.rtsp_book.specs.Kept.{History, entries_by}
 use Rattle.rtsp_lock.specs.declared.view.View.{View}
 use Rattle.rtsp_lock.specs.declared.handles.BookLock.{BookLock}
 use Rattle.rtsp_lock.specs.declared.handles.BookSeat.{BookSeat}
-use Rattle.rtsp_lock.specs.Entries.{entries_of, Later, LeftOf, Has, written}
+use Rattle.rtsp_lock.specs.Entries.{entries_of, Later, LeftOf, Has}
 use Rattle.rtsp_lock.specs.Steps.{holding}
 
 -- what a seat knows
@@ -42,11 +41,6 @@ pub record Stays (v v' : View) : Type 0 where
   pub actor : v'.actor ≡ v.actor
   pub next : v.next ≤ v'.next
   pub stands : Found v' v'.seen
-
--- the answer of one thread to a step after the journal; a growing step that would be recorded may find no memory
-abbrev pub Answers : Whole → List Entry → Step → Result (List Record) Refusal → Type 0
-Answers w j step (Ok made) = reply w j step ≡ Ok made
-Answers w j step (Err refusal) = (reply w j step ≡ Err refusal) ⊎ ((refusal ≡ OutOfMemory) × IsTrue (is_growing step) × MakesRecords (reply w j step))
 
 -- a step was answered after the journal found, and its records stand behind it as the seat's own
 pub record Acted (v v' : View) (step : Step) (answer : Result (List Record) Refusal) : Type 0 where

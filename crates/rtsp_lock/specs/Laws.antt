@@ -1,13 +1,19 @@
 -- What holds over many calls of one seat.
-use Rattle.std.specs.Prelude.{◌≡◌, ◌≤◌, List, [], ◌∷◌, ◌++◌, Result}
+use Rattle.std.specs.Prelude.{◌≡◌, ◌≢◌, ℕ, ◌≤◌, List, [], ◌∷◌, ◌++◌, Result, Option}
+use mathlib.Core.Option.{some}
+use lib.ListN.{get_elem?}
+use Rattle.atomic_table.specs.Table.{State}
+use Rattle.rtsp_record.specs.declared.holdings.Whole.{Whole}
 use Rattle.rtsp_record.specs.declared.changes.Entry.{Entry}
 use Rattle.rtsp_record.specs.declared.changes.Record.{Record}
 use Rattle.rtsp_book.specs.declared.steps.Step.{Step}
 use Rattle.rtsp_book.specs.declared.refusals.Refusal.{Refusal}
-use Rattle.rtsp_book.specs.Kept.{entries_by}
+use Rattle.rtsp_book.specs.Kept.{History, entries_by}
+use Rattle.rtsp_book.specs.Answers.{written}
 use Rattle.rtsp_lock.specs.declared.view.View.{View}
-use Rattle.rtsp_lock.specs.Entries.{Later, written}
-use Rattle.rtsp_lock.specs.Calls.{Found, Stays, Acted, Looked}
+use Rattle.rtsp_lock.specs.Entries.{Later}
+use Rattle.rtsp_lock.specs.Rule.{Keeps}
+use Rattle.rtsp_lock.specs.Calls.{Found, Stays, Acted, Looked, Drew}
 
 -- a call of any kind, with the records that it made
 pub record Called (v v' : View) (made : List Record) : Type 0 where
@@ -58,3 +64,21 @@ RunsGrow = (v v' : View) (calls : List (List Record)) → Run v v' calls → Gro
 -- every journal found later comes after what was seen before the calls, and has of the seat what it had made and what they made
 abbrev pub RunsLast : Type 0
 RunsLast = (v v' : View) (calls : List (List Record)) (j : List Entry) → Run v v' calls → Found v' j → Found (having v (all_made calls)) j
+
+-- two seats of a lock, with what each knows
+pub record TwoSeats (w : Whole) (v u : View) : Type 0 where
+  pub state : State (Option History) View
+  pub keeps : Keeps w state
+  pub first : ℕ
+  pub second : ℕ
+  pub at_first : get_elem? state.views first ≡ some v
+  pub at_second : get_elem? state.views second ≡ some u
+  pub two : first ≢ second
+
+-- no number is drawn by two seats
+abbrev pub DrawsDiffer : Type 0
+DrawsDiffer = (w : Whole) (v v' u u' : View) (n m : ℕ) → TwoSeats w v' u' → Drew v v' n → Drew u u' m → n ≢ m
+
+-- no two seats make entries of one actor
+abbrev pub ActorsDiffer : Type 0
+ActorsDiffer = (w : Whole) (v u : View) → TwoSeats w v u → v.actor ≢ u.actor

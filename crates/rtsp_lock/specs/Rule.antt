@@ -5,13 +5,9 @@ use lib.ListN.{get_elem?}
 use Rattle.atomic_table.specs.Table.{State}
 use Rattle.rtsp_record.specs.declared.holdings.Whole.{Whole}
 use Rattle.rtsp_record.specs.declared.changes.Entry.{Entry}
-use Rattle.rtsp_book.specs.Kept.{History}
+use Rattle.rtsp_book.specs.Kept.{History, history}
 use Rattle.rtsp_lock.specs.declared.view.View.{View}
 use Rattle.rtsp_lock.specs.Entries.{entries_of, OnlyOf, Later, LeftOf, Has}
-
--- a book with this journal and this next number
-abbrev pub history : Whole → List Entry → ℕ → History
-history w j n = record { journal = j; next = n; whole = w }
 
 -- what a view says is true of the journal and the next number that stand now
 pub record Fits (w : Whole) (j : List Entry) (n : ℕ) (v : View) : Type 0 where

@@ -3,10 +3,10 @@ use Rattle.std.specs.Prelude.{◌≡◌, ◌≢◌, ℕ, ◌-◌, ◌≤◌, Lis
 use mathlib.Core.Option as opt
 use Rattle.atomic_table.specs.Table.{Step, Me, rest}
 use Rattle.rtsp_record.specs.declared.changes.Entry.{Entry}
-use Rattle.rtsp_book.specs.Kept.{History}
+use Rattle.rtsp_book.specs.Kept.{History, history}
 use Rattle.rtsp_lock.specs.declared.view.View.{View}
 use Rattle.rtsp_lock.specs.Entries.{entries_of}
-use Rattle.rtsp_lock.specs.Rule.{Fits, history}
+use Rattle.rtsp_lock.specs.Rule.{Fits}
 
 -- the seat holds, and has found this
 abbrev pub holding : View → List Entry → ℕ → View

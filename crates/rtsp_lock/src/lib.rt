@@ -1,12 +1,14 @@
 //! One book for any number of threads, with one history.
 //!
-//! A `BookLock` has the book, and each thread has a `BookSeat` of it. A call of a seat finds a journal that begins with
-//! all that the seat had seen, is answered as an object of one thread is answered there, and leaves its entries behind
-//! it under the seat's actor. Whenever the lock is free, the book is the replay of its journal.
+//! A `BookLock` has the book, and each thread has a `BookSeat` of it. A call of a seat finds a
+//! journal that begins with all that the seat had seen, is answered as an object of one thread is
+//! answered there, and leaves its entries behind it under the seat's actor. Whenever the lock is
+//! free, the book is the replay of its journal.
 //!
-//! The definitions of `specs/` read in this order: Entries (whose they are, which journal comes later), Rule (what the
-//! lock keeps over all seats), Steps (what a step of the lock tells its seat), Named, Calls (what the calls promise),
-//! Laws (what holds over many calls).
+//! The definitions of `specs/` read in this order: Entries (whose they are, which journal comes
+//! later), Rule (what the lock keeps over all seats), Steps (what a step of the lock tells its
+//! seat), Named, Calls (what the calls promise), Laws (what holds over many calls).
+
 #![tactic(auto)]
 
 mod calls;
@@ -19,7 +21,10 @@ mod turns;
 mod view;
 
 pub use handles::{BookLock, BookSeat};
-pub use laws::{law_acted, law_looked, law_run, law_run_goes_on, law_run_lasts};
+pub use laws::{
+    law_acted, law_actors_differ, law_draws_differ, law_looked, law_run, law_run_goes_on,
+    law_run_lasts,
+};
 pub use names::Name;
 pub use opening::open;
 pub use rule::LockBook;

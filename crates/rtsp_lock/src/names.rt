@@ -1,4 +1,5 @@
 //! How a session is named.
+
 ghost use Rattle.std.specs.Prelude.{◌≡◌};
 ghost use Rattle.rtsp_lock.specs.Named.{session_named};
 

@@ -1,6 +1,7 @@
-//! A lock is opened.
+//! Opening a lock.
+
 ghost use Rattle.std.specs.Prelude.{◌≡◌, [], IfOk};
-ghost use Rattle.rtsp_book.specs.Choices.{HasPorts};
+ghost use Rattle.rtsp_record.specs.Choices.{HasPorts};
 ghost use Rattle.rtsp_lock.specs.Rule.{first_view};
 ghost use Rattle.rtsp_lock.specs.Calls.{seat_view, IsSeatOf, Found};
 

@@ -1,4 +1,5 @@
-//! The rule of the lock's table, and what each of its steps tells.
+//! The rule of the lock's table, and what a seat knows after each of its steps.
+
 use crate::view::View;
 use atomic_table::{Play, Split, TableRule};
 use rtsp_book::{Kept, PlainBook};
@@ -18,7 +19,7 @@ impl TableRule<Option<Kept<LockBook>>, View, Whole> for OneHolder {
     ghost first = { first_view };
 }
 
-/// The lock is taken where it is free.
+/// The lock is taken, if it is free.
 pub struct Take;
 
 impl Play<Option<Kept<LockBook>>, View> for Take {
@@ -27,7 +28,7 @@ impl Play<Option<Kept<LockBook>>, View> for Take {
     ghost then = { taken };
 }
 
-/// The holder tells what it will put back.
+/// The holder notes what it will put back.
 pub struct Note;
 
 impl Play<Option<Kept<LockBook>>, View> for Note {

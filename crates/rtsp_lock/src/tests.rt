@@ -3,8 +3,8 @@ ghost use Rattle.rtsp_book.specs.Replies.{IsAskable};
 ghost use Rattle.rtsp_lock.specs.Calls.{IsSeatOf, SameSeat};
 
 use crate::*;
-use rtsp_book::{BookRep, NumbersSpent, PlainBook, Step};
-use rtsp_record::{Entry, Record, Whole};
+use rtsp_book::{BookRep, Life, NumbersSpent, PlainBook, Receipt, Step};
+use rtsp_record::{Entry, Id, Record, Whole};
 use std::alloc::AllocError;
 use std::sync::Wait;
 use std::test::Fail;
@@ -24,13 +24,15 @@ fn a_seat_acts_and_another_sees(rt: HostRuntime) -> Result<(), Fail> {
     let (lock, mut first) = open(rt.alloc(), &SMALL)?;
     assert!(rt; first.draw(&rt, &lock) == Ok(1));
     let mut second = first.split(&rt, &lock)?;
-    let step = Step::Open {
+    let step = Step::Open(Life {
         session: 3,
-        id: 1,
+        id: Id::new(1),
         conn: 1,
         expires: 60_000,
-    };
-    assert!(rt; second.act(&rt, &lock, &step).is_ok());
+    });
+    let mut made = Receipt::new();
+    assert!(rt; second.act_into(&rt, &lock, &step, &mut made).is_ok());
+    assert!(rt; made.records().len() == 1);
     let Some(shown) = first.look(&rt, &lock, Name::Id(1)) else {
         panic!(rt; "the session lives")
     };
@@ -38,12 +40,12 @@ fn a_seat_acts_and_another_sees(rt: HostRuntime) -> Result<(), Fail> {
     assert!(rt; first.look(&rt, &lock, Name::Number(3)).is_some());
     assert!(rt; first.look(&rt, &lock, Name::Id(2)).is_none());
     let kept = first.finish(&rt, lock);
-    let change = Record::Open {
+    let change = Record::Open(Life {
         session: 3,
-        id: 1,
+        id: Id::new(1),
         conn: 1,
         expires: 60_000,
-    };
+    });
     let only = Entry { actor: 2, change };
     assert!(rt; kept.journal().len() == 1 && kept.journal()[0] == only);
     assert!(rt; kept.next_number() == 3);
@@ -129,7 +131,7 @@ fn by_four<R: Threads + Wait + Sync>(
     )
 }
 
-// How many of so many sessions were opened and ended.
+// How many of `turns` sessions were opened and ended.
 fn sessions<R: Wait>(rt: &R, lock: &BookLock, mut seat: BookSeat, turns: u64) -> u64
     requires { IsSeatOf seat lock.now }
 {
@@ -156,12 +158,12 @@ fn one_session<R: Wait>(rt: &R, lock: &BookLock, seat: &mut BookSeat) -> Result<
 fn opening(session: u64) -> Step
     ensures { IsAskable result }
 {
-    Step::Open {
+    Step::Open(Life {
         session,
-        id: session as u128,
+        id: Id::new(session as u128),
         conn: 1,
         expires: 60_000,
-    }
+    })
 }
 
 fn count_of(actor: u64, journal: &[Entry]) -> usize {

@@ -1,13 +1,15 @@
-//! A seat's turn with the book: it takes the book out, notes what it will put back, and gives it up again.
+//! A seat's turn with the book: it takes the book out, notes what it will put back, and gives it up
+//! again.
+
 ghost use Rattle.std.specs.Prelude.{◌≡◌, ℕ, ◌+◌, ◌<◌, ◌≤◌, List, [], ◌∷◌, ◌++◌, length, Option, true, Some, None};
 ghost use Rattle.atomic_table.specs.Table.{rest};
 ghost use Rattle.rtsp_record.specs.declared.changes.Entry.{Entry};
 ghost use Rattle.rtsp_record.specs.Books.{book_of};
 ghost use Rattle.rtsp_record.specs.Sums.{owed};
 ghost use Rattle.rtsp_record.specs.Rules.{IsLegal};
-ghost use Rattle.rtsp_book.specs.Kept.{History};
+ghost use Rattle.rtsp_book.specs.Kept.{History, history};
 ghost use Rattle.rtsp_lock.specs.Entries.{entries_of, OnlyOf};
-ghost use Rattle.rtsp_lock.specs.Rule.{Fits, history};
+ghost use Rattle.rtsp_lock.specs.Rule.{Fits};
 ghost use Rattle.rtsp_lock.specs.Steps.{Took, settled, noting, holding, parent, child};
 ghost use Rattle.rtsp_lock.specs.Calls.{seat_view, IsSeatOf, SameSeat};
 
@@ -35,7 +37,7 @@ impl BookSeat {
         kept
     }
 
-    // Notes what will be put back, which is what was found with entries of the seat behind it.
+    // Notes what will be put back, which is what was found followed by entries of the seat.
     pub(crate) fn note(&mut self, lock: &BookLock, kept: Kept<LockBook>) -> Kept<LockBook>
         requires own { IsSeatOf self.old lock.now }
         requires holds { (seat_view self.old).holds ≡ true }

@@ -1,5 +1,5 @@
 -- What is printed is short and visible.
-use Rattle.std.proofs.Common.{◌≡◌, ℕ, ◌*◌, ◌/◌, ◌^◌, ◌<◌, ◌≤◌, true, [], ◌∷◌, ◌++◌, length, refl, arith, ◌%◌, lit<}
+use Rattle.std.proofs.Common.{◌≡◌, ℕ, ◌*◌, ◌/◌, ◌^◌, ◌<◌, ◌≤◌, true, [], ◌∷◌, ◌++◌, length, refl, arith, lit<}
 use Rattle.std.specs.Prelude.{codes, decimal}
 use Rattle.std.specs.Char.{is_ascii_graphic}
 use Rattle.std.proofs.lemmas.Bool.Decides.{nat_tests}
@@ -8,9 +8,10 @@ use Rattle.std.proofs.lemmas.List.{length-append}
 use Rattle.std.proofs.lemmas.Nat.{mul-lt}
 use Rattle.rtsp_npt.specs.Bytes.{dash, point}
 use Rattle.rtsp_npt.specs.Units.{unit_nanos}
-use Rattle.rtsp_npt.specs.Printed.{digit, millis_text, time_text}
+use Rattle.rtsp_npt.specs.Printed.{millis_text, time_text}
 use Rattle.rtsp_npt.specs.Laws.{TimeFits, RangeFits, StopFits}
-use Rattle.rtsp_npt.proofs.TextLemmas.{all_weaker, all_joined}
+use Rattle.rtsp_text.specs.Decimal.{three_digits}
+use Rattle.rtsp_text.proofs.ByteLemmas.{all_weaker, all_joined}
 use Rattle.rtsp_npt.proofs.TimeLemmas.{is_time_byte, time_bytes}
 use Rattle.rtsp_npt.proofs.PrintLemmas.{time_back}
 
@@ -21,7 +22,7 @@ millis_len : (ms : ℕ) → ms < 2 ^ 64 → length (millis_text ms) ≤ 21
 unfolding millis_text
 millis_len ms small =
     let whole : length (decimal (ms / 1000)) ≤ 17 = length-decimal-le 17 (ms / 1000) (lit< tt) (omega arith) (omega arith) in
-    omega (arith, whole, length-append (decimal (ms / 1000)) (point ∷ digit (ms / 100 % 10) ∷ digit (ms / 10 % 10) ∷ digit (ms % 10) ∷ []))
+    omega (arith, whole, length-append (decimal (ms / 1000)) (point ∷ three_digits ms))
 
 pub short_time : TimeFits
 short_time unit unit_ms u m =

@@ -1,5 +1,3 @@
-pub mod TextLemmas
-pub mod DigitLemmas
 pub mod UnitLemmas
 pub mod TimeLemmas
 pub mod RangeLemmas

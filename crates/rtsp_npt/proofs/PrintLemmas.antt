@@ -1,22 +1,25 @@
 -- What is printed is spelled.
-use Rattle.std.proofs.Common.{◌≡◌, ℕ, ◌+◌, ◌*◌, ◌/◌, ◌%◌, ◌^◌, ◌<◌, List, [], ◌∷◌, ◌++◌, length, take, refl, sym, ap, subst, ◌∙◌, append_assoc, arith, inl, inr, lit<, lit≤, Result, Ok, Err}
+use Rattle.std.proofs.Common.{◌≡◌, ℕ, ◌+◌, ◌*◌, ◌/◌, ◌%◌, ◌^◌, ◌<◌, refl, sym, subst, arith, inl, inr, lit<, lit≤}
 use Rattle.std.specs.Prelude.{codes, decimal}
 use Rattle.std.specs.Char.{digit_value}
 use Rattle.std.proofs.Math.Nat.{div-div-eq-div-mul, mul-lt-mul_of_pos_right}
 use Rattle.std.proofs.lemmas.Bool.Decides.{nat_tests}
 use Rattle.std.proofs.lemmas.Fmt.{decimal_is_IsNumeral_wide, length-decimal-le_wide}
-use Rattle.std.proofs.lemmas.List.{take-take, take_at, length-append}
-use Rattle.rtsp_npt.specs.Times.{SpellsNumber, SpellsFraction, SpellsTime}
+use Rattle.rtsp_npt.specs.Times.{SpellsFraction, SpellsTime}
+use Rattle.rtsp_text.specs.Decimal.{SpellsNumber, digit, three_digits}
 use Rattle.rtsp_npt.specs.Units.{unit_nanos, HoldsTime, ReachTime, IsOutOfMedia}
-use Rattle.rtsp_npt.specs.Printed.{digit, millis_text, time_text, Appends}
+use Rattle.rtsp_npt.specs.Printed.{millis_text, time_text}
 use Rattle.rtsp_npt.specs.Laws.{TimeReadsBack, RangeReadsBack, StopReadsBack, UnitsStay}
 use Rattle.rtsp_npt.specs.declared.range.Range.TheVariants as ranges
 use Rattle.rtsp_npt.proofs.UnitLemmas.{below_times, one_start}
 
 -- ---- times
 
-digit_back : (d : ℕ) → d < 10 → digit_value (digit d) ≡ d
-digit_back d small = grind (arith, nat_tests)
+digit_below : (d : ℕ) → d < 10 → digit_value (48 + d) ≡ d
+digit_below d small = grind (arith, nat_tests)
+
+digit_back : (n : ℕ) → digit_value (digit n) ≡ n % 10
+digit_back n = digit_below (n % 10) (omega arith)
 
 seconds_spelled : (n : ℕ) → n < 10 ^ 19 → SpellsNumber 19 (decimal n) n
 seconds_spelled n small =
@@ -25,11 +28,11 @@ seconds_spelled n small =
     record { digits = h.0; few = length-decimal-le_wide 19 n (lit< tt) small wide; value = sym h.1 }
 
 -- three digits
-three_spelled : (a b c : ℕ) → a < 10 → b < 10 → c < 10 → SpellsFraction (digit a ∷ digit b ∷ digit c ∷ []) ((a * 100 + b * 10 + c) * 1000000)
-three_spelled a b c x y z =
-    let p = digit_back a x in
-    let q = digit_back b y in
-    let r = digit_back c z in
+three_spelled : (n : ℕ) → SpellsFraction (three_digits n) ((n / 100 % 10 * 100 + n / 10 % 10 * 10 + n % 10) * 1000000)
+three_spelled n =
+    let p = digit_back (n / 100) in
+    let q = digit_back (n / 10) in
+    let r = digit_back n in
     record {
       digits = (omega (arith, p), (omega (arith, q), (omega (arith, r), tt)));
       few = lit≤ tt;
@@ -46,12 +49,12 @@ pub millis_spelled : (ms : ℕ) → ms < 10 ^ 22 → SpellsTime (millis_text ms)
 unfolding millis_text
 millis_spelled ms small = inr (record {
   whole = decimal (ms / 1000);
-  fraction = digit (ms / 100 % 10) ∷ digit (ms / 10 % 10) ∷ digit (ms % 10) ∷ [];
+  fraction = three_digits ms;
   parts = refl;
   second = ms / 1000;
   behind = ((ms / 100 % 10) * 100 + (ms / 10 % 10) * 10 + ms % 10) * 1000000;
   spells_second = inl (seconds_spelled (ms / 1000) (omega arith));
-  spells_behind = three_spelled (ms / 100 % 10) (ms / 10 % 10) (ms % 10) (omega arith) (omega arith) (omega arith);
+  spells_behind = three_spelled ms;
   value = omega (arith, decimals ms);
 })
 
@@ -103,18 +106,3 @@ units_back resume from stop unit_ms units pos some fits =
     not_outside (inr h) =
         let below : from * unit_nanos unit_ms < stop * unit_nanos unit_ms = mul-lt-mul_of_pos_right some (omega arith) in
         absurd (omega (arith, below, h))
-
--- ---- writing
-
-kept_front : (old mid new more : List ℕ) → mid ≡ old ++ more → take (length mid) new ≡ mid → take (length old) new ≡ old
-kept_front old mid new more e h =
-    sym (take-take (length old) (length mid) new (omega (arith, ap length e, length-append old more))) ∙ ap (take (length old)) (h ∙ e) ∙ take_at old more (length old) refl
-
--- what was written before stays
-pub appends_more : {E : Type 0} (r : Result (Unit {0}) E) (old mid new more text : List ℕ) → mid ≡ old ++ more → Appends r mid new text → Appends r old new (more ++ text)
-appends_more (Ok u) old mid new more text e h = h ∙ ap (λ (m : List ℕ). m ++ text) e ∙ append_assoc old more text
-appends_more (Err x) old mid new more text e h = kept_front old mid new more e h
-
-pub appends_four : {E : Type 0} (r : Result (Unit {0}) E) (old one two three new a b c d : List ℕ) → one ≡ old ++ a → two ≡ one ++ b → three ≡ two ++ c → Appends r three new d → Appends r old new (a ++ (b ++ (c ++ d)))
-appends_four r old one two three new a b c d p q s h =
-    appends_more r old one new a (b ++ (c ++ d)) p (appends_more r one two new b (c ++ d) q (appends_more r two three new c d s h))

@@ -1,31 +1,27 @@
 -- A range is read exactly where it is spelled, and each fault found exactly where it is.
-use Rattle.std.proofs.Common.{◌≡◌, ℕ, ◌-◌, ◌⊎◌, Bool, true, false, cond, eqb, List, [], ◌∷◌, ◌++◌, length, take, drop, map, refl, sym, ap, subst, ◌∙◌, arith, inl, inr, Option, Some, None, Result, Ok, Err, nat_eq, nat_le}
+use Rattle.std.proofs.Common.{◌≡◌, ℕ, ◌-◌, ◌⊎◌, Bool, true, false, cond, eqb, List, [], ◌∷◌, ◌++◌, length, take, drop, map, refl, sym, ap, subst, ◌∙◌, arith, inl, inr, Option, Some, None, Result, Ok, Err, nat_eq}
 use Rattle.std.specs.Prelude.{not, ◌||◌, codes, ◌↔◌}
 use Rattle.std.specs.Char.{to_ascii_lowercase}
 use Rattle.std.specs.Option.{ok_or}
 use Rattle.std.specs.List.{list_all, starts_with, ends_with}
 use Rattle.std.specs.Cmp.Lexicographic.{same_text, bytes_decides}
-use Rattle.std.proofs.lemmas.Bool.{leb-true, le-leb, eqb-true}
+use Rattle.std.proofs.lemmas.Bool.{and_parts, and_from, both_ways, eqb-true, false_from_ne_true, or_left, or_right}
 use Rattle.std.proofs.lemmas.List.{take-append-drop}
 use Rattle.std.proofs.lemmas.List.Prefix.{end_rest}
-use Rattle.std.proofs.lemmas.List.Folds.{list_all-append}
-use Rattle.rtsp_npt.specs.Bytes.{equals, dash, is_token_byte, IsToken, IsNpt}
+use Rattle.rtsp_npt.specs.Bytes.{equals, dash, IsToken, IsNpt}
 use Rattle.rtsp_npt.specs.Times.{SpellsTime}
 use Rattle.rtsp_npt.specs.Ranges.{HasTimes, SpellsRange, IsOtherUnit, IsNotNpt, HasNow, IsBadNpt, HasFault}
-use Rattle.rtsp_npt.specs.Reading.{◌>>=◌, split_once, time_of, is_npt, is_token, has_now, sides_of, times_of, spec_of, range_of}
+use Rattle.rtsp_npt.specs.Reading.{time_of, is_npt, has_now, sides_of, times_of, spec_of, range_of}
 use Rattle.rtsp_npt.specs.declared.range.Range.{Range}
 use Rattle.rtsp_npt.specs.declared.range.Range.TheVariants as ranges
 use Rattle.rtsp_npt.specs.declared.fault.RangeFault.{RangeFault}
 use Rattle.rtsp_npt.specs.declared.fault.RangeFault.TheVariants as faults
-use Rattle.rtsp_npt.proofs.TextLemmas.{is_other, both_true, and_true, all_joined, all_other, split_found, split_none, split_parts}
-use Rattle.rtsp_npt.proofs.TimeLemmas.{or_left, or_right, is_time_byte, time_bytes, time_some, time_spells, time_reads}
-
-clash : (b : Bool) → b ≡ false → b ≡ true → ⊥
-clash b f t = absurd cc
-
-by_truth : (b : Bool) → (b ≡ true → ⊥) → b ≡ false
-by_truth true h = absurd (h refl)
-by_truth false h = refl
+use Rattle.rtsp_text.specs.Bytes.{is_other, is_token, is_token_byte}
+use Rattle.rtsp_text.specs.Options.{◌>>=◌}
+use Rattle.rtsp_text.specs.SplitOnce.{split_once}
+use Rattle.rtsp_text.proofs.ByteLemmas.{all_joined, all_other, all_parts, some_from, some_parts}
+use Rattle.rtsp_text.proofs.SplitLemmas.{split_found, split_missed, split_parts}
+use Rattle.rtsp_npt.proofs.TimeLemmas.{is_time_byte, time_bytes, time_some, time_spells, time_reads}
 
 -- ---- units
 
@@ -36,12 +32,10 @@ npt_is : (unit : List ℕ) → is_npt unit ≡ true → IsNpt unit
 npt_is unit e = same_text (map to_ascii_lowercase unit) (codes "npt") (sym e)
 
 token_test : (text : List ℕ) → IsToken text → is_token text ≡ true
-token_test text h = and_true (nat_le 1 (length text)) (list_all is_token_byte text) (le-leb 1 (length text) h.some) h.bytes
+token_test text h = some_from is_token_byte text h.some h.bytes
 
 token_is : (text : List ℕ) → is_token text ≡ true → IsToken text
-token_is text e =
-    let t = both_true (nat_le 1 (length text)) (list_all is_token_byte text) e in
-    record { some = leb-true 1 (length text) t.0; bytes = t.1 }
+token_is text e = let t = some_parts is_token_byte text e in record { some = t.0; bytes = t.1 }
 
 -- a letter's case doesn't make it `=`
 lower_equals : (b : ℕ) → is_other equals (to_ascii_lowercase b) ≡ true → is_other equals b ≡ true
@@ -50,14 +44,14 @@ lower_equals b e = go (eqb b equals) refl where
   go true h =
       let same : b ≡ equals = eqb-true b equals h in
       let bad : is_other equals (to_ascii_lowercase equals) ≡ true = subst (λ (c : ℕ). is_other equals (to_ascii_lowercase c) ≡ true) same e in
-      absurd (clash false refl bad)
+      absurd (both_ways false refl bad)
   go false h = rw h refl
 
 lower_no_equals : (unit : List ℕ) → list_all (is_other equals) (map to_ascii_lowercase unit) ≡ true → list_all (is_other equals) unit ≡ true
 lower_no_equals [] e = refl
 lower_no_equals (b ∷ unit) e =
-    let t = both_true (is_other equals (to_ascii_lowercase b)) (list_all (is_other equals) (map to_ascii_lowercase unit)) e in
-    and_true (is_other equals b) (list_all (is_other equals) unit) (lower_equals b t.0) (lower_no_equals unit t.1)
+    let t = and_parts (is_other equals (to_ascii_lowercase b)) (list_all (is_other equals) (map to_ascii_lowercase unit)) e in
+    and_from (is_other equals b) (list_all (is_other equals) unit) (lower_equals b t.0) (lower_no_equals unit t.1)
 
 npt_no_equals : (unit : List ℕ) → IsNpt unit → list_all (is_other equals) unit ≡ true
 npt_no_equals unit h = lower_no_equals unit (subst (λ (t : List ℕ). list_all (is_other equals) t ≡ true) (sym h) refl)
@@ -69,7 +63,7 @@ token_no_equals unit h = all_other is_token_byte equals unit refl h.bytes
 
 npt_alone : (text : List ℕ) → IsNpt text → range_of text ≡ Ok ranges.Rest
 unfolding range_of
-npt_alone text h = rw (split_none equals text (npt_no_equals text h), npt_test text h) refl
+npt_alone text h = rw (split_missed equals text (npt_no_equals text h), npt_test text h) refl
 
 times_read : (text times : List ℕ) → HasTimes text times → range_of text ≡ times_of times
 unfolding range_of
@@ -78,13 +72,13 @@ times_read text times h =
     rw (s, npt_test h.unit h.npt) refl
 
 other_fault : (unit : List ℕ) → IsOtherUnit unit → (is_npt unit ≡ false) × (is_token unit ≡ true)
-other_fault unit h = (by_truth (is_npt unit) (λ e. h.other (npt_is unit e)), token_test unit h.token)
+other_fault unit h = (false_from_ne_true (is_npt unit) (λ e. h.other (npt_is unit e)), token_test unit h.token)
 
 other_read : (text : List ℕ) → IsNotNpt text → range_of text ≡ Err faults.NotNpt
 unfolding range_of
 other_read text (inl h) =
     let f = other_fault text h in
-    rw (split_none equals text (token_no_equals text h.token), f.0, f.1) refl
+    rw (split_missed equals text (token_no_equals text h.token), f.0, f.1) refl
 other_read text (inr h) =
     let f = other_fault h.unit h.other in
     let s : split_once equals text ≡ Some (h.unit, h.rest) = ap (split_once equals) h.parts ∙ split_found equals h.unit h.rest (token_no_equals h.unit h.other.token) in
@@ -116,16 +110,16 @@ abbrev HasNoN : List ℕ → Type 0
 HasNoN times = list_all (is_other 110) times ≡ true
 
 no_n_parts : (k : ℕ) (times : List ℕ) → HasNoN times → HasNoN (take k times) × HasNoN (drop k times)
-no_n_parts k times h = both_true (list_all (is_other 110) (take k times)) (list_all (is_other 110) (drop k times)) (sym (list_all-append (is_other 110) (take k times) (drop k times)) ∙ ap (list_all (is_other 110)) (take-append-drop k times) ∙ h)
+no_n_parts k times h = all_parts (is_other 110) (take k times) (drop k times) (ap (list_all (is_other 110)) (take-append-drop k times) ∙ h)
 
 no_now : (times : List ℕ) → HasNoN times → has_now times ≡ false
 no_now times h =
-    let first : starts_with nat_eq times (codes "now-") ≡ false = by_truth (starts_with nat_eq times (codes "now-")) (λ e.
+    let first : starts_with nat_eq times (codes "now-") ≡ false = false_from_ne_true (starts_with nat_eq times (codes "now-")) (λ e.
     let same : codes "now-" ≡ take 4 times = same_text (codes "now-") (take 4 times) (sym e) in
-    clash false refl (subst (λ (t : List ℕ). list_all (is_other 110) t ≡ true) (sym same) (no_n_parts 4 times h).0)) in
-    let last : ends_with nat_eq times (codes "-now") ≡ false = by_truth (ends_with nat_eq times (codes "-now")) (λ e.
+    both_ways false refl (subst (λ (t : List ℕ). list_all (is_other 110) t ≡ true) (sym same) (no_n_parts 4 times h).0)) in
+    let last : ends_with nat_eq times (codes "-now") ≡ false = false_from_ne_true (ends_with nat_eq times (codes "-now")) (λ e.
     let same : codes "-now" ≡ drop (length times - 4) times = same_text (codes "-now") (drop (length times - 4) times) (sym e) in
-    clash false refl (subst (λ (t : List ℕ). list_all (is_other 110) t ≡ true) (sym same) (no_n_parts (length times - 4) times h).1)) in
+    both_ways false refl (subst (λ (t : List ℕ). list_all (is_other 110) t ≡ true) (sym same) (no_n_parts (length times - 4) times h).1)) in
     rw (first, last) refl
 
 time_no_n : (text : List ℕ) (t : ℕ) → SpellsTime text t → HasNoN text
@@ -207,14 +201,14 @@ unfolding times_of
 times_tell text times h = go (has_now times) refl where
   split : (o : Option (List ℕ × List ℕ)) → split_once dash times ≡ o → Tells text (ok_or (o >>= λ parts. sides_of parts.0 parts.1) faults.BadNpt)
   split None s = tt
-  split (Some parts) s = sides_tell text parts.0 parts.1 (along text times (parts.0 ++ dash ∷ parts.1) (split_parts dash times parts s) h)
+  split (Some parts) s = sides_tell text parts.0 parts.1 (along text times (parts.0 ++ dash ∷ parts.1) (split_parts dash times parts s).0 h)
 
   go : (b : Bool) → has_now times ≡ b → Tells text (cond b (Err faults.Now) (ok_or (split_once dash times >>= λ parts. sides_of parts.0 parts.1) faults.BadNpt))
   go true e = now_tells text times h e
   go false e = split (split_once dash times) refl
 
 other_unit : (unit : List ℕ) → is_npt unit ≡ false → is_token unit ≡ true → IsOtherUnit unit
-other_unit unit n t = record { token = token_is unit t; other = λ h. clash (is_npt unit) n (npt_test unit h) }
+other_unit unit n t = record { token = token_is unit t; other = λ h. both_ways (is_npt unit) n (npt_test unit h) }
 
 alone_tells : (text : List ℕ) (a b : Bool) → is_npt text ≡ a → is_token text ≡ b → Tells text (cond a (Ok ranges.Rest) (Err (cond b faults.NotNpt faults.BadNpt)))
 alone_tells text true b n t = npt_is text n
@@ -231,7 +225,7 @@ unfolding range_of
 range_tells text = go (split_once equals text) refl where
   go : (o : Option (List ℕ × List ℕ)) → split_once equals text ≡ o → Tells text (spec_of text o)
   go None s = alone_tells text (is_npt text) (is_token text) refl refl
-  go (Some parts) s = behind_tells text parts.0 parts.1 (is_npt parts.0) (is_token parts.0) (split_parts equals text parts s) refl refl
+  go (Some parts) s = behind_tells text parts.0 parts.1 (is_npt parts.0) (is_token parts.0) (split_parts equals text parts s).0 refl refl
 
 read_tells : (text : List ℕ) (read : Result Range RangeFault) → range_of text ≡ read → Tells text read
 read_tells text read e = subst (Tells text) e (range_tells text)

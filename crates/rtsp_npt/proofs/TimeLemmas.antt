@@ -1,19 +1,20 @@
 -- A time is read exactly where it is spelled.
 use Rattle.std.proofs.Common.{◌≡◌, ℕ, ◌+◌, ◌-◌, ◌*◌, ◌^◌, ◌<◌, Bool, true, false, cond, eqb, List, ◌∷◌, ◌++◌, length, refl, sym, ap, subst, ◌∙◌, arith, inl, inr, Option, Some, None, nat_le}
-use Rattle.std.specs.Prelude.{◌&&◌, ◌||◌}
+use Rattle.std.specs.Prelude.{◌||◌}
 use Rattle.std.specs.Char.{is_ascii_digit}
 use Rattle.std.specs.List.{list_all}
-use Rattle.std.proofs.lemmas.Bool.{leb-true, le-leb}
+use Rattle.std.proofs.lemmas.Bool.{leb-true, le-leb, or_left}
 use Rattle.std.proofs.lemmas.List.{length-append}
 use Rattle.rtsp_npt.specs.Bytes.{colon, point}
-use Rattle.rtsp_npt.specs.Times.{SpellsNumber, SpellsSixtieth, SpellsClock, SpellsSeconds, SpellsFraction, SpellsTime}
-use Rattle.rtsp_npt.specs.Reading.{◌>>=◌, split_once, digits_number, number_of, sixtieth_of, clock_of, seconds_of, fraction_of, pointed_of, time_of}
-use Rattle.rtsp_npt.proofs.TextLemmas.{both_true, and_true, all_weaker, all_joined, all_other, split_found, split_none, split_parts}
-use Rattle.rtsp_npt.proofs.DigitLemmas.{digit_bytes, number_found, number_again}
-
-pub bind_some : {A B : Type 0} (o : Option A) (f : A → Option B) (y : B) → (o >>= f) ≡ Some y → (x : A) × (o ≡ Some x) × (f x ≡ Some y)
-bind_some None f y e = absurd cc
-bind_some (Some x) f y e = (x, refl, e)
+use Rattle.rtsp_npt.specs.Times.{SpellsSixtieth, SpellsClock, SpellsSeconds, SpellsFraction, SpellsTime}
+use Rattle.rtsp_npt.specs.Reading.{sixtieth_of, clock_of, seconds_of, fraction_of, pointed_of, time_of}
+use Rattle.rtsp_text.specs.Decimal.{SpellsNumber, digits_number, number_of}
+use Rattle.rtsp_text.specs.Options.{◌>>=◌}
+use Rattle.rtsp_text.specs.SplitOnce.{split_once}
+use Rattle.rtsp_text.proofs.ByteLemmas.{all_weaker, all_joined, all_other}
+use Rattle.rtsp_text.proofs.DecimalLemmas.{digit_bytes, number_found, number_again, numbers}
+use Rattle.rtsp_text.proofs.FindsLemmas.{chain_found, sound_at}
+use Rattle.rtsp_text.proofs.SplitLemmas.{split_found, split_missed, split_parts}
 
 pub guarded : {A : Type 0} (b : Bool) (o : Option A) (y : A) → cond b o None ≡ Some y → (b ≡ true) × (o ≡ Some y)
 guarded true o y e = (refl, e)
@@ -22,24 +23,15 @@ guarded false o y e = absurd cc
 -- numbers
 
 pub number_spells : (most : ℕ) (text : List ℕ) (n : ℕ) → number_of most text ≡ Some n → SpellsNumber most text n
-unfolding number_of
-number_spells most text n e =
-    let g = guarded (nat_le 1 (length text) && nat_le (length text) most) (digits_number text) n e in
-    let t = both_true (nat_le 1 (length text)) (nat_le (length text) most) g.0 in
-    let f = number_found text n g.1 in
-    record { digits = (leb-true 1 (length text) t.0, f.0); few = leb-true (length text) most t.1; value = f.1 }
+number_spells most text n e = sound_at (SpellsNumber most) (number_of most) (numbers most) text n e
 
 pub number_reads : (most : ℕ) (text : List ℕ) (n : ℕ) → SpellsNumber most text n → number_of most text ≡ Some n
-unfolding number_of
-number_reads most text n h =
-    let t = and_true (nat_le 1 (length text)) (nat_le (length text) most) (le-leb 1 (length text) h.digits.0) (le-leb (length text) most h.few) in
-    let v : digits_number text ≡ Some n = number_again text h.digits.1 ∙ ap (λ (k : ℕ). Some k) (sym h.value) in
-    rw (t, v) refl
+number_reads most text n h = (numbers most).complete text n h
 
 pub sixtieth_spells : (text : List ℕ) (n : ℕ) → sixtieth_of text ≡ Some n → SpellsSixtieth text n
 unfolding sixtieth_of
 sixtieth_spells text n e =
-    let b = bind_some (number_of 2 text) (λ (k : ℕ). cond (nat_le k 59) (Some k) None) n e in
+    let b = chain_found (number_of 2 text) (λ (k : ℕ). cond (nat_le k 59) (Some k) None) n e in
     let g = guarded (nat_le b.0 59) (Some b.0) n b.2 in
     let same : b.0 ≡ n = cc in
     record { number = number_spells 2 text n (b.1 ∙ g.1); below = let le = leb-true b.0 59 g.0 in omega (arith, le, same) }
@@ -49,14 +41,6 @@ unfolding sixtieth_of
 sixtieth_reads text n h = rw (number_reads 2 text n h.number, le-leb n 59 h.below) refl
 
 -- the bytes of a clock, and of a time
-
-pub or_left : (a b : Bool) → a ≡ true → (a || b) ≡ true
-or_left true b e = refl
-or_left false b e = absurd cc
-
-pub or_right : (a b : Bool) → b ≡ true → (a || b) ≡ true
-or_right true b e = refl
-or_right false b e = e
 
 abbrev pub is_clock_byte : ℕ → Bool
 is_clock_byte b = is_ascii_digit b || eqb b 58
@@ -101,15 +85,15 @@ time_some text t (inr h) = omega (arith, ap length h.parts, length-append h.whol
 
 clock_spells : (text : List ℕ) (parts : List ℕ × List ℕ) (n : ℕ) → text ≡ parts.0 ++ colon ∷ parts.1 → clock_of text (Some parts) ≡ Some n → SpellsClock text n
 clock_spells text parts n at e =
-    let b = bind_some (split_once colon parts.1) (λ (s : List ℕ × List ℕ). number_of 19 parts.0 >>= λ hours. sixtieth_of s.0 >>= λ minutes. sixtieth_of s.1 >>= λ seconds. Some (hours * 3600 + minutes * 60 + seconds)) n e in
-    let h = bind_some (number_of 19 parts.0) (λ hours. sixtieth_of b.0.0 >>= λ minutes. sixtieth_of b.0.1 >>= λ seconds. Some (hours * 3600 + minutes * 60 + seconds)) n b.2 in
-    let m = bind_some (sixtieth_of b.0.0) (λ minutes. sixtieth_of b.0.1 >>= λ seconds. Some (h.0 * 3600 + minutes * 60 + seconds)) n h.2 in
-    let s = bind_some (sixtieth_of b.0.1) (λ seconds. Some (h.0 * 3600 + m.0 * 60 + seconds)) n m.2 in
+    let b = chain_found (split_once colon parts.1) (λ (s : List ℕ × List ℕ). number_of 19 parts.0 >>= λ hours. sixtieth_of s.0 >>= λ minutes. sixtieth_of s.1 >>= λ seconds. Some (hours * 3600 + minutes * 60 + seconds)) n e in
+    let h = chain_found (number_of 19 parts.0) (λ hours. sixtieth_of b.0.0 >>= λ minutes. sixtieth_of b.0.1 >>= λ seconds. Some (hours * 3600 + minutes * 60 + seconds)) n b.2 in
+    let m = chain_found (sixtieth_of b.0.0) (λ minutes. sixtieth_of b.0.1 >>= λ seconds. Some (h.0 * 3600 + minutes * 60 + seconds)) n h.2 in
+    let s = chain_found (sixtieth_of b.0.1) (λ seconds. Some (h.0 * 3600 + m.0 * 60 + seconds)) n m.2 in
     record {
       hours = parts.0;
       minutes = b.0.0;
       seconds = b.0.1;
-      parts = at ∙ ap (λ (r : List ℕ). parts.0 ++ colon ∷ r) (split_parts colon parts.1 b.0 b.1);
+      parts = at ∙ ap (λ (r : List ℕ). parts.0 ++ colon ∷ r) (split_parts colon parts.1 b.0 b.1).0;
       hour = h.0;
       minute = m.0;
       second = s.0;
@@ -124,7 +108,7 @@ unfolding seconds_of
 seconds_spells text n e = go (split_once colon text) refl e where
   go : (o : Option (List ℕ × List ℕ)) → split_once colon text ≡ o → clock_of text o ≡ Some n → SpellsSeconds text n
   go None s e = inl (number_spells 19 text n e)
-  go (Some parts) s e = inr (clock_spells text parts n (split_parts colon text parts s) e)
+  go (Some parts) s e = inr (clock_spells text parts n (split_parts colon text parts s).0 e)
 
 clock_reads : (text : List ℕ) (n : ℕ) (h : SpellsClock text n) → clock_of text (Some (h.hours, h.minutes ++ colon ∷ h.seconds)) ≡ Some n
 clock_reads text n h =
@@ -135,7 +119,7 @@ clock_reads text n h =
 pub seconds_reads : (text : List ℕ) (n : ℕ) → SpellsSeconds text n → seconds_of text ≡ Some n
 unfolding seconds_of
 seconds_reads text n (inl h) =
-    let s : split_once colon text ≡ None = split_none colon text (all_other is_ascii_digit colon text refl (number_bytes 19 text n h)) in
+    let s : split_once colon text ≡ None = split_missed colon text (all_other is_ascii_digit colon text refl (number_bytes 19 text n h)) in
     rw s (number_reads 19 text n h)
 seconds_reads text n (inr h) =
     let digits = number_bytes 19 h.hours h.hour h.spells_hour in
@@ -148,7 +132,7 @@ pub fraction_spells : (text : List ℕ) (n : ℕ) → fraction_of text ≡ Some 
 unfolding fraction_of
 fraction_spells text n e =
     let g = guarded (nat_le (length text) 9) (digits_number text >>= λ k. Some (k * 10 ^ (9 - length text))) n e in
-    let b = bind_some (digits_number text) (λ k. Some (k * 10 ^ (9 - length text))) n g.1 in
+    let b = chain_found (digits_number text) (λ k. Some (k * 10 ^ (9 - length text))) n g.1 in
     let f = number_found text b.0 b.1 in
     let same : b.0 * 10 ^ (9 - length text) ≡ n = cc b.2 in
     record { digits = f.0; few = leb-true (length text) 9 g.0; value = sym same ∙ ap (λ (k : ℕ). k * 10 ^ (9 - length text)) f.1 }
@@ -162,17 +146,17 @@ unfolding time_of
 time_spells text t e = go (split_once point text) refl e where
   go : (o : Option (List ℕ × List ℕ)) → split_once point text ≡ o → pointed_of text o ≡ Some t → SpellsTime text t
   go None s e =
-      let b = bind_some (seconds_of text) (λ k. Some (k * 10 ^ 9)) t e in
+      let b = chain_found (seconds_of text) (λ k. Some (k * 10 ^ 9)) t e in
       let same : b.0 * 10 ^ 9 ≡ t = cc b.2 in
       inl (record { second = b.0; spells_second = seconds_spells text b.0 b.1; value = sym same })
   go (Some parts) s e =
-      let b = bind_some (seconds_of parts.0) (λ k. fraction_of parts.1 >>= λ nanos. Some (k * 10 ^ 9 + nanos)) t e in
-      let f = bind_some (fraction_of parts.1) (λ nanos. Some (b.0 * 10 ^ 9 + nanos)) t b.2 in
+      let b = chain_found (seconds_of parts.0) (λ k. fraction_of parts.1 >>= λ nanos. Some (k * 10 ^ 9 + nanos)) t e in
+      let f = chain_found (fraction_of parts.1) (λ nanos. Some (b.0 * 10 ^ 9 + nanos)) t b.2 in
       let same : b.0 * 10 ^ 9 + f.0 ≡ t = cc f.2 in
       inr (record {
         whole = parts.0;
         fraction = parts.1;
-        parts = split_parts point text parts s;
+        parts = (split_parts point text parts s).0;
         second = b.0;
         behind = f.0;
         spells_second = seconds_spells parts.0 b.0 b.1;
@@ -183,7 +167,7 @@ time_spells text t e = go (split_once point text) refl e where
 pub time_reads : (text : List ℕ) (t : ℕ) → SpellsTime text t → time_of text ≡ Some t
 unfolding time_of
 time_reads text t (inl h) =
-    let s : split_once point text ≡ None = split_none point text (all_other is_clock_byte point text refl (clock_bytes text h.second h.spells_second)) in
+    let s : split_once point text ≡ None = split_missed point text (all_other is_clock_byte point text refl (clock_bytes text h.second h.spells_second)) in
     rw (s, seconds_reads text h.second h.spells_second) (ap (λ (k : ℕ). Some k) (sym h.value))
 time_reads text t (inr h) =
     let bytes = clock_bytes h.whole h.second h.spells_second in

@@ -1,7 +1,8 @@
 -- Bytes and words of a Range header.
-use Rattle.std.specs.Prelude.{◌≡◌, ℕ, ◌<◌, Bool, true, ◌==◌, ◌||◌, List, map, length, codes}
-use Rattle.std.specs.Char.{is_ascii_alphanumeric, to_ascii_lowercase}
-use Rattle.std.specs.List.{list_all, list_any}
+use Rattle.std.specs.Prelude.{◌≡◌, ℕ, ◌<◌, true, List, map, length, codes}
+use Rattle.std.specs.Char.{to_ascii_lowercase}
+use Rattle.std.specs.List.{list_all}
+use Rattle.rtsp_text.specs.Bytes.{is_token_byte}
 
 -- `=`, after the unit
 abbrev pub equals : ℕ
@@ -18,10 +19,6 @@ colon = 58
 -- `.`, before a fraction
 abbrev pub point : ℕ
 point = 46
-
--- a byte of a token (RFC 7826, section 20.1)
-abbrev pub is_token_byte : ℕ → Bool
-is_token_byte b = is_ascii_alphanumeric b || list_any (λ c. c == b) (codes "!#$%&'*+-.^_~`|")
 
 -- one byte of a token or more, and nothing else
 pub record IsToken (text : List ℕ) : Type 0 where

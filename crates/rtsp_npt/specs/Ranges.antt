@@ -56,7 +56,7 @@ pub record HasOtherUnit (text : List ℕ) : Type 0 where
 abbrev pub IsNotNpt : List ℕ → Type 0
 IsNotNpt text = IsOtherUnit text ⊎ HasOtherUnit text
 
--- `now` at either side of the dash, whatever stands at the other
+-- `now` at either side of the dash, whatever is at the other
 pub record HasNow (text : List ℕ) : Type 0 where
   pub other : List ℕ
   pub times : HasTimes text (codes "now" ++ dash ∷ other) ⊎ HasTimes text (other ++ dash ∷ codes "now")

@@ -1,39 +1,18 @@
 -- Reading a Range header, as a function of its text.
-use Rattle.std.specs.Prelude.{ℕ, ◌+◌, ◌-◌, ◌*◌, ◌^◌, Bool, ◌==◌, ◌&&◌, ◌||◌, nat_eq, nat_le, List, [], ◌∷◌, map, length, codes, if◌then◌else◌, Option, Some, None, Result, Ok, Err}
+use Rattle.std.specs.Prelude.{ℕ, ◌+◌, ◌-◌, ◌*◌, ◌^◌, Bool, ◌||◌, nat_eq, nat_le, List, [], ◌∷◌, map, length, codes, if◌then◌else◌, Option, Some, None, Result, Ok, Err}
 use Rattle.std.specs.Option.{ok_or}
-use Rattle.std.specs.Char.{is_ascii_digit, to_ascii_lowercase}
-use Rattle.std.specs.List.{list_all, starts_with, ends_with}
-use Rattle.std.specs.Str.Parse.{digits_value}
+use Rattle.std.specs.Char.{to_ascii_lowercase}
+use Rattle.std.specs.List.{starts_with, ends_with}
 use Rattle.std.specs.Cmp.Lexicographic.{pointwise}
-use Rattle.rtsp_npt.specs.Bytes.{equals, dash, colon, point, is_token_byte}
+use Rattle.rtsp_text.specs.Bytes.{is_token}
+use Rattle.rtsp_text.specs.Decimal.{digits_number, number_of}
+use Rattle.rtsp_text.specs.Options.{◌>>=◌}
+use Rattle.rtsp_text.specs.SplitOnce.{split_once}
+use Rattle.rtsp_npt.specs.Bytes.{equals, dash, colon, point}
 use Rattle.rtsp_npt.specs.declared.range.Range.{Range}
 use Rattle.rtsp_npt.specs.declared.range.Range.TheVariants as ranges
 use Rattle.rtsp_npt.specs.declared.fault.RangeFault.{RangeFault}
 use Rattle.rtsp_npt.specs.declared.fault.RangeFault.TheVariants as faults
-
--- the next step, where the one before gave something
-infixl 10 ◌>>=◌
-abbrev pub ◌>>=◌ : {A B : Type 0} → Option A → (A → Option B) → Option B
-None >>= f = None
-(Some x) >>= f = f x
-
--- a byte before the first part of a split
-abbrev pub onto_front : ℕ → Option (List ℕ × List ℕ) → Option (List ℕ × List ℕ)
-onto_front b None = None
-onto_front b (Some parts) = Some (b ∷ parts.0, parts.1)
-
--- what stands before the first such byte, and what stands after it
-unfoldable pub split_once : ℕ → List ℕ → Option (List ℕ × List ℕ)
-split_once byte [] = None
-split_once byte (b ∷ bytes) = if b == byte then Some ([], bytes) else onto_front b (split_once byte bytes)
-
--- the number that digits write, if there is nothing else
-unfoldable pub digits_number : List ℕ → Option ℕ
-digits_number text = if list_all is_ascii_digit text then Some (digits_value 10 text) else None
-
--- a number in 1 to so many digits
-unfoldable pub number_of : ℕ → List ℕ → Option ℕ
-number_of most text = if nat_le 1 (length text) && nat_le (length text) most then digits_number text else None
 
 -- minutes or seconds of a clock
 unfoldable pub sixtieth_of : List ℕ → Option ℕ
@@ -79,10 +58,6 @@ time_of text = pointed_of text (split_once point text)
 abbrev pub is_npt : List ℕ → Bool
 is_npt unit = pointwise nat_eq (map to_ascii_lowercase unit) (codes "npt")
 
--- a token
-abbrev pub is_token : List ℕ → Bool
-is_token text = nat_le 1 (length text) && list_all is_token_byte text
-
 -- `now` at either side of a dash
 abbrev pub has_now : List ℕ → Bool
 has_now times = starts_with nat_eq times (codes "now-") || ends_with nat_eq times (codes "-now")
@@ -100,7 +75,7 @@ sides_of (a ∷ first) (b ∷ last) = do
   stop ← time_of (b ∷ last)
   Some (ranges.Between (record { nanos = start }) (record { nanos = stop }))
 
--- what stands behind `npt=`
+-- the times after `npt=`
 unfoldable pub times_of : List ℕ → Result Range RangeFault
 times_of times = if has_now times then Err faults.Now else ok_or (split_once dash times >>= λ parts. sides_of parts.0 parts.1) faults.BadNpt
 
@@ -108,7 +83,7 @@ times_of times = if has_now times then Err faults.Now else ok_or (split_once das
 abbrev pub fault_of : List ℕ → RangeFault
 fault_of unit = if is_token unit then faults.NotNpt else faults.BadNpt
 
--- a unit alone, or what stands behind it
+-- a unit alone, or with the times after it
 abbrev pub spec_of : List ℕ → Option (List ℕ × List ℕ) → Result Range RangeFault
 spec_of text None = if is_npt text then Ok ranges.Rest else Err (fault_of text)
 spec_of text (Some parts) = if is_npt parts.0 then times_of parts.1 else Err (fault_of parts.0)

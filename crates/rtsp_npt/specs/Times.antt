@@ -1,13 +1,8 @@
 -- Times of normal play time (RFC 7826, sections 4.4.2 and 20.2.3), in nanoseconds.
 use Rattle.std.specs.Prelude.{◌≡◌, ℕ, ◌+◌, ◌-◌, ◌*◌, ◌^◌, ◌≤◌, ◌⊎◌, List, ◌∷◌, ◌++◌, length}
-use Rattle.std.specs.Str.Parse.{IsNumeral, AllDigits, digits_value}
+use Rattle.std.specs.Str.Parse.{AllDigits, digits_value}
+use Rattle.rtsp_text.specs.Decimal.{SpellsNumber}
 use Rattle.rtsp_npt.specs.Bytes.{colon, point}
-
--- a number in at most so many digits, and one at least
-pub record SpellsNumber (most : ℕ) (text : List ℕ) (n : ℕ) : Type 0 where
-  pub digits : IsNumeral 10 text
-  pub few : length text ≤ most
-  pub value : n ≡ digits_value 10 text
 
 -- the minutes of an hour, or the seconds of a minute
 pub record SpellsSixtieth (text : List ℕ) (n : ℕ) : Type 0 where
@@ -32,7 +27,7 @@ pub record SpellsClock (text : List ℕ) (n : ℕ) : Type 0 where
 abbrev pub SpellsSeconds : List ℕ → ℕ → Type 0
 SpellsSeconds text n = SpellsNumber 19 text n ⊎ SpellsClock text n
 
--- what stands after the point: as many nanoseconds
+-- the digits after the point, as nanoseconds
 pub record SpellsFraction (text : List ℕ) (nanos : ℕ) : Type 0 where
   pub digits : AllDigits 10 text
   pub few : length text ≤ 9

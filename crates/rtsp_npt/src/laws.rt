@@ -1,6 +1,7 @@
-//! What holds of written ranges.
+//! Laws of written ranges, each the contract of a function that does nothing.
 
-ghost use Rattle.rtsp_npt.specs.Laws.{TimeReadsBack, RangeReadsBack, StopReadsBack, UnitsStay, TimeFits, RangeFits, StopFits};
+ghost use Rattle.rtsp_npt.specs.Laws.{TimeReadsBack, RangeReadsBack, StopReadsBack, UnitsStay};
+ghost use Rattle.rtsp_npt.specs.Laws.{TimeFits, RangeFits, StopFits};
 
 /// What is written is read back as the same times.
 pub fn law_reads_back()
@@ -9,7 +10,7 @@ pub fn law_reads_back()
     ensures stop { StopReadsBack }
 {}
 
-/// The times of units are resolved to the same units.
+/// The times at which units begin are resolved to the same units.
 pub fn law_units_stay()
     ensures { UnitsStay }
 {}

@@ -2,7 +2,6 @@
 //! turned into units of media, and written.
 #![tactic(auto)]
 
-mod bytes;
 mod fault;
 mod laws;
 mod range;

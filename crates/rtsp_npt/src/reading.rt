@@ -1,17 +1,24 @@
 //! Reading a Range header.
 
 ghost use Rattle.std.specs.Prelude.{◌≡◌, ◌↔◌};
-ghost use Rattle.rtsp_npt.specs.Reading.{has_now, sides_of, times_of, fault_of, range_of};
+ghost use Rattle.rtsp_npt.specs.Reading.{is_npt, sides_of, times_of, fault_of, range_of};
 ghost use Rattle.rtsp_npt.specs.Ranges.{SpellsRange, HasFault};
 ghost use Rattle.rtsp_npt.specs.declared.range.Range.{Range};
 ghost use Rattle.rtsp_npt.specs.declared.fault.RangeFault.{RangeFault};
 
-use crate::bytes::{is_npt, is_token, split_once};
 use crate::fault::RangeFault;
 use crate::range::Range;
 use crate::time::{Time, read_nanos};
+use rtsp_text::{is_token, split_once};
 
-/// The times at the sides of the dash, of which one may be missing.
+// The unit of normal play time, in any case.
+fn is_npt(unit: &[u8]) -> bool
+    ensures { result ≡ is_npt unit.now }
+{
+    unit.eq_ignore_ascii_case(b"npt")
+}
+
+// The times at the sides of the dash, of which one may be missing.
 fn read_sides(first: &[u8], last: &[u8]) -> Option<Range>
     ensures { result ≡ sides_of first.now last.now }
 {
@@ -36,7 +43,7 @@ fn read_sides(first: &[u8], last: &[u8]) -> Option<Range>
     Some(Range::Between { start, stop })
 }
 
-/// What stands behind `npt=`.
+// The times after `npt=`.
 #[tactic(auto, unfolding(crate::specs::Reading::times_of))]
 fn read_times(times: &[u8]) -> Result<Range, RangeFault>
     ensures { result ≡ times_of times.now }
@@ -50,7 +57,7 @@ fn read_times(times: &[u8]) -> Result<Range, RangeFault>
     read_sides(first, last).ok_or(RangeFault::BadNpt)
 }
 
-/// Why a unit is not taken.
+// Why a unit is refused.
 fn unit_fault(unit: &[u8]) -> RangeFault
     ensures { result ≡ fault_of unit.now }
 {
@@ -61,7 +68,7 @@ fn unit_fault(unit: &[u8]) -> RangeFault
     }
 }
 
-/// The range that the text is, or its fault.
+// The range of the text, or its fault.
 #[tactic(auto, unfolding(crate::specs::Reading::range_of))]
 fn range_of(text: &[u8]) -> Result<Range, RangeFault>
     ensures { result ≡ range_of text.now }

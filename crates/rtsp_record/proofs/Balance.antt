@@ -16,16 +16,16 @@ use Rattle.rtsp_record.proofs.Rows.{total-under}
 
 -- what a record brings to a sum
 abbrev pub gain : Measure → Record → ℕ
-gain m (Open s id c e) = m.life id + m.phase opening
-gain m (Close s id c e) = 0
-gain m (Hold s a x) = m.thing x
-gain m (Free s a x) = 0
-gain m (Add s a v) = m.stream v
-gain m (Drop s a v) = 0
-gain m (Move s p q) = m.phase q
-gain m (Touch s n k) = 0
-gain m (Bind s c i) = m.binding (c, i)
-gain m (Unbind s c i) = 0
+gain m (Open k) = m.life k.id + m.phase opening
+gain m (Close k) = 0
+gain m (Hold k) = m.thing k.thing
+gain m (Free k) = 0
+gain m (Add k) = m.stream k.stream
+gain m (Drop k) = 0
+gain m (Move k) = m.phase k.to
+gain m (Touch k) = 0
+gain m (Bind k) = m.binding (k.conn, k.number)
+gain m (Unbind k) = 0
 
 abbrev pub rate_there : Option ℕ → Option Thing
 rate_there None = None
@@ -58,24 +58,24 @@ abbrev pub row_sum : Measure → ℕ → Option Session → ℕ
 row_sum m s o = weigh (λ e. of_session m e.1) s o
 
 pub row_balance : (m : Measure) (r : Record) (o : Option Session) → Own r o → row_sum m (session_of r) (effect r o) + gain m (inverse_of r) ≡ row_sum m (session_of r) o + gain m r
-row_balance m (Open s id c e) o h = omega (arith, session-opened m id c e, ap (row_sum m s) h)
-row_balance m (Close s id c e) o h = omega (arith, session-opened m id c e, ap (row_sum m s) h)
-row_balance m (Hold s a x) None h = absurd h
-row_balance m (Hold s a x) (Some f) h = omega (arith, session-under m f a (holding x (under f a)), hold_more m x (under f a) h.no_such)
-row_balance m (Free s a x) None h = absurd h
-row_balance m (Free s a x) (Some f) h = omega (arith, session-under m f a (freed x (under f a)), free_less m x (under f a) h.held)
-row_balance m (Add s a v) None h = absurd h
-row_balance m (Add s a v) (Some f) h = omega (arith, session-under m f a (streaming (Some v) (under f a)), ap (if_there m.stream) h.no_stream)
-row_balance m (Drop s a v) None h = absurd h
-row_balance m (Drop s a v) (Some f) h = omega (arith, session-under m f a (streaming None (under f a)), ap (if_there m.stream) h.there)
-row_balance m (Move s p q) None h = absurd h
-row_balance m (Move s p q) (Some f) h = omega (arith, ap m.phase h.phase)
-row_balance m (Touch s n k) None h = absurd h
-row_balance m (Touch s n k) (Some f) h = refl
-row_balance m (Bind s c i) None h = absurd h
-row_balance m (Bind s c i) (Some f) h = omega (arith, ap (if_there m.binding) h)
-row_balance m (Unbind s c i) None h = absurd h
-row_balance m (Unbind s c i) (Some f) h = omega (arith, ap (if_there m.binding) h)
+row_balance m (Open k) o h = omega (arith, session-opened m k.id k.conn k.expires, ap (row_sum m k.session) h)
+row_balance m (Close k) o h = omega (arith, session-opened m k.id k.conn k.expires, ap (row_sum m k.session) h)
+row_balance m (Hold k) None h = absurd h
+row_balance m (Hold k) (Some f) h = omega (arith, session-under m f k.admission (holding k.thing (under f k.admission)), hold_more m k.thing (under f k.admission) h.no_such)
+row_balance m (Free k) None h = absurd h
+row_balance m (Free k) (Some f) h = omega (arith, session-under m f k.admission (freed k.thing (under f k.admission)), free_less m k.thing (under f k.admission) h.held)
+row_balance m (Add k) None h = absurd h
+row_balance m (Add k) (Some f) h = omega (arith, session-under m f k.admission (streaming (Some k.stream) (under f k.admission)), ap (if_there m.stream) h.no_stream)
+row_balance m (Drop k) None h = absurd h
+row_balance m (Drop k) (Some f) h = omega (arith, session-under m f k.admission (streaming None (under f k.admission)), ap (if_there m.stream) h.there)
+row_balance m (Move k) None h = absurd h
+row_balance m (Move k) (Some f) h = omega (arith, ap m.phase h.phase)
+row_balance m (Touch k) None h = absurd h
+row_balance m (Touch k) (Some f) h = refl
+row_balance m (Bind k) None h = absurd h
+row_balance m (Bind k) (Some f) h = omega (arith, ap (if_there m.binding) h)
+row_balance m (Unbind k) None h = absurd h
+row_balance m (Unbind k) (Some f) h = omega (arith, ap (if_there m.binding) h)
 
 -- one equation for every sum and every record
 pub balance : (m : Measure) (b : Book) (r : Record) → Own r (get b (session_of r)) → amount m (after b r) + gain m (inverse_of r) ≡ amount m b + gain m r

@@ -6,6 +6,8 @@ pub mod Back
 pub mod Trims
 pub mod Strands
 pub mod LastWords
+pub mod SameWords
+pub mod Choices
 pub mod HexLemmas
 pub mod AfterLemmas
 pub mod ReaderLemmas

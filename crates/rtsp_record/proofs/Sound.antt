@@ -12,13 +12,15 @@ use Rattle.rtsp_record.specs.declared.holdings.Whole.{Whole}
 use Rattle.rtsp_record.specs.declared.changes.Entry.{Entry}
 use Rattle.rtsp_record.specs.declared.changes.Record.{Record}
 use Rattle.rtsp_record.specs.declared.changes.Record.TheVariants.{Open, Close, Hold, Free, Add, Drop, Move, Touch, Bind, Unbind}
+use Rattle.rtsp_record.specs.declared.payloads.Holding.{Holding}
+use Rattle.rtsp_record.specs.declared.payloads.Setup.{Setup}
 use Rattle.rtsp_record.specs.Records.{session_of}
 use Rattle.rtsp_record.specs.declared.holdings.Admission.{Admission}
 use Rattle.rtsp_record.specs.Books.{Session, Book, bare, or_bare, kept, opened, holding, freed, streaming, under, with_under, effect, after, after_all, records_of, book_of}
-use Rattle.rtsp_record.specs.Sums.{Measure, if_there, of_admission, of_session, amount, one_if, sessions, with_id, bindings, rates, Spot, covers, covering, streams, clash, clashing, is_holding, admissions_holding, others_holding}
-use Rattle.rtsp_record.specs.Rules.{IsReady, IsPlaying, alike, IsAddress, InWhole, Own, Others, Allowed, AllAllowed, IsLegal, HeldOnce}
+use Rattle.rtsp_record.specs.Sums.{Measure, if_there, of_admission, of_session, amount, one_if, sessions, with_id, bindings, rate_of, rates, Spot, covers, covering, streams, clash, clashing, is_holding, admissions_holding, others_holding}
+use Rattle.rtsp_record.specs.Rules.{IsReady, IsPlaying, alike, IsAddress, InWhole, FitsRate, Own, Others, Allowed, AllAllowed, IsLegal, HeldOnce}
 use Rattle.rtsp_record.proofs.Tables.{weigh, at_key, get-set, get-none, total-set, total-empty}
-use Rattle.rtsp_record.specs.Sound.{Normal, SoundSession, SoundRow, Sound}
+use Rattle.rtsp_record.specs.Sound.{SoundSession, SoundRow, Sound}
 use Rattle.rtsp_record.proofs.Rows.{at_under, normal-under, total-under}
 use Rattle.rtsp_record.proofs.Balance.{gain, row_balance, balance, rate_there}
 
@@ -111,8 +113,8 @@ not_both (Ended at sent) h g = g
 apart_new : (f : Session) (a : ℕ) (v u : Stream) → of_session (clashing v) f ≡ 0 → (under f a).stream ≡ Some u → one_if (clash u v) ≡ 0
 apart_new f a v u none there = omega (arith, stream_counts (clashing v) f a u there, ap one_if (clash_symmetric v u))
 
-pub row_sound : (w : Whole) (b : Book) (r : Record) (o : Option Session) → Own r o → Others w r b → SoundRow w o → SoundRow w (effect r o)
-row_sound w b (Open s id c e) o h g ok =
+opened_sound : (w : Whole) (id c e : ℕ) → SoundSession w (opened id c e)
+opened_sound w id c e =
     record {
       normal = λ a. ap (λ o. kept (or_bare o)) (get-none a) ∙ sym (get-none a);
       based = λ a v is. absurd (bare_stream _ v (under_opened id c e a) is);
@@ -121,88 +123,103 @@ row_sound w b (Open s id c e) o h g ok =
       few = omega (arith, total-empty (λ (e : ℕ × Admission). one_if (is_holding e.1)));
       in_whole = λ a x is. absurd (bare_address _ x (under_opened id c e a) is);
     }
-row_sound w b (Close s id c e) o h g ok = tt
-row_sound w b (Hold s a x) None h g ok = absurd h
-row_sound w b (Hold s a x) (Some f) h g ok =
-    let d = holding x (under f a) in
-    let none : d.stream ≡ None = holding_stream x (under f a) ∙ h.no_stream in
+
+-- what a change under one admission, under which no stream is then, has to leave
+record Leaves (w : Whole) (f : Session) (a : ℕ) (d : Admission) : Type 0 where
+  no_stream : d.stream ≡ None
+  clashes : (v : Stream) → of_session (clashing v) (with_under f a d) ≤ of_session (clashing v) f
+  playing : IsPlaying f.phase → 0 < of_session streams (with_under f a d)
+  few : admissions_holding (with_under f a d) ≤ 16
+  proper : Proper w d
+
+without_stream_sound : (w : Whole) (f : Session) (a : ℕ) (d : Admission) → SoundSession w f → Leaves w f a d → SoundSession w (with_under f a d)
+without_stream_sound w f a d ok left =
     record {
       normal = normal-under f a d ok.normal;
-      based = λ b v. at_under f a d b (λ e. e.stream ≡ Some v → IsSome e.rate × IsSome e.address) (λ _ is. absurd (none_some v (sym none ∙ is))) (ok.based b v);
-      apart = λ b v. at_under f a d b (λ e. e.stream ≡ Some v → of_session (clashing v) (with_under f a d) ≤ 1) (λ _ is. absurd (none_some v (sym none ∙ is))) (λ is. omega (arith, row_balance (clashing v) (Hold s a x) (Some f) h, ok.apart b v is));
-      playing = λ p. omega (arith, row_balance streams (Hold s a x) (Some f) h, ok.playing p);
-      few = omega (arith, holding-under f a d, holding-others f a, h.few, at_most_one (is_holding d));
-      in_whole = λ b. at_under f a d b (Proper w) (λ _. hold_proper w x (under f a) g.in_whole (ok.in_whole a)) (ok.in_whole b);
+      based = λ b v. at_under f a d b (λ e. e.stream ≡ Some v → IsSome e.rate × IsSome e.address) (λ _ is. absurd (none_some v (sym left.no_stream ∙ is))) (ok.based b v);
+      apart = λ b v. at_under f a d b (λ e. e.stream ≡ Some v → of_session (clashing v) (with_under f a d) ≤ 1) (λ _ is. absurd (none_some v (sym left.no_stream ∙ is))) (λ is. omega (arith, left.clashes v, ok.apart b v is));
+      playing = left.playing;
+      few = left.few;
+      in_whole = λ b. at_under f a d b (Proper w) (λ _. left.proper) (ok.in_whole b);
     }
-row_sound w b (Free s a x) None h g ok = absurd h
-row_sound w b (Free s a x) (Some f) h g ok =
-    let d = freed x (under f a) in
-    let none : d.stream ≡ None = freed_stream x (under f a) ∙ h.no_stream in
-    record {
-      normal = normal-under f a d ok.normal;
-      based = λ b v. at_under f a d b (λ e. e.stream ≡ Some v → IsSome e.rate × IsSome e.address) (λ _ is. absurd (none_some v (sym none ∙ is))) (ok.based b v);
-      apart = λ b v. at_under f a d b (λ e. e.stream ≡ Some v → of_session (clashing v) (with_under f a d) ≤ 1) (λ _ is. absurd (none_some v (sym none ∙ is))) (λ is. omega (arith, row_balance (clashing v) (Free s a x) (Some f) h, ok.apart b v is));
-      playing = λ p. omega (arith, row_balance streams (Free s a x) (Some f) h, ok.playing p);
-      few = omega (arith, holding-under f a d, ok.few, one_is _ (holds_some x (under f a) h.held), at_most_one (is_holding d));
-      in_whole = λ b. at_under f a d b (Proper w) (λ _. free_proper w x (under f a) (ok.in_whole a)) (ok.in_whole b);
-    }
-row_sound w b (Add s a v) None h g ok = absurd h
-row_sound w b (Add s a v) (Some f) h g ok =
-    let d = streaming (Some v) (under f a) in
-    record {
-      normal = normal-under f a d ok.normal;
-      based = λ b u. at_under f a d b (λ e. e.stream ≡ Some u → IsSome e.rate × IsSome e.address) (λ _ is. (h.rate, h.address)) (ok.based b u);
-      apart = λ b u. at_under f a d b (λ e. e.stream ≡ Some u → of_session (clashing u) (with_under f a d) ≤ 1)
-          (λ _ is. let same : v ≡ u = cc in subst (λ u. of_session (clashing u) (with_under f a d) ≤ 1) same (omega (arith, row_balance (clashing v) (Add s a v) (Some f) h, h.no_clash, at_most_one (clash v v))))
-          (λ is. omega (arith, row_balance (clashing u) (Add s a v) (Some f) h, ok.apart b u is, apart_new f b v u h.no_clash is));
-      playing = λ p. omega (arith, row_balance streams (Add s a v) (Some f) h);
-      few = omega (arith, holding-under f a d, ok.few);
-      in_whole = λ b. at_under f a d b (Proper w) (λ _. ok.in_whole a) (ok.in_whole b);
-    }
-row_sound w b (Drop s a v) None h g ok = absurd h
-row_sound w b (Drop s a v) (Some f) h g ok =
-    let d = streaming None (under f a) in
-    record {
-      normal = normal-under f a d ok.normal;
-      based = λ b u. at_under f a d b (λ e. e.stream ≡ Some u → IsSome e.rate × IsSome e.address) (λ _ is. absurd (none_some u is)) (ok.based b u);
-      apart = λ b u. at_under f a d b (λ e. e.stream ≡ Some u → of_session (clashing u) (with_under f a d) ≤ 1) (λ _ is. absurd (none_some u is)) (λ is. omega (arith, row_balance (clashing u) (Drop s a v) (Some f) h, ok.apart b u is));
+
+hold_sound : (w : Whole) (b : Book) (k : Holding) (f : Session) → Own (Hold k) (Some f) → Others w (Hold k) b → SoundSession w f → SoundSession w (with_under f k.admission (holding k.thing (under f k.admission)))
+hold_sound w b k f h g ok =
+    let d = holding k.thing (under f k.admission) in
+    without_stream_sound w f k.admission d ok (record {
+      no_stream = holding_stream k.thing (under f k.admission) ∙ h.no_stream;
+      clashes = λ v. omega (arith, row_balance (clashing v) (Hold k) (Some f) h);
+      playing = λ p. omega (arith, row_balance streams (Hold k) (Some f) h, ok.playing p);
+      few = omega (arith, holding-under f k.admission d, holding-others f k.admission, h.few, at_most_one (is_holding d));
+      proper = hold_proper w k.thing (under f k.admission) g.in_whole (ok.in_whole k.admission);
+    })
+
+free_sound : (w : Whole) (k : Holding) (f : Session) → Own (Free k) (Some f) → SoundSession w f → SoundSession w (with_under f k.admission (freed k.thing (under f k.admission)))
+free_sound w k f h ok =
+    let d = freed k.thing (under f k.admission) in
+    without_stream_sound w f k.admission d ok (record {
+      no_stream = freed_stream k.thing (under f k.admission) ∙ h.no_stream;
+      clashes = λ v. omega (arith, row_balance (clashing v) (Free k) (Some f) h);
+      playing = λ p. omega (arith, row_balance streams (Free k) (Some f) h, ok.playing p);
+      few = omega (arith, holding-under f k.admission d, ok.few, one_is _ (holds_some k.thing (under f k.admission) h.held), at_most_one (is_holding d));
+      proper = free_proper w k.thing (under f k.admission) (ok.in_whole k.admission);
+    })
+
+drop_sound : (w : Whole) (k : Setup) (f : Session) → Own (Drop k) (Some f) → SoundSession w f → SoundSession w (with_under f k.admission (streaming None (under f k.admission)))
+drop_sound w k f h ok =
+    let d = streaming None (under f k.admission) in
+    without_stream_sound w f k.admission d ok (record {
+      no_stream = refl;
+      clashes = λ v. omega (arith, row_balance (clashing v) (Drop k) (Some f) h);
       playing = λ p. absurd (not_both f.phase h.ready p);
-      few = omega (arith, holding-under f a d, ok.few);
-      in_whole = λ b. at_under f a d b (Proper w) (λ _. ok.in_whole a) (ok.in_whole b);
-    }
-row_sound w b (Move s p q) None h g ok = absurd h
-row_sound w b (Move s p q) (Some f) h g ok =
+      few = omega (arith, holding-under f k.admission d, ok.few);
+      proper = ok.in_whole k.admission;
+    })
+
+add_sound : (w : Whole) (k : Setup) (f : Session) → Own (Add k) (Some f) → SoundSession w f → SoundSession w (with_under f k.admission (streaming (Some k.stream) (under f k.admission)))
+add_sound w k f h ok =
+    let d = streaming (Some k.stream) (under f k.admission) in
+    let g = with_under f k.admission d in
+    let own : of_session (clashing k.stream) g ≤ 1 = omega (arith, row_balance (clashing k.stream) (Add k) (Some f) h, h.no_clash, at_most_one (clash k.stream k.stream)) in
     record {
-      normal = ok.normal;
-      based = ok.based;
-      apart = λ a v is. omega (arith, row_balance (clashing v) (Move s p q) (Some f) h, ok.apart a v is);
-      playing = λ is. omega (arith, row_balance streams (Move s p q) (Some f) h, h.stream is);
-      few = ok.few;
-      in_whole = ok.in_whole;
+      normal = normal-under f k.admission d ok.normal;
+      based = λ b u. at_under f k.admission d b (λ e. e.stream ≡ Some u → IsSome e.rate × IsSome e.address) (λ _ is. (h.rate, h.address)) (ok.based b u);
+      apart = λ b u. at_under f k.admission d b (λ e. e.stream ≡ Some u → of_session (clashing u) g ≤ 1)
+          (λ _ is. let same : k.stream ≡ u = cc in subst (λ u. of_session (clashing u) g ≤ 1) same own)
+          (λ is. omega (arith, row_balance (clashing u) (Add k) (Some f) h, ok.apart b u is, apart_new f b k.stream u h.no_clash is));
+      playing = λ p. omega (arith, row_balance streams (Add k) (Some f) h);
+      few = omega (arith, holding-under f k.admission d, ok.few);
+      in_whole = λ b. at_under f k.admission d b (Proper w) (λ _. ok.in_whole k.admission) (ok.in_whole b);
     }
-row_sound w b (Touch s m n) None h g ok = absurd h
-row_sound w b (Touch s m n) (Some f) h g ok =
-    record { normal = ok.normal; based = ok.based; apart = ok.apart; playing = ok.playing; few = ok.few; in_whole = ok.in_whole }
-row_sound w b (Bind s c i) None h g ok = absurd h
-row_sound w b (Bind s c i) (Some f) h g ok =
-    record {
-      normal = ok.normal;
-      based = ok.based;
-      apart = λ a v is. omega (arith, row_balance (clashing v) (Bind s c i) (Some f) h, ok.apart a v is);
-      playing = λ is. omega (arith, row_balance streams (Bind s c i) (Some f) h, ok.playing is);
-      few = ok.few;
-      in_whole = ok.in_whole;
-    }
-row_sound w b (Unbind s c i) None h g ok = absurd h
-row_sound w b (Unbind s c i) (Some f) h g ok =
-    record {
-      normal = ok.normal;
-      based = ok.based;
-      apart = λ a v is. omega (arith, row_balance (clashing v) (Unbind s c i) (Some f) h, ok.apart a v is);
-      playing = λ is. omega (arith, row_balance streams (Unbind s c i) (Some f) h, ok.playing is);
-      few = ok.few;
-      in_whole = ok.in_whole;
-    }
+
+-- phase, expiry and binding touch no admission
+same_admissions_sound : (w : Whole) (f : Session) (p : Phase) (e : ℕ) (k : Option (ℕ × ℕ)) → let g : Session = record f { phase = p; expires = e; binding = k } in
+    SoundSession w f → ((v : Stream) → of_session (clashing v) g ≤ of_session (clashing v) f) → (IsPlaying p → 0 < of_session streams g) → SoundSession w g
+same_admissions_sound w f p e k ok less plays =
+    record { normal = ok.normal; based = ok.based; apart = λ a v is. omega (arith, less v, ok.apart a v is); playing = plays; few = ok.few; in_whole = ok.in_whole }
+
+pub row_sound : (w : Whole) (b : Book) (r : Record) (o : Option Session) → Own r o → Others w r b → SoundRow w o → SoundRow w (effect r o)
+row_sound w b (Open k) o h g ok = opened_sound w k.id k.conn k.expires
+row_sound w b (Close k) o h g ok = tt
+row_sound w b (Hold k) None h g ok = absurd h
+row_sound w b (Hold k) (Some f) h g ok = hold_sound w b k f h g ok
+row_sound w b (Free k) None h g ok = absurd h
+row_sound w b (Free k) (Some f) h g ok = free_sound w k f h ok
+row_sound w b (Add k) None h g ok = absurd h
+row_sound w b (Add k) (Some f) h g ok = add_sound w k f h ok
+row_sound w b (Drop k) None h g ok = absurd h
+row_sound w b (Drop k) (Some f) h g ok = drop_sound w k f h ok
+row_sound w b (Move k) None h g ok = absurd h
+row_sound w b (Move k) (Some f) h g ok =
+    same_admissions_sound w f k.to f.expires f.binding ok (λ v. omega (arith, row_balance (clashing v) (Move k) (Some f) h)) (λ is. omega (arith, row_balance streams (Move k) (Some f) h, h.stream is))
+row_sound w b (Touch k) None h g ok = absurd h
+row_sound w b (Touch k) (Some f) h g ok = same_admissions_sound w f f.phase k.to f.binding ok (λ v. omega arith) ok.playing
+row_sound w b (Bind k) None h g ok = absurd h
+row_sound w b (Bind k) (Some f) h g ok =
+    same_admissions_sound w f f.phase f.expires (Some (k.conn, k.number)) ok (λ v. omega (arith, row_balance (clashing v) (Bind k) (Some f) h)) (λ is. omega (arith, row_balance streams (Bind k) (Some f) h, ok.playing is))
+row_sound w b (Unbind k) None h g ok = absurd h
+row_sound w b (Unbind k) (Some f) h g ok =
+    same_admissions_sound w f f.phase f.expires None ok (λ v. omega (arith, row_balance (clashing v) (Unbind k) (Some f) h)) (λ is. omega (arith, row_balance streams (Unbind k) (Some f) h, ok.playing is))
 
 -- one more where there was none, or none more
 pub room_if : (t : Bool) (n : ℕ) → (t ≡ true → n ≡ 0) → n ≤ 1 → n + one_if t ≤ 1
@@ -217,25 +234,28 @@ both true b h = (refl, h)
 both false b h = absurd cc
 
 pub room_ids : (w : Whole) (b : Book) (r : Record) (i : ℕ) → Others w r b → amount (with_id i) b ≤ 1 → amount (with_id i) b + gain (with_id i) r ≤ 1
-room_ids w b (Open s id c e) i g le = omega (arith, room_if (id == i) (amount (with_id i) b) (λ same. subst (λ k. amount (with_id k) b ≡ 0) (same_of id i same) g.id_free) le)
+room_ids w b (Open k) i g le = omega (arith, room_if (k.id == i) (amount (with_id i) b) (λ same. subst (λ k. amount (with_id k) b ≡ 0) (same_of k.id i same) g.id_free) le)
 room_ids w b r i g le = omega (arith, le)
 
 pub room_few : (w : Whole) (b : Book) (r : Record) → Others w r b → amount sessions b ≤ w.sessions → amount sessions b + gain sessions r ≤ w.sessions
-room_few w b (Open s id c e) g le = omega (arith, g.few)
+room_few w b (Open k) g le = omega (arith, g.few)
 room_few w b r g le = omega (arith, le)
 
 pub room_bound : (w : Whole) (b : Book) (r : Record) (c i : ℕ) → Others w r b → amount (bindings c i) b ≤ 1 → amount (bindings c i) b + gain (bindings c i) r ≤ 1
-room_bound w b (Bind s d j) c i g le = room_if (d == c && j == i) (amount (bindings c i) b) (λ same. let parts = both (d == c) (j == i) same in let there : amount (bindings d j) b ≡ 0 = g in (λ k. amount (bindings (sym (same_of d c parts.0) k) (sym (same_of j i parts.1) k)) b) ∙ there) le
+room_bound w b (Bind k) c i g le = room_if (k.conn == c && k.number == i) (amount (bindings c i) b) (λ same. let parts = both (k.conn == c) (k.number == i) same in let there : amount (bindings k.conn k.number) b ≡ 0 = g in (λ t. amount (bindings (sym (same_of k.conn c parts.0) t) (sym (same_of k.number i parts.1) t)) b) ∙ there) le
 room_bound w b r c i g le = omega (arith, le)
 
 pub room_once : (w : Whole) (b : Book) (r : Record) (q : Spot) → Others w r b → amount (covering q) b ≤ 1 → amount (covering q) b + gain (covering q) r ≤ 1
-room_once w b (Hold s a x) q g le = room_if (covers q x) (amount (covering q) b) (g.free q) le
+room_once w b (Hold k) q g le = room_if (covers q k.thing) (amount (covering q) b) (g.free q) le
 room_once w b r q g le = omega (arith, le)
 
+fitting_rate : (w : Whole) (b : Book) (x : Thing) → FitsRate w b x → amount rates b ≤ w.uplink → amount rates b + rate_of x ≤ w.uplink
+fitting_rate w b (Rate n) fits le = fits
+fitting_rate w b (Pair p) fits le = omega (arith, le)
+fitting_rate w b (Chan c k) fits le = omega (arith, le)
+
 pub room_rate : (w : Whole) (b : Book) (r : Record) → Others w r b → amount rates b ≤ w.uplink → amount rates b + gain rates r ≤ w.uplink
-room_rate w b (Hold s a (Rate n)) g le = g.rate
-room_rate w b (Hold s a (Pair p)) g le = omega (arith, le)
-room_rate w b (Hold s a (Chan c k)) g le = omega (arith, le)
+room_rate w b (Hold k) g le = fitting_rate w b k.thing g.rate le
 room_rate w b r g le = omega (arith, le)
 
 pub sound-after : (w : Whole) (b : Book) (r : Record) → Sound w b → Allowed w b r → Sound w (after b r)

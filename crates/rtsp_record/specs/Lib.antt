@@ -2,6 +2,7 @@ pub mod Records
 pub mod Tables
 pub mod Books
 pub mod Sums
+pub mod Choices
 pub mod Rules
 pub mod Sound
 pub mod Moments

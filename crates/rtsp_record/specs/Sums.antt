@@ -64,16 +64,16 @@ rate_of (Chan c k) = 0
 abbrev pub rates : Measure
 rates = record nothing { thing = rate_of }
 
--- what can be held by one only: a port, or a channel of a connection
+-- what can be held by one only: a UDP port, or a channel of a connection
 pub data Spot : Type 0 where
-  Port : (p : ℕ) → Spot
+  UdpPort : (p : ℕ) → Spot
   Channel : (c k : ℕ) → Spot
 
 -- a pair covers two ports, and channels cover two of their connection
 abbrev pub covers : Spot → Thing → Bool
-covers (Port q) (Pair p) = q == p || q == p + 1
-covers (Port q) (Chan c k) = false
-covers (Port q) (Rate n) = false
+covers (UdpPort q) (Pair p) = q == p || q == p + 1
+covers (UdpPort q) (Chan c k) = false
+covers (UdpPort q) (Rate n) = false
 covers (Channel d l) (Pair p) = false
 covers (Channel d l) (Chan c k) = d == c && (l == k || l == k + 1)
 covers (Channel d l) (Rate n) = false

@@ -1,4 +1,4 @@
-//! What there is to hold, and what a session may hold of it.
+//! What the server has, and what a session may hold of it.
 
 use crate::streams::Stream;
 
@@ -7,7 +7,8 @@ use crate::streams::Stream;
 pub enum Thing {
     /// The UDP port with this number and the next, for RTP and RTCP (RFC 3550 section 11).
     Pair(u16),
-    /// The interleaved channel with this number and the next, of a connection (RFC 7826 section 14).
+    /// The interleaved channel with this number and the next, of a connection (RFC 7826
+    /// section 14).
     Chan(u64, u8),
     /// Bits per second of the uplink.
     Rate(u64),
@@ -23,12 +24,13 @@ pub struct Admission {
     pub stream: Option<Stream>,
 }
 
-/// What there is to hold, and how much may stand at once.
+/// What the server has: ports, bandwidth, and how many sessions and entries there may be.
 #[derive(Clone, Copy, Debug, PartialEq, Eq)]
 pub struct Whole {
     /// The least port of the pairs; even, 1,024 at least.
     pub first_port: u16,
-    /// How many pairs of ports there are from `first_port` on, 0 to 4,096; the last port is at most 65,535.
+    /// How many pairs of ports there are from `first_port` on, 0 to 4,096; the last port is at most
+    /// 65,535.
     pub pairs: u16,
     /// The uplink in bits per second, at most 10^12.
     pub uplink: u64,

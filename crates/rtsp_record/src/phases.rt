@@ -1,9 +1,10 @@
 //! Where a session is in its play.
-ghost use Rattle.std.specs.Prelude.{◌≡◌, ◌<◌};
-ghost use Rattle.rtsp_record.specs.Moments.{due, point, sent_with_due};
 
-/// Where a session is in its play. `at`, `from` and `stop` are units of media, `stop` exclusive; `sent` counts the
-/// units sent in earlier plays, modulo 2^32.
+ghost use Rattle.std.specs.Prelude.{◌≡◌, ◌<◌};
+ghost use Rattle.rtsp_record.specs.Moments.{due, point, sent_before, sent_with_due};
+
+/// Where a session is in its play. `at`, `from` and `stop` are units of media, `stop` exclusive;
+/// `sent` counts the units sent in earlier plays, modulo 2^32.
 #[derive(Clone, Copy, Debug, PartialEq, Eq)]
 pub enum Phase {
     /// It plays from `at` on when it is asked to.
@@ -25,53 +26,64 @@ pub enum Phase {
     },
 }
 
-/// How many units of the present play are due at a moment, both in milliseconds: one at once, and one more each
-/// `unit_ms`. A moment before the play counts as its beginning.
-pub fn due(phase: &Phase, unit_ms: u32, moment: u64) -> u32
-    requires { 0 < unit_ms }
-    ensures { result ≡ due phase.now unit_ms moment }
-{
-    match *phase {
-        Phase::Playing {
-            since,
-            from,
-            stop,
-            ..
-        } => {
-            let length = stop.saturating_sub(from);
-            let passed = moment.saturating_sub(since) / u64::from(unit_ms);
-            if passed < u64::from(length) {
-                (passed + 1).min(u64::from(length)) as u32
-            } else {
-                length
+impl Phase {
+    /// How many units of the present play are due at a moment, both in milliseconds: one at once,
+    /// and one more each `unit_ms`. A moment before the play counts as its beginning.
+    pub fn due(&self, unit_ms: u32, moment: u64) -> u32
+        requires { 0 < unit_ms }
+        ensures { result ≡ due self.now unit_ms moment }
+    {
+        match *self {
+            Phase::Playing {
+                since,
+                from,
+                stop,
+                ..
+            } => {
+                let length = stop.saturating_sub(from);
+                let passed = moment.saturating_sub(since) / u64::from(unit_ms);
+                if passed < u64::from(length) {
+                    (passed + 1).min(u64::from(length)) as u32
+                } else {
+                    length
+                }
+            }
+            Phase::Ready { .. } | Phase::Ended { .. } => 0,
+        }
+    }
+
+    /// The unit where the next play begins: in a play the first one that is not due yet, else where
+    /// the session is.
+    pub fn point(&self, unit_ms: u32, moment: u64) -> u32
+        requires { 0 < unit_ms }
+        ensures { result ≡ point self.now unit_ms moment }
+    {
+        match *self {
+            Phase::Ready { at, .. } | Phase::Ended { at, .. } => at,
+            Phase::Playing {
+                from,
+                stop: _stop,
+                ..
+            } => from + self.due(unit_ms, moment),
+        }
+    }
+
+    /// The units sent in earlier plays, modulo 2^32.
+    fn sent_before(&self) -> u32
+        ensures { result ≡ sent_before self.now }
+    {
+        match *self {
+            Phase::Ready { sent, .. } | Phase::Playing { sent, .. } | Phase::Ended { sent, .. } => {
+                sent
             }
         }
-        Phase::Ready { .. } | Phase::Ended { .. } => 0,
     }
-}
 
-/// The unit where the next play begins: in a play the first one that is not due yet, else where the session is.
-pub fn point(phase: &Phase, unit_ms: u32, moment: u64) -> u32
-    requires { 0 < unit_ms }
-    ensures { result ≡ point phase.now unit_ms moment }
-{
-    match *phase {
-        Phase::Ready { at, .. } | Phase::Ended { at, .. } => at,
-        Phase::Playing {
-            from,
-            stop: _stop,
-            ..
-        } => from + due(phase, unit_ms, moment),
+    /// The units sent in all plays, with what is due of the present one, modulo 2^32.
+    pub fn sent_with_due(&self, unit_ms: u32, moment: u64) -> u32
+        requires { 0 < unit_ms }
+        ensures { result ≡ sent_with_due self.now unit_ms moment }
+    {
+        self.sent_before().wrapping_add(self.due(unit_ms, moment))
     }
-}
-
-/// The units sent in all plays, with what is due of the present one, modulo 2^32.
-pub fn sent_with_due(phase: &Phase, unit_ms: u32, moment: u64) -> u32
-    requires { 0 < unit_ms }
-    ensures { result ≡ sent_with_due phase.now unit_ms moment }
-{
-    let before = match *phase {
-        Phase::Ready { sent, .. } | Phase::Playing { sent, .. } | Phase::Ended { sent, .. } => sent,
-    };
-    before.wrapping_add(due(phase, unit_ms, moment))
 }

@@ -1,7 +1,7 @@
-use crate::fields::{Field, write_line};
 use crate::{
-    Entry, JournalFault, Phase, Record, Stream, Thing, due, inverse, point, read_journal,
-    sent_with_due, write_entry, write_journal,
+    Binding, Entry, Field, Holding, Id, JournalFault, Life, Phase, Record, Renewal, Setup, Stream,
+    Thing, Transition, read_journal, write_entry, write_journal, write_line, write_record,
+    write_setup,
 };
 use std::test::Fail;
 
@@ -14,28 +14,29 @@ const PLAY: Phase = Phase::Playing {
 
 #[test]
 fn one_unit_is_due_at_once_and_one_more_each_unit_of_time(rt: HostRuntime) {
-    assert_eq!(rt; due(&PLAY, 20, 0), 1);
-    assert_eq!(rt; due(&PLAY, 20, 19), 1);
-    assert_eq!(rt; due(&PLAY, 20, 20), 2);
-    assert_eq!(rt; due(&PLAY, 20, 9_979), 499);
-    assert_eq!(rt; due(&PLAY, 20, 9_980), 500);
-    assert_eq!(rt; point(&PLAY, 20, 20), 2);
+    assert_eq!(rt; PLAY.due(20, 0), 1);
+    assert_eq!(rt; PLAY.due(20, 19), 1);
+    assert_eq!(rt; PLAY.due(20, 20), 2);
+    assert_eq!(rt; PLAY.due(20, 9_979), 499);
+    assert_eq!(rt; PLAY.due(20, 9_980), 500);
+    assert_eq!(rt; PLAY.point(20, 20), 2);
 }
 
 #[test]
 fn a_move_is_taken_back(rt: HostRuntime) {
     let ready = Phase::Ready { at: 0, sent: 0 };
-    let change = Record::Move {
+    let change = Record::Move(Transition {
         session: 2,
-        old: ready,
-        new: PLAY,
-    };
-    let back = Record::Move {
+        from: ready,
+        to: PLAY,
+    });
+    let back = Record::Move(Transition {
         session: 2,
-        old: PLAY,
-        new: ready,
-    };
-    assert_eq!(rt; inverse(&change), back);
+        from: PLAY,
+        to: ready,
+    });
+    assert_eq!(rt; change.inverse(), back);
+    assert_eq!(rt; change.session(), 2);
 }
 
 const STREAM: Stream = Stream {
@@ -52,6 +53,12 @@ const STREAM: Stream = Stream {
 const CHAN: Thing = Thing::Chan(1, 0);
 
 const RATE: Thing = Thing::Rate(80_000);
+
+const BIND: Record = Record::Bind(Binding {
+    session: 2,
+    conn: 1,
+    number: 7,
+});
 
 const TEXT: &[u8] = b"0 open 2 00000000000000000000000000000001 1 60000
 0 hold 2 3 rate 80000
@@ -70,67 +77,53 @@ fn by_server(change: Record) -> Entry {
     Entry { actor: 0, change }
 }
 
+fn life() -> Life {
+    Life {
+        session: 2,
+        id: Id::new(1),
+        conn: 1,
+        expires: 60_000,
+    }
+}
+
 fn first_path() -> [Entry; 11] {
     let session = 2;
     let admission = 3;
+    let rate = Holding {
+        session,
+        admission,
+        thing: RATE,
+    };
+    let channels = Holding {
+        session,
+        admission,
+        thing: CHAN,
+    };
+    let setup = Setup {
+        session,
+        admission,
+        stream: STREAM,
+    };
     [
-        by_server(Record::Open {
+        by_server(Record::Open(life())),
+        by_server(Record::Hold(rate)),
+        by_server(Record::Hold(channels)),
+        by_server(Record::Add(setup)),
+        by_server(Record::Move(Transition {
             session,
-            id: 1,
-            conn: 1,
-            expires: 60_000,
-        }),
-        by_server(Record::Hold {
+            from: PLAY,
+            to: Phase::Ready { at: 1, sent: 1 },
+        })),
+        by_server(Record::Touch(Renewal {
             session,
-            admission,
-            thing: RATE,
-        }),
-        by_server(Record::Hold {
-            session,
-            admission,
-            thing: CHAN,
-        }),
-        by_server(Record::Add {
-            session,
-            admission,
-            stream: STREAM,
-        }),
-        by_server(Record::Move {
-            session,
-            old: PLAY,
-            new: Phase::Ready { at: 1, sent: 1 },
-        }),
-        by_server(Record::Touch {
-            session,
-            old: 60_000,
-            new: 70_000,
-        }),
-        by_server(Record::Bind {
-            session,
-            conn: 1,
-            number: 7,
-        }),
-        by_server(Record::Drop {
-            session,
-            admission,
-            stream: STREAM,
-        }),
-        by_server(Record::Free {
-            session,
-            admission,
-            thing: CHAN,
-        }),
-        by_server(Record::Free {
-            session,
-            admission,
-            thing: RATE,
-        }),
-        by_server(Record::Close {
-            session,
-            id: 1,
-            conn: 1,
-            expires: 60_000,
-        }),
+            from: 60_000,
+            to: 70_000,
+        })),
+        by_server(BIND),
+        by_server(Record::Drop(setup)),
+        by_server(Record::Free(channels)),
+        by_server(Record::Free(rate)),
+        by_server(Record::Close(life())),
     ]
 }
 
@@ -197,7 +190,7 @@ fn a_line_is_written_from_its_fields(rt: HostRuntime) -> Result<(), Fail> {
         &mut text,
         &[
             Field::Word(b"session"),
-            Field::Id(0xab),
+            Field::Id(Id::new(0xab)),
             Field::Hex(0xc),
             Field::Number(7),
             Field::Phase(PLAY),
@@ -213,7 +206,9 @@ fn a_line_is_written_from_its_fields(rt: HostRuntime) -> Result<(), Fail> {
 // The laws hold of every journal; here they are called.
 #[test]
 fn laws_are_called() {
+    crate::law_inverse();
     crate::law_last_words();
+    crate::law_same_words();
     crate::law_one_answer();
     crate::law_one_journal();
     crate::law_reads_back();
@@ -223,13 +218,26 @@ fn laws_are_called() {
 #[test]
 fn an_entry_is_written_as_a_line(rt: HostRuntime) -> Result<(), Fail> {
     let mut text = Vec::new(rt.alloc());
-    let change = Record::Bind {
+    write_entry(&mut text, &by_server(BIND))?;
+    write_record(&mut text, &BIND.inverse())?;
+    let setup = Setup {
         session: 2,
-        conn: 1,
-        number: 7,
+        admission: 3,
+        stream: STREAM,
     };
-    write_entry(&mut text, &by_server(change))?;
-    assert_eq!(rt; text.as_slice(), b"0 bind 2 1 7\n".as_slice());
-    assert_eq!(rt; sent_with_due(&PLAY, 20, 20), 2);
+    write_setup(&mut text, b"stream", &setup)?;
+    let written = b"0 bind 2 1 7
+unbind 2 1 7
+stream 2 3 0 0 00000001 0 0 7f000001 0 0
+";
+    assert_eq!(rt; text.as_slice(), written.as_slice());
+    assert_eq!(rt; PLAY.sent_with_due(20, 20), 2);
     Ok(())
+}
+
+#[test]
+fn an_id_is_its_number(rt: HostRuntime) {
+    let number = 0x0123_4567_89ab_cdef_0011_2233_4455_6677;
+    assert_eq!(rt; Id::new(number).number(), number);
+    assert_eq!(rt; Id::new(number) == Id::new(number + 1), false);
 }

@@ -4,13 +4,12 @@ use Rattle.std.specs.Prelude.{◌&&◌, ◌||◌, nat_le, IfSome}
 use Rattle.std.specs.List.{list_all}
 use Rattle.std.specs.Char.{digit_value}
 use Rattle.std.specs.Str.Parse.{digits_value}
-use Rattle.std.proofs.lemmas.Bool.{cases_lt, lt-ltb, le-ltb, leb-true, le-leb, or_cases, eqb-true}
+use Rattle.std.proofs.lemmas.Bool.{cases_lt, lt-ltb, le-ltb, leb-true, le-leb, or_cases, eqb-true, and_parts, and_from}
 use Rattle.std.proofs.lemmas.List.{take_all}
 use Rattle.std.proofs.lemmas.Int.Digits.{digits_value_more}
-use Rattle.rtsp_transport.specs.Hex.{hex_digit, hex_text}
-use Rattle.rtsp_transport.proofs.HexLemmas.{hex_none, hex_byte, step_digit, room_for_digit, length-hex_text}
-use Rattle.rtsp_transport.proofs.NumberLemmas.{digit_is}
-use Rattle.rtsp_transport.proofs.BoolLemmas.{both_true, and_true, all_get, all_from_get}
+use Rattle.rtsp_text.specs.Hexadecimal.{hex_digit, hex_text}
+use Rattle.rtsp_text.proofs.HexLemmas.{hex_none, hex_byte, step_digit, room_for_digit, length-hex_text}
+use Rattle.rtsp_text.proofs.ByteLemmas.{all_get, all_from_get}
 use Rattle.rtsp_state.specs.Values.{is_hex_digit, id_of}
 
 small_digit : (d : ℕ) → d < 10 → hex_digit d ≡ 48 + d
@@ -18,6 +17,9 @@ small_digit d lt = let e = lt-ltb d 10 lt in rw e refl
 
 great_digit : (d : ℕ) → 10 ≤ d → hex_digit d ≡ 87 + d
 great_digit d le = let e = le-ltb d 10 le in rw e refl
+
+digit_small : (c : ℕ) → 48 ≤ c → c ≤ 57 → digit_value c ≡ c - 48
+digit_small c low high = let a = le-ltb c 48 low in let b = lt-ltb c 58 (omega arith) in rw (a, b) refl
 
 letter_is : (c : ℕ) → 97 ≤ c → c ≤ 102 → digit_value c ≡ c - 87
 letter_is c low high =
@@ -36,12 +38,12 @@ or_right false y e = e
 digit_facts : (b : ℕ) → is_hex_digit b ≡ true → (digit_value b < 16) × (hex_digit (digit_value b) ≡ b)
 digit_facts b h = elim (or_cases (nat_le 48 b && nat_le b 57) (nat_le 97 b && nat_le b 102) h) [
   | inl x ↦
-      let p = both_true (nat_le 48 b) (nat_le b 57) x in
+      let p = and_parts (nat_le 48 b) (nat_le b 57) x in
       let low = leb-true 48 b p.0 in let high = leb-true b 57 p.1 in
-      let d = digit_is b low high in
+      let d = digit_small b low high in
       (omega (arith, d, low, high), ap hex_digit d ∙ small_digit (b - 48) (omega (arith, low, high)) ∙ omega (arith, low, high))
   | inr x ↦
-      let p = both_true (nat_le 97 b) (nat_le b 102) x in
+      let p = and_parts (nat_le 97 b) (nat_le b 102) x in
       let low = leb-true 97 b p.0 in let high = leb-true b 102 p.1 in
       let d = letter_is b low high in
       (omega (arith, d, low, high), ap hex_digit d ∙ great_digit (b - 87) (omega (arith, low, high)) ∙ omega (arith, low, high))
@@ -50,8 +52,8 @@ digit_facts b h = elim (or_cases (nat_le 48 b && nat_le b 57) (nat_le 97 b && na
 -- a digit that is written is one
 is_written : (d : ℕ) → d < 16 → is_hex_digit (hex_digit d) ≡ true
 is_written d lt = elim (cases_lt d 10) [
-  | inl x ↦ ap is_hex_digit (small_digit d x) ∙ or_left (nat_le 48 (48 + d) && nat_le (48 + d) 57) _ (and_true (nat_le 48 (48 + d)) (nat_le (48 + d) 57) (le-leb 48 (48 + d) (omega arith)) (le-leb (48 + d) 57 (omega (arith, x))))
-  | inr x ↦ ap is_hex_digit (great_digit d x) ∙ or_right (nat_le 48 (87 + d) && nat_le (87 + d) 57) _ (and_true (nat_le 97 (87 + d)) (nat_le (87 + d) 102) (le-leb 97 (87 + d) (omega (arith, x))) (le-leb (87 + d) 102 (omega (arith, lt))))
+  | inl x ↦ ap is_hex_digit (small_digit d x) ∙ or_left (nat_le 48 (48 + d) && nat_le (48 + d) 57) _ (and_from (nat_le 48 (48 + d)) (nat_le (48 + d) 57) (le-leb 48 (48 + d) (omega arith)) (le-leb (48 + d) 57 (omega (arith, x))))
+  | inr x ↦ ap is_hex_digit (great_digit d x) ∙ or_right (nat_le 48 (87 + d) && nat_le (87 + d) 57) _ (and_from (nat_le 97 (87 + d)) (nat_le (87 + d) 102) (le-leb 97 (87 + d) (omega (arith, x))) (le-leb (87 + d) 102 (omega (arith, lt))))
 ]
 
 abbrev IsRead : List ℕ → ℕ → Type 0
@@ -75,7 +77,7 @@ is_id name = eqb (length name) 32 && list_all is_hex_digit name
 
 back : (name : List ℕ) → is_id name ≡ true → (name ≡ hex_text 32 (digits_value 16 name)) × (digits_value 16 name < 2 ^ 128)
 back name e =
-    let p = both_true (eqb (length name) 32) (list_all is_hex_digit name) e in
+    let p = and_parts (eqb (length name) 32) (list_all is_hex_digit name) e in
     let long : length name ≡ 32 = eqb-true (length name) 32 p.0 in
     let r = run name 32 (omega (arith, long)) p.1 in
     let whole : take 32 name ≡ name = take_all 32 name (omega (arith, long)) in
@@ -84,7 +86,7 @@ back name e =
 forth : (name : List ℕ) (id : ℕ) → name ≡ hex_text 32 id → is_id name ≡ true
 forth name id e =
     let long : length name ≡ 32 = ap length e ∙ length-hex_text 32 id in
-    and_true (eqb (length name) 32) (list_all is_hex_digit name) (eq-eqb (length name) 32 long) (all_from_get is_hex_digit name (λ i lt.
+    and_from (eqb (length name) 32) (list_all is_hex_digit name) (eq-eqb (length name) 32 long) (all_from_get is_hex_digit name (λ i lt.
     let r = hex_byte 32 id i (omega (arith, lt, long)) in
     ap is_hex_digit (ap (λ (t : List ℕ). get_or t i 0) e ∙ r.2) ∙ is_written r.0 r.1))
 

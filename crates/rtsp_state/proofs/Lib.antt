@@ -2,12 +2,13 @@ pub mod ReadLemmas
 pub mod ListLemmas
 pub mod IdLemmas
 pub mod PickLemmas
-pub mod LineLemmas
 pub mod ParameterLemmas
-pub mod InfoLemmas
 pub mod RuleLemmas
 pub mod RowLemmas
 pub mod OrderLemmas
 pub mod ShownLemmas
 pub mod ValidLemmas
 pub mod LawLemmas
+pub mod RoomLemmas
+pub mod MessageLemmas
+pub mod ReplyLemmas

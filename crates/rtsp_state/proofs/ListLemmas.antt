@@ -4,7 +4,7 @@ use Rattle.std.specs.Prelude.{filter_map}
 use Rattle.std.specs.List.{cons_option}
 use Rattle.std.specs.Borrow.{Bor}
 use Rattle.std.proofs.lemmas.List.{map-append, append-nil}
-use Rattle.rtsp_transport.specs.Split.{texts}
+use Rattle.rtsp_text.specs.Slices.{texts}
 
 take_by : {X : Type 0} (xs : List X) (i : ℕ) (x : X) → slice_get xs i ≡ Some x → take (suc i) xs ≡ take i xs ++ x ∷ []
 take_by [] i x e = absurd cc

@@ -30,27 +30,27 @@ pub line_more : (text : List ℕ) (i : ℕ) → i < length text → starts_with 
 line_more text i lt e on =
     let more = drop_more text i 0 lt in
     let rest = ap first_line more ∙ goes_on (get_or text i 0) (drop (i + 1) text) (ap (λ (t : List ℕ). starts_with nat_eq t (codes "\r\n")) (sym more) ∙ e) in
-    let front = take_more text i 0 lt in
+    let start = take_more text i 0 lt in
     let both : take i text ++ (first_line (drop i text)).0 ≡ take (i + 1) text ++ (first_line (drop (i + 1) text)).0 =
-    ap (λ (p : List ℕ × List ℕ). take i text ++ p.0) rest ∙ sym (append_assoc (take i text) (get_or text i 0 ∷ []) (first_line (drop (i + 1) text)).0) ∙ ap (λ (t : List ℕ). t ++ (first_line (drop (i + 1) text)).0) (sym front) in
+    ap (λ (p : List ℕ × List ℕ). take i text ++ p.0) rest ∙ sym (append_assoc (take i text) (get_or text i 0 ∷ []) (first_line (drop (i + 1) text)).0) ∙ ap (λ (t : List ℕ). t ++ (first_line (drop (i + 1) text)).0) (sym start) in
     let behind : (first_line (drop i text)).1 ≡ (first_line (drop (i + 1) text)).1 = ap (λ (p : List ℕ × List ℕ). p.1) rest in
     (λ k. (sym both k, sym behind k)) ∙ on
 
 pub line_breaks : (text : List ℕ) (i : ℕ) → starts_with nat_eq (drop i text) (codes "\r\n") ≡ true → LineOn text i → (take i text, drop (i + 2) text) ≡ first_line text
 line_breaks text i e on =
     let at = breaks (drop i text) e in
-    let front : take i text ++ (first_line (drop i text)).0 ≡ take i text = ap (λ (p : List ℕ × List ℕ). take i text ++ p.0) at ∙ append-nil (take i text) in
+    let start : take i text ++ (first_line (drop i text)).0 ≡ take i text = ap (λ (p : List ℕ × List ℕ). take i text ++ p.0) at ∙ append-nil (take i text) in
     let behind : (first_line (drop i text)).1 ≡ drop (i + 2) text = ap (λ (p : List ℕ × List ℕ). p.1) at ∙ drop-drop 2 i text in
-    (λ k. (sym front k, sym behind k)) ∙ on
+    (λ k. (sym start k, sym behind k)) ∙ on
 
 pub line_ends : (text : List ℕ) (i : ℕ) → length text ≤ i → LineOn text i → (text, []) ≡ first_line text
 unfolding first_line
 line_ends text i le on =
     let none = drop_all i text le in
     let whole = take_all i text le in
-    let front : take i text ++ (first_line (drop i text)).0 ≡ text = ap (λ (t : List ℕ). take i text ++ (first_line t).0) none ∙ append-nil (take i text) ∙ whole in
+    let start : take i text ++ (first_line (drop i text)).0 ≡ text = ap (λ (t : List ℕ). take i text ++ (first_line t).0) none ∙ append-nil (take i text) ∙ whole in
     let behind : (first_line (drop i text)).1 ≡ [] = ap (λ (t : List ℕ). (first_line t).1) none in
-    (λ k. (sym front k, sym behind k)) ∙ on
+    (λ k. (sym start k, sym behind k)) ∙ on
 
 -- ---- the parameters
 

@@ -3,8 +3,8 @@ use Rattle.std.proofs.Common.{◌≡◌, ℕ, List, [], ◌∷◌, ◌++◌, ref
 use Rattle.std.specs.List.{AllByRecursion}
 use Rattle.rtsp_transport.specs.Fitting.{fit_of}
 use Rattle.rtsp_transport.specs.Picking.{IsForeign, IsUsable, NotUsable, IsFirst, HasForeign, Picks, pick_of}
-use Rattle.rtsp_transport.specs.declared.choice.Pick.{Pick}
-use Rattle.rtsp_transport.specs.declared.choice.Pick.TheVariants.{Udp, Inter, Unsupported, Prohibited}
+use Rattle.rtsp_transport.specs.declared.picks.Pick.{Pick}
+use Rattle.rtsp_transport.specs.declared.picks.Pick.TheVariants.{Udp, Inter, Unsupported, Prohibited}
 use Rattle.rtsp_transport.specs.declared.spec.Spec.{Spec}
 use Rattle.rtsp_transport.proofs.FittingLemmas.{usable_only}
 use Rattle.rtsp_transport.proofs.PickingLemmas.{picks}

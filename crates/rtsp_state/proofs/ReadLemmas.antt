@@ -2,26 +2,20 @@
 use Rattle.std.proofs.Common.{◌≡◌, ◌⊎◌, ℕ, Bool, true, false, List, drop, Option, Some, None, Result, Ok, Err, refl, sym, ap, subst, ◌∙◌, inl, inr, eqb}
 use Rattle.std.specs.Prelude.{IsTrue, ◌↔◌, ◌&&◌}
 use Rattle.std.proofs.lemmas.Bool.{eqb-true, eq-eqb}
-use Rattle.rtsp_grammar.specs.Cut.{cut}
-use Rattle.rtsp_grammar.specs.Number.{number_of}
-use Rattle.rtsp_grammar.specs.Reading.{is_version}
-use Rattle.rtsp_grammar.specs.Version.{IsVersion, IsVersion20}
-use Rattle.rtsp_grammar.proofs.VersionLemmas.{version_found, version_cut, version_tested}
-use Rattle.rtsp_transport.specs.Number as digits
-use Rattle.rtsp_transport.specs.Number.{SpellsNumber}
+use Rattle.rtsp_text.specs.Decimal as digits
+use Rattle.rtsp_text.specs.Decimal.{SpellsNumber}
 use Rattle.rtsp_transport.specs.Session.{SpellsSession, is_session_name, name_of}
 use Rattle.rtsp_transport.specs.Reads.{Reads, Refuses, IsSpelled}
 use Rattle.rtsp_transport.specs.declared.fault.TextFault.{TextFault}
 use Rattle.rtsp_transport.specs.declared.fault.TextFault.TheVariants.{Malformed, OutOfMemory}
-use Rattle.rtsp_transport.proofs.BoolLemmas.{both_true, and_true}
-use Rattle.rtsp_transport.proofs.FindsLemmas.{sound_at}
-use Rattle.rtsp_transport.proofs.NumberLemmas.{numbers}
+use Rattle.rtsp_text.proofs.FindsLemmas.{sound_at}
+use Rattle.rtsp_text.proofs.DecimalLemmas.{numbers}
 use Rattle.rtsp_transport.proofs.SessionLemmas.{name_only, name_spelled}
 use Rattle.std.specs.Str.{IsUtf8, is_utf8}
 use Rattle.std.proofs.lemmas.Str.{IsUtf8-from_is_utf8, is_utf8-from_IsUtf8}
 use Rattle.rtsp_state.specs.declared.fault.Fault.{Fault}
 use Rattle.rtsp_state.specs.declared.fault.Fault.TheVariants as faults
-use Rattle.rtsp_state.specs.Values.{is_2_0, session_name, uri_of, rtsp_url, fault_of, read_by}
+use Rattle.rtsp_state.specs.Values.{session_name, uri_of, rtsp_url, fault_of, read_by}
 
 -- ---- numbers
 
@@ -33,36 +27,6 @@ no_number most text none = go (digits.number_of most text) refl where
   go : (o : Option ℕ) → digits.number_of most text ≡ o → digits.number_of most text ≡ None
   go None e = e
   go (Some n) e = absurd (none n (sound_at (SpellsNumber most) (digits.number_of most) (numbers most) text n e))
-
--- ---- the version
-
-tested : (text : List ℕ) → IsVersion20 text → is_2_0 text ≡ true
-unfolding is_2_0
-tested text v =
-    let at = version_cut text v.version in
-    let first : number_of (cut 46 (drop 5 text)).0 ≡ 2 = ap (λ (p : List ℕ × List ℕ). number_of p.0) at ∙ v.major in
-    let second : number_of (cut 46 (drop 5 text)).1 ≡ 0 = ap (λ (p : List ℕ × List ℕ). number_of p.1) at ∙ v.minor in
-    and_true (is_version text) _ (version_tested text v.version) (and_true (eqb (number_of (cut 46 (drop 5 text)).0) 2) (eqb (number_of (cut 46 (drop 5 text)).1) 0) (eq-eqb _ 2 first) (eq-eqb _ 0 second))
-
-told : (text : List ℕ) → is_2_0 text ≡ true → IsVersion20 text
-unfolding is_2_0
-told text e =
-    let outer = both_true (is_version text) (eqb (number_of (cut 46 (drop 5 text)).0) 2 && eqb (number_of (cut 46 (drop 5 text)).1) 0) e in
-    let inner = both_true (eqb (number_of (cut 46 (drop 5 text)).0) 2) (eqb (number_of (cut 46 (drop 5 text)).1) 0) outer.1 in
-    let v : IsVersion text = version_found text outer.0 in
-    let at : cut 46 (drop 5 text) ≡ (v.major, v.minor) = version_cut text v in
-    record {
-      version = v;
-      major = sym (ap (λ (p : List ℕ × List ℕ). number_of p.0) at) ∙ eqb-true _ 2 inner.0;
-      minor = sym (ap (λ (p : List ℕ × List ℕ). number_of p.1) at) ∙ eqb-true _ 0 inner.1;
-    }
-
-pub same_version : (text : List ℕ) (b : Bool) → IsTrue b ↔ IsVersion20 text → b ≡ is_2_0 text
-same_version text true iff = sym (tested text (iff.0 refl))
-same_version text false iff = go (is_2_0 text) refl where
-  go : (t : Bool) → is_2_0 text ≡ t → false ≡ is_2_0 text
-  go true e = iff.1 (told text e) ∙ sym e
-  go false e = sym e
 
 -- ---- names of sessions
 

@@ -1,13 +1,11 @@
 -- What each row of the state table answers, and asks for.
-use Rattle.std.proofs.Common.{◌≡◌, inl, inr, ℕ, List, [], ◌∷◌, ◌++◌, Option, Some, None, Result, refl, sym}
-use Rattle.std.specs.Prelude.{map, not, length, codes, slice_get, is_some, ◌||◌, ◌==◌, if◌then◌else◌}
+use Rattle.std.proofs.Common.{◌≡◌, ℕ, List, [], ◌∷◌, ◌++◌, Option, Some, None, Result, refl, sym}
+use Rattle.std.specs.Prelude.{not, length, codes, slice_get, is_some, ◌||◌, ◌==◌, if◌then◌else◌}
 use Rattle.std.specs.List.{list_any}
 use Rattle.std.proofs.lemmas.List.{append-nil}
 use Rattle.rtsp_grammar.specs.Header.{HeaderText}
 use Rattle.rtsp_grammar.specs.declared.message.Response.{Response}
-use Rattle.rtsp_book.specs.declared.asks.Opening.{Opening}
 use Rattle.rtsp_book.specs.Sessions.{is_ready}
-use Rattle.rtsp_state.specs.declared.words.Field.{Field}
 use Rattle.rtsp_state.specs.declared.words.Field.TheVariants as fields
 use Rattle.rtsp_state.specs.declared.method.Method.{Method}
 use Rattle.rtsp_state.specs.declared.method.Method.TheVariants as methods
@@ -15,205 +13,195 @@ use Rattle.rtsp_state.specs.declared.status.Status.{Status}
 use Rattle.rtsp_state.specs.declared.status.Status.TheVariants as statuses
 use Rattle.rtsp_state.specs.declared.fault.Fault.{Fault}
 use Rattle.rtsp_state.specs.declared.fault.Fault.TheVariants as faults
-use Rattle.rtsp_state.specs.declared.asked.Aim.{Aim}
-use Rattle.rtsp_state.specs.declared.asked.Aim.TheVariants as aims
-use Rattle.rtsp_state.specs.declared.asked.Name.{Name}
-use Rattle.rtsp_state.specs.declared.asked.Asked.{Asked}
-use Rattle.rtsp_state.specs.declared.lines.Front.{Front}
+use Rattle.rtsp_state.specs.declared.request.Target.{Target}
+use Rattle.rtsp_state.specs.declared.request.Target.TheVariants as targets
+use Rattle.rtsp_state.specs.declared.request.Name.{Name}
+use Rattle.rtsp_state.specs.declared.response_start.ResponseStart.{ResponseStart}
 use Rattle.rtsp_state.specs.declared.plan.Plan.{Plan}
 use Rattle.rtsp_state.specs.declared.plan.Plan.TheVariants as plans
-use Rattle.rtsp_state.specs.declared.plan.Stepping.{Stepping}
+use Rattle.rtsp_state.specs.declared.plan.StepPlan.{StepPlan}
 use Rattle.rtsp_state.specs.Fault.{◌>>=◌, must}
-use Rattle.rtsp_state.specs.Lines.{front_lines, public_line, unsupported_line}
-use Rattle.rtsp_state.specs.Response.{refused, gone, status_lines}
+use Rattle.rtsp_state.specs.Lines.{start_lines, public_line, unsupported_line}
+use Rattle.rtsp_state.specs.Response.{refused, without_session, status_lines}
 use Rattle.rtsp_state.specs.Values.{joined_in}
-use Rattle.rtsp_state.specs.Scene.{SceneValue, Living, streams_of, is_other, has_track, known}
+use Rattle.rtsp_state.specs.Context.{ContextValue, Living, streams_of, is_other, has_track, known}
 use Rattle.rtsp_state.specs.Options.{options}
 use Rattle.rtsp_state.specs.Describe.{describe}
-use Rattle.rtsp_state.specs.Setup.{setup, setup_track, may_set_up, pick_in, opening_of}
-use Rattle.rtsp_state.specs.Play.{play, play_presentation, reach_asked}
+use Rattle.rtsp_state.specs.Setup.{setup, setup_track, may_set_up, delivery_in, session_of}
+use Rattle.rtsp_state.specs.Play.{play, play_presentation, units_asked}
 use Rattle.rtsp_state.specs.Pause.{pause, pause_presentation}
 use Rattle.rtsp_state.specs.Teardown.{teardown, teardown_presentation, teardown_track, has_one}
 use Rattle.rtsp_state.specs.GetParameter.{get_parameter, get_parameter_body, get_parameters, parameters_in, is_position}
 use Rattle.rtsp_state.specs.SetParameter.{set_parameter}
-use Rattle.rtsp_state.specs.Decide.{in_session, row, present, cell}
-use Rattle.rtsp_state.specs.Laws.{AreAmong, ends}
+use Rattle.rtsp_state.specs.StateTable.{in_session, row, session_found, cell}
+use Rattle.rtsp_state.specs.Laws.{AreFrom, ends, session_in, SetsUpIn}
 use Rattle.rtsp_state.proofs.RuleLemmas.{Rules, Whatever, follow, either}
 
--- the fields behind the number and the session
-abbrev pub fields_behind : List Field
-fields_behind =
-    fields.Public ∷ fields.Allow ∷ fields.Unsupported ∷ fields.Transport ∷ fields.AcceptRanges ∷ fields.MediaProperties
-    ∷ fields.MediaRange ∷ fields.Range ∷ fields.SeekStyle ∷ fields.RtpInfo ∷ fields.ContentBase ∷ fields.ContentType ∷ fields.ContentLength ∷ []
-
--- behind its front a response has headers of these, in this order
-pub record Behind (front : Front) (given : Response) : Type 0 where
+-- after its start a response has headers in order, all after Session
+pub record Behind (start : ResponseStart) (given : Response) : Type 0 where
   pub lines : List HeaderText
-  pub headers : given.headers ≡ front_lines front ++ lines
-  pub order : AreAmong (map (λ h. h.name) lines) fields_behind
+  pub headers : given.headers ≡ start_lines start ++ lines
+  pub order : AreFrom 2 lines
 
--- a step is in a session, whose front is gone where the step ends it
-abbrev pub InSession : Front → Option Living → Stepping → Type 0
-InSession front None s = ⊥
-InSession front (Some v) s = s.done ≡ (if ends v s.step then gone front else front)
+-- a step is in the living session, whose start is without it where the step ends it
+abbrev pub InSession : ResponseStart → Option Living → StepPlan → Type 0
+InSession start None s = ⊥
+InSession start (Some v) s = (session_in s.step ≡ Some v.0) × (s.done ≡ (if ends v s.step then without_session start else start))
 
--- a session is opened where there is none
-abbrev pub Opens : Option Living → Option Opening → Type 0
-Opens None None = ⊥
-Opens None (Some o) = Unit {0}
-Opens (Some v) None = Unit {0}
-Opens (Some v) (Some o) = ⊥
+abbrev pub Sound : ResponseStart → Option Living → ℕ → Plan → Type 0
+Sound start view timeout (plans.Answer given) = Behind start given
+Sound start view timeout (plans.Step s) = (s.start ≡ start) × InSession start view s
+Sound start view timeout (plans.Admit a) = (a.cseq ≡ start.cseq) × (a.timeout ≡ timeout) × SetsUpIn view a.session
 
-abbrev pub Sound : Front → Option Living → ℕ → Plan → Type 0
-Sound front view timeout (plans.Answer given) = Behind front given
-Sound front view timeout (plans.Step s) = (s.front ≡ front) × InSession front view s
-Sound front view timeout (plans.Admit a) = (a.front ≡ front) × (a.timeout ≡ timeout) × Opens view a.ask.opening
-
-abbrev pub SoundRow : SceneValue → Option Living → Result Plan Fault → Type 0
-SoundRow scene view rules = Rules (Sound scene.front view scene.table.server.timeout) Whatever rules
+abbrev pub SoundRow : ContextValue → Option Living → Result Plan Fault → Type 0
+SoundRow context view rules = Rules (Sound context.start view context.table.server.timeout) Whatever rules
 
 -- ---- answers
 
-sound_options : (scene : SceneValue) (view : Option Living) → SoundRow scene view (options scene)
-sound_options scene view = record { lines = public_line ∷ []; headers = refl; order = inl (refl, tt) }
+-- no headers are in order
+pub nothing : {least : ℕ} → AreFrom least []
+nothing = record { fields = []; names = refl; ascending = refl }
 
-sound_describe : (scene : SceneValue) (view : Option Living) (aim : Aim) → SoundRow scene view (describe scene aim)
-sound_describe scene view aims.Server = tt
-sound_describe scene view aims.Star = tt
-sound_describe scene view (aims.Track base p t) = tt
-sound_describe scene view (aims.Presentation base p) =
-    follow (Sound scene.front view scene.table.server.timeout) (known (slice_get scene.table.presentations p)) _
+sound_options : (context : ContextValue) (view : Option Living) → SoundRow context view (options context)
+sound_options context view = record { lines = public_line ∷ []; headers = refl; order = record { fields = fields.Public ∷ []; names = refl; ascending = refl } }
+
+sound_describe : (context : ContextValue) (view : Option Living) (target : Target) → SoundRow context view (describe context target)
+sound_describe context view targets.Server = tt
+sound_describe context view targets.Star = tt
+sound_describe context view (targets.Track base p t) = tt
+sound_describe context view (targets.Presentation base p) =
+    follow (Sound context.start view context.table.server.timeout) (known (slice_get context.table.presentations p)) _
     λ presentation. record {
       lines = _;
       headers = refl;
-      order = inr (inr (inr (inr (inr (inr (inr (inr (inr (inr (inl (refl, inl (refl, inl (refl, tt)))))))))))));
+      order = record { fields = fields.ContentBase ∷ fields.ContentType ∷ fields.ContentLength ∷ []; names = refl; ascending = refl };
     }
 
-sound_set_parameter : (scene : SceneValue) (view : Option Living) → SoundRow scene view (set_parameter scene)
-sound_set_parameter scene view =
-    follow (Sound scene.front view scene.table.server.timeout) (must (length scene.body == 0) statuses.ParameterNotUnderstood) _
-    λ u. record { lines = []; headers = refl; order = tt }
+sound_set_parameter : (context : ContextValue) (view : Option Living) → SoundRow context view (set_parameter context)
+sound_set_parameter context view =
+    follow (Sound context.start view context.table.server.timeout) (must (length context.body == 0) statuses.ParameterNotUnderstood) _
+    λ u. record { lines = []; headers = refl; order = nothing }
 
-sound_get_parameters : (scene : SceneValue) (view : Option Living) (p : ℕ) → SoundRow scene view (get_parameters scene view p)
-sound_get_parameters scene view p =
-    follow (Sound scene.front view scene.table.server.timeout) (parameters_in 64 scene.body) _
-    λ names. follow (Sound scene.front view scene.table.server.timeout) (must (is_some view || not (list_any is_position names)) statuses.SessionNotFound) _
-    λ living. follow (Sound scene.front view scene.table.server.timeout) (known (slice_get scene.table.presentations p)) _
+sound_get_parameters : (context : ContextValue) (view : Option Living) (p : ℕ) → SoundRow context view (get_parameters context view p)
+sound_get_parameters context view p =
+    follow (Sound context.start view context.table.server.timeout) (parameters_in 64 context.body) _
+    λ names. follow (Sound context.start view context.table.server.timeout) (must (is_some view || not (list_any is_position names)) statuses.SessionNotFound) _
+    λ living. follow (Sound context.start view context.table.server.timeout) (known (slice_get context.table.presentations p)) _
     λ presentation. record {
       lines = _;
       headers = refl;
-      order = inr (inr (inr (inr (inr (inr (inr (inr (inr (inr (inr (inl (refl, inl (refl, tt)))))))))))));
+      order = record { fields = fields.ContentType ∷ fields.ContentLength ∷ []; names = refl; ascending = refl };
     }
 
-sound_get_parameter_body : (scene : SceneValue) (view : Option Living) (aim : Aim) → SoundRow scene view (get_parameter_body scene view aim)
-sound_get_parameter_body scene view (aims.Presentation base p) = sound_get_parameters scene view p
-sound_get_parameter_body scene view (aims.Track base p t) = sound_get_parameters scene view p
-sound_get_parameter_body scene view aims.Star = tt
-sound_get_parameter_body scene view aims.Server = tt
+sound_get_parameter_body : (context : ContextValue) (view : Option Living) (target : Target) → SoundRow context view (get_parameter_body context view target)
+sound_get_parameter_body context view (targets.Presentation base p) = sound_get_parameters context view p
+sound_get_parameter_body context view (targets.Track base p t) = sound_get_parameters context view p
+sound_get_parameter_body context view targets.Star = tt
+sound_get_parameter_body context view targets.Server = tt
 
-sound_get_parameter : (scene : SceneValue) (view : Option Living) (aim : Aim) → SoundRow scene view (get_parameter scene view aim)
-sound_get_parameter scene view aim =
-    either (Sound scene.front view scene.table.server.timeout) Whatever (length scene.body == 0) _ _
-    (record { lines = []; headers = refl; order = tt })
-    (sound_get_parameter_body scene view aim)
+sound_get_parameter : (context : ContextValue) (view : Option Living) (target : Target) → SoundRow context view (get_parameter context view target)
+sound_get_parameter context view target =
+    either (Sound context.start view context.table.server.timeout) Whatever (length context.body == 0) _ _
+    (record { lines = []; headers = refl; order = nothing })
+    (sound_get_parameter_body context view target)
 
 -- ---- steps
 
-sound_play_presentation : (scene : SceneValue) (v : Living) (base : List ℕ) (p : ℕ) → SoundRow scene (Some v) (play_presentation scene v base p)
-sound_play_presentation scene v base p =
-    follow (Sound scene.front (Some v) scene.table.server.timeout) (must (not (is_other p (streams_of v.1))) statuses.SessionNotFound) _
-    λ same. follow (Sound scene.front (Some v) scene.table.server.timeout) (must (not (length (streams_of v.1) == 0)) statuses.MethodNotValid) _
-    λ some. follow (Sound scene.front (Some v) scene.table.server.timeout) (known (slice_get scene.table.presentations p)) _
-    λ presentation. follow (Sound scene.front (Some v) scene.table.server.timeout) (reach_asked scene v presentation) _
-    λ reach. (refl, refl)
+sound_play_presentation : (context : ContextValue) (v : Living) (base : List ℕ) (p : ℕ) → SoundRow context (Some v) (play_presentation context v base p)
+sound_play_presentation context v base p =
+    follow (Sound context.start (Some v) context.table.server.timeout) (must (not (is_other p (streams_of v.1))) statuses.SessionNotFound) _
+    λ same. follow (Sound context.start (Some v) context.table.server.timeout) (must (not (length (streams_of v.1) == 0)) statuses.MethodNotValid) _
+    λ some. follow (Sound context.start (Some v) context.table.server.timeout) (known (slice_get context.table.presentations p)) _
+    λ presentation. follow (Sound context.start (Some v) context.table.server.timeout) (units_asked context v presentation) _
+    λ units. (refl, (refl, refl))
 
-sound_play : (scene : SceneValue) (v : Living) (aim : Aim) → SoundRow scene (Some v) (play scene v aim)
-sound_play scene v (aims.Presentation base p) = sound_play_presentation scene v base p
-sound_play scene v (aims.Track base p t) = tt
-sound_play scene v aims.Star = tt
-sound_play scene v aims.Server = tt
+sound_play : (context : ContextValue) (v : Living) (target : Target) → SoundRow context (Some v) (play context v target)
+sound_play context v (targets.Presentation base p) = sound_play_presentation context v base p
+sound_play context v (targets.Track base p t) = tt
+sound_play context v targets.Star = tt
+sound_play context v targets.Server = tt
 
-sound_pause_presentation : (scene : SceneValue) (v : Living) (p : ℕ) → SoundRow scene (Some v) (pause_presentation scene v p)
-sound_pause_presentation scene v p =
-    follow (Sound scene.front (Some v) scene.table.server.timeout) (must (not (is_other p (streams_of v.1))) statuses.SessionNotFound) _
-    λ same. follow (Sound scene.front (Some v) scene.table.server.timeout) (must (not (length (streams_of v.1) == 0)) statuses.MethodNotValid) _
-    λ some. follow (Sound scene.front (Some v) scene.table.server.timeout) (known (slice_get scene.table.presentations p)) _
-    λ presentation. (refl, refl)
+sound_pause_presentation : (context : ContextValue) (v : Living) (p : ℕ) → SoundRow context (Some v) (pause_presentation context v p)
+sound_pause_presentation context v p =
+    follow (Sound context.start (Some v) context.table.server.timeout) (must (not (is_other p (streams_of v.1))) statuses.SessionNotFound) _
+    λ same. follow (Sound context.start (Some v) context.table.server.timeout) (must (not (length (streams_of v.1) == 0)) statuses.MethodNotValid) _
+    λ some. follow (Sound context.start (Some v) context.table.server.timeout) (known (slice_get context.table.presentations p)) _
+    λ presentation. (refl, (refl, refl))
 
-sound_pause : (scene : SceneValue) (v : Living) (aim : Aim) → SoundRow scene (Some v) (pause scene v aim)
-sound_pause scene v (aims.Presentation base p) = sound_pause_presentation scene v p
-sound_pause scene v (aims.Track base p t) = tt
-sound_pause scene v aims.Star = tt
-sound_pause scene v aims.Server = tt
+sound_pause : (context : ContextValue) (v : Living) (target : Target) → SoundRow context (Some v) (pause context v target)
+sound_pause context v (targets.Presentation base p) = sound_pause_presentation context v p
+sound_pause context v (targets.Track base p t) = tt
+sound_pause context v targets.Star = tt
+sound_pause context v targets.Server = tt
 
-sound_teardown_presentation : (scene : SceneValue) (v : Living) (p : ℕ) → SoundRow scene (Some v) (teardown_presentation scene v p)
-sound_teardown_presentation scene v p =
-    follow (Sound scene.front (Some v) scene.table.server.timeout) (must (not (is_other p (streams_of v.1))) statuses.SessionNotFound) _
-    λ same. (refl, refl)
+sound_teardown_presentation : (context : ContextValue) (v : Living) (p : ℕ) → SoundRow context (Some v) (teardown_presentation context v p)
+sound_teardown_presentation context v p =
+    follow (Sound context.start (Some v) context.table.server.timeout) (must (not (is_other p (streams_of v.1))) statuses.SessionNotFound) _
+    λ same. (refl, (refl, refl))
 
-sound_teardown_track : (scene : SceneValue) (v : Living) (p t : ℕ) → SoundRow scene (Some v) (teardown_track scene v p t)
-sound_teardown_track scene v p t =
-    follow (Sound scene.front (Some v) scene.table.server.timeout) (must (not (is_other p (streams_of v.1))) statuses.SessionNotFound) _
-    λ same. follow (Sound scene.front (Some v) scene.table.server.timeout) (must (has_track t (streams_of v.1)) statuses.MethodNotValid) _
-    λ there. follow (Sound scene.front (Some v) scene.table.server.timeout) (must (is_ready v.1.phase || has_one v) statuses.MethodNotValid) _
-    λ may. (refl, refl)
+sound_teardown_track : (context : ContextValue) (v : Living) (p t : ℕ) → SoundRow context (Some v) (teardown_track context v p t)
+sound_teardown_track context v p t =
+    follow (Sound context.start (Some v) context.table.server.timeout) (must (not (is_other p (streams_of v.1))) statuses.SessionNotFound) _
+    λ same. follow (Sound context.start (Some v) context.table.server.timeout) (must (has_track t (streams_of v.1)) statuses.MethodNotValid) _
+    λ there. follow (Sound context.start (Some v) context.table.server.timeout) (must (is_ready v.1.phase || has_one v) statuses.MethodNotValid) _
+    λ may. (refl, (refl, refl))
 
-sound_teardown : (scene : SceneValue) (v : Living) (aim : Aim) → SoundRow scene (Some v) (teardown scene v aim)
-sound_teardown scene v (aims.Presentation base p) = sound_teardown_presentation scene v p
-sound_teardown scene v (aims.Track base p t) = sound_teardown_track scene v p t
-sound_teardown scene v aims.Star = tt
-sound_teardown scene v aims.Server = tt
+sound_teardown : (context : ContextValue) (v : Living) (target : Target) → SoundRow context (Some v) (teardown context v target)
+sound_teardown context v (targets.Presentation base p) = sound_teardown_presentation context v p
+sound_teardown context v (targets.Track base p t) = sound_teardown_track context v p t
+sound_teardown context v targets.Star = tt
+sound_teardown context v targets.Server = tt
 
 -- ---- admissions
 
-opens : (scene : SceneValue) (view : Option Living) → Opens view (opening_of scene view)
-opens scene None = tt
-opens scene (Some v) = tt
+set_up_in : (context : ContextValue) (view : Option Living) (name : Option Name) → SetsUpIn view (session_of context view name)
+set_up_in context None name = tt
+set_up_in context (Some v) name = refl
 
-sound_setup_track : (scene : SceneValue) (view : Option Living) (name : Option Name) (p t : ℕ) → SoundRow scene view (setup_track scene view name p t)
-sound_setup_track scene view name p t =
-    follow (Sound scene.front view scene.table.server.timeout) (may_set_up p view) _
-    λ free. follow (Sound scene.front view scene.table.server.timeout) (pick_in scene.peer (joined_in (codes "Transport") scene.headers)) _
-    λ pick. follow (Sound scene.front view scene.table.server.timeout) (known (slice_get scene.table.presentations p)) _
-    λ presentation. follow (Sound scene.front view scene.table.server.timeout) (known (slice_get presentation.tracks t)) _
-    λ track. (refl, refl, opens scene view)
+sound_setup_track : (context : ContextValue) (view : Option Living) (name : Option Name) (p t : ℕ) → SoundRow context view (setup_track context view name p t)
+sound_setup_track context view name p t =
+    follow (Sound context.start view context.table.server.timeout) (may_set_up p view) _
+    λ free. follow (Sound context.start view context.table.server.timeout) (delivery_in context.peer (joined_in (codes "Transport") context.headers)) _
+    λ delivery. follow (Sound context.start view context.table.server.timeout) (known (slice_get context.table.presentations p)) _
+    λ presentation. follow (Sound context.start view context.table.server.timeout) (known (slice_get presentation.tracks t)) _
+    λ track. (refl, refl, set_up_in context view name)
 
-sound_setup : (scene : SceneValue) (view : Option Living) (name : Option Name) (aim : Aim) → SoundRow scene view (setup scene view name aim)
-sound_setup scene view name (aims.Presentation base p) = tt
-sound_setup scene view name (aims.Track base p t) = sound_setup_track scene view name p t
-sound_setup scene view name aims.Star = tt
-sound_setup scene view name aims.Server = tt
+sound_setup : (context : ContextValue) (view : Option Living) (name : Option Name) (target : Target) → SoundRow context view (setup context view name target)
+sound_setup context view name (targets.Presentation base p) = tt
+sound_setup context view name (targets.Track base p t) = sound_setup_track context view name p t
+sound_setup context view name targets.Star = tt
+sound_setup context view name targets.Server = tt
 
 -- ---- the table
 
 -- of a row that is only for living sessions
-sound_in : (scene : SceneValue) (view : Option Living) (f : Living → Result Plan Fault) → ((v : Living) → SoundRow scene (Some v) (f v)) → SoundRow scene view (in_session view >>= f)
-sound_in scene None f sound = tt
-sound_in scene (Some v) f sound = sound v
+sound_in : (context : ContextValue) (view : Option Living) (f : Living → Result Plan Fault) → ((v : Living) → SoundRow context (Some v) (f v)) → SoundRow context view (in_session view >>= f)
+sound_in context None f sound = tt
+sound_in context (Some v) f sound = sound v
 
-sound_row : (scene : SceneValue) (method : Method) (view : Option Living) (name : Option Name) (aim : Aim) → SoundRow scene view (row scene method view name aim)
-sound_row scene methods.Options view name aim = sound_options scene view
-sound_row scene methods.Describe view name aim = sound_describe scene view aim
-sound_row scene methods.Setup view name aim = sound_setup scene view name aim
-sound_row scene methods.Teardown view name aim = sound_in scene view _ (λ v. sound_teardown scene v aim)
-sound_row scene methods.Play view name aim = sound_in scene view _ (λ v. sound_play scene v aim)
-sound_row scene methods.Pause view name aim = sound_in scene view _ (λ v. sound_pause scene v aim)
-sound_row scene methods.GetParameter view name aim = sound_get_parameter scene view aim
-sound_row scene methods.SetParameter view name aim = sound_set_parameter scene view
+sound_row : (context : ContextValue) (method : Method) (view : Option Living) (name : Option Name) (target : Target) → SoundRow context view (row context method view name target)
+sound_row context methods.Options view name target = sound_options context view
+sound_row context methods.Describe view name target = sound_describe context view target
+sound_row context methods.Setup view name target = sound_setup context view name target
+sound_row context methods.Teardown view name target = sound_in context view _ (λ v. sound_teardown context v target)
+sound_row context methods.Play view name target = sound_in context view _ (λ v. sound_play context v target)
+sound_row context methods.Pause view name target = sound_in context view _ (λ v. sound_pause context v target)
+sound_row context methods.GetParameter view name target = sound_get_parameter context view target
+sound_row context methods.SetParameter view name target = sound_set_parameter context view
 
-pub sound_cell : (scene : SceneValue) (asked : Asked) (view : Option Living) → SoundRow scene view (cell scene asked view)
-sound_cell scene asked view =
-    follow (Sound scene.front view scene.table.server.timeout) (present asked.method asked.name view) _
-    λ living. sound_row scene asked.method view asked.name asked.aim
+pub sound_cell : (context : ContextValue) (method : Method) (view : Option Living) (name : Option Name) (target : Target) → SoundRow context view (cell context method view name target)
+sound_cell context method view name target =
+    follow (Sound context.start view context.table.server.timeout) (session_found method name view) _
+    λ living. sound_row context method view name target
 
 -- ---- refusals
 
-pub behind_refused : (front : Front) (fault : Fault) → Behind front (refused front fault)
-behind_refused front (faults.Unsupported tags) = record { lines = unsupported_line tags ∷ []; headers = refl; order = inr (inr (inl (refl, tt))) }
-behind_refused front faults.OutOfMemory = record { lines = []; headers = sym (append-nil (front_lines front)); order = tt }
-behind_refused front (faults.Refused status) = record { lines = status_lines status; headers = refl; order = of_status status }
+pub behind_refused : (start : ResponseStart) (fault : Fault) → Behind start (refused start fault)
+behind_refused start (faults.Unsupported tags) = record { lines = unsupported_line tags ∷ []; headers = refl; order = record { fields = fields.Unsupported ∷ []; names = refl; ascending = refl } }
+behind_refused start faults.OutOfMemory = record { lines = []; headers = sym (append-nil (start_lines start)); order = nothing }
+behind_refused start (faults.Refused status) = record { lines = status_lines status; headers = refl; order = of_status status }
   where
-    of_status : (s : Status) → AreAmong (map (λ h. h.name) (status_lines s)) fields_behind
-    of_status statuses.MethodNotValid = inr (inl (refl, tt))
-    of_status statuses.HeaderNotValid = inr (inr (inr (inr (inl (refl, tt)))))
-    of_status other = tt
+    of_status : (s : Status) → AreFrom 2 (status_lines s)
+    of_status statuses.MethodNotValid = record { fields = fields.Allow ∷ []; names = refl; ascending = refl }
+    of_status statuses.HeaderNotValid = record { fields = fields.AcceptRanges ∷ []; names = refl; ascending = refl }
+    of_status other = nothing

@@ -6,7 +6,7 @@ use Rattle.rtsp_state.specs.declared.status.Status.TheVariants.{NotFound}
 use Rattle.rtsp_state.specs.declared.fault.Fault.{Fault}
 use Rattle.rtsp_state.specs.declared.fault.Fault.TheVariants.{Refused}
 use Rattle.rtsp_state.specs.Fault.{◌>>=◌, must}
-use Rattle.rtsp_state.specs.Scene.{known}
+use Rattle.rtsp_state.specs.Context.{known}
 
 -- what holds of the value that is given, and of the fault that it is refused for
 abbrev pub Rules : {X : Type 0} → (X → Type 0) → (Fault → Type 0) → Result X Fault → Type 0

@@ -1,83 +1,108 @@
 -- Where a response shows a session.
-use Rattle.std.proofs.Common.{◌≡◌, inl, inr, ℕ, Bool, true, false, List, [], ◌∷◌, ◌++◌, Option, Some, None, Result, Ok, Err, refl, sym, ap, subst, ◌∙◌}
-use Rattle.std.specs.Prelude.{◌↔◌, map, codes, IsSome, IsNone, if◌then◌else◌}
+use Rattle.std.proofs.Common.{◌≡◌, ℕ, suc, Bool, true, false, List, [], ◌∷◌, ◌++◌, Option, Some, None, Result, Ok, Err, refl, sym, ap, subst, arith, ◌∙◌}
+use Rattle.std.specs.Prelude.{IsTrue, nat_le, map, codes, if◌then◌else◌}
+use Rattle.std.proofs.lemmas.Bool.{and_parts, le-leb, leb-true}
 use Rattle.rtsp_grammar.specs.Header.{HeaderText, values_of, is_named}
 use Rattle.rtsp_grammar.specs.declared.message.Request.{Request}
 use Rattle.rtsp_grammar.specs.declared.message.Response.{Response}
-use Rattle.rtsp_transport.specs.Hex.{hex_text}
+use Rattle.rtsp_text.specs.Hexadecimal.{hex_text}
 use Rattle.rtsp_record.specs.declared.changes.Record.{Record}
 use Rattle.rtsp_book.specs.declared.refusals.Refusal.{Refusal}
 use Rattle.rtsp_book.specs.declared.refusals.Refusal.TheVariants as refusals
 use Rattle.rtsp_book.specs.declared.asks.Admitted.{Admitted}
-use Rattle.rtsp_book.specs.declared.asks.Opening.{Opening}
-use Rattle.rtsp_book.specs.declared.asks.Ask.{Ask}
 use Rattle.rtsp_content.specs.TableValue.{TableValue}
 use Rattle.rtsp_state.specs.declared.words.Field.{Field}
+use Rattle.rtsp_state.specs.declared.words.Field.TheVariants as fields
 use Rattle.rtsp_state.specs.declared.status.Status.TheVariants as statuses
 use Rattle.rtsp_state.specs.declared.fault.Fault.{Fault}
 use Rattle.rtsp_state.specs.declared.fault.Fault.TheVariants as faults
-use Rattle.rtsp_state.specs.declared.asked.Asked.{Asked}
-use Rattle.rtsp_state.specs.declared.asked.Name.{Name}
-use Rattle.rtsp_state.specs.declared.lines.Front.{Front}
-use Rattle.rtsp_state.specs.declared.plan.Stepping.{Stepping}
-use Rattle.rtsp_state.specs.declared.plan.Admission.{Admission}
+use Rattle.rtsp_state.specs.declared.order_of_refusals.Asked.{Asked}
+use Rattle.rtsp_state.specs.declared.response_start.ResponseStart.{ResponseStart}
+use Rattle.rtsp_state.specs.declared.plan.StepPlan.{StepPlan}
 use Rattle.rtsp_state.specs.declared.plan.Plan.{Plan}
 use Rattle.rtsp_state.specs.declared.plan.Plan.TheVariants as plans
-use Rattle.rtsp_state.specs.declared.plan.Outcome.TheVariants as outcomes
-use Rattle.rtsp_state.specs.declared.plan.Screen.{Screen}
-use Rattle.rtsp_state.specs.declared.plan.Screen.TheVariants.{Answered, Asks}
+use Rattle.rtsp_state.specs.declared.setup_plan.SessionKey.{SessionKey}
+use Rattle.rtsp_state.specs.declared.setup_plan.SetupSession.{SetupSession}
+use Rattle.rtsp_state.specs.declared.setup_plan.SetupSession.TheVariants.{New, Living as Lives}
+use Rattle.rtsp_state.specs.declared.setup_plan.SetupPlan.{SetupPlan}
+use Rattle.rtsp_state.specs.declared.request.Screen.{Screen}
+use Rattle.rtsp_state.specs.declared.request.Screen.TheVariants.{Answered, Asks}
 use Rattle.rtsp_state.specs.Words.{name_of_field, text_of}
-use Rattle.rtsp_state.specs.Asked.{cseq_of, asked_of}
+use Rattle.rtsp_state.specs.OrderOfRefusals.{cseq_of, asked_of}
+use Rattle.rtsp_state.specs.ParsedRequest.{ParsedValue}
 use Rattle.rtsp_state.specs.Status.{status_of}
-use Rattle.rtsp_state.specs.Lines.{front_lines}
-use Rattle.rtsp_state.specs.Response.{refused, turned_down, gone}
-use Rattle.rtsp_state.specs.Scene.{Living}
+use Rattle.rtsp_state.specs.Lines.{start_lines}
+use Rattle.rtsp_state.specs.Response.{refused, refusal_response, without_session}
+use Rattle.rtsp_state.specs.Context.{Living}
 use Rattle.rtsp_state.specs.Screen.{screen, screened}
-use Rattle.rtsp_state.specs.Decide.{decide, decided, settled, cell, scene_of, front_of, shown_id, ended_by, renewal_refused}
-use Rattle.rtsp_state.specs.Answer.{answer, moved, shown_lines, id_shown}
-use Rattle.rtsp_state.specs.Laws.{Asking, plan_of, AreAmong, sessions_in, shown, timed, still_shown, ends, ShowsSession}
+use Rattle.rtsp_state.specs.SetupPlan.{key_of, id_known, setup_start}
+use Rattle.rtsp_state.specs.StateTable.{decide, settled, cell, context_of, start_of, shown_id}
+use Rattle.rtsp_state.specs.Renewal.{renewal_refused}
+use Rattle.rtsp_state.specs.Answer.{step_answer, setup_answer, moved, shown_lines}
+use Rattle.rtsp_state.specs.Laws.{Asking, plan_of, index_of, is_ascending, AreFrom, sessions_in, shown, timed, still_shown, ends, left_of, session_in, StepsIn, SetsUpIn, id_in, ShowsSession}
 use Rattle.rtsp_state.proofs.RuleLemmas.{Rules, Whatever}
-use Rattle.rtsp_state.proofs.RowLemmas.{fields_behind, Behind, InSession, Opens, Sound, sound_cell, behind_refused}
+use Rattle.rtsp_state.proofs.RowLemmas.{Behind, InSession, Sound, sound_cell, behind_refused}
 use Rattle.rtsp_state.proofs.OrderLemmas.{shown_behind}
 
--- ---- what a front shows
+-- ---- what a start shows
 
--- none of the fields is Session
-abbrev AreOthers : List Field → Type 0
-AreOthers [] = Unit {0}
-AreOthers (f ∷ fs) = (is_named (name_of_field f) (codes "Session") ≡ false) × AreOthers fs
-
-others_behind : AreOthers fields_behind
+-- no field after Session is named so
+other_name : (f : Field) → IsTrue (nat_le 2 (index_of f)) → is_named (name_of_field f) (codes "Session") ≡ false
 unfolding name_of_field
-others_behind = (refl, (refl, (refl, (refl, (refl, (refl, (refl, (refl, (refl, (refl, (refl, (refl, (refl, tt)))))))))))))
+other_name fields.CSeq h = absurd cc
+other_name fields.Session h = absurd cc
+other_name fields.Public h = refl
+other_name fields.Allow h = refl
+other_name fields.Unsupported h = refl
+other_name fields.Transport h = refl
+other_name fields.AcceptRanges h = refl
+other_name fields.MediaProperties h = refl
+other_name fields.MediaRange h = refl
+other_name fields.Range h = refl
+other_name fields.SeekStyle h = refl
+other_name fields.RtpInfo h = refl
+other_name fields.ContentBase h = refl
+other_name fields.ContentType h = refl
+other_name fields.ContentLength h = refl
+
+-- what comes after such a field is after Session too
+after : (f : Field) (fs : List Field) → IsTrue (is_ascending (suc (index_of f)) fs) → IsTrue (nat_le 2 (index_of f)) → IsTrue (is_ascending 2 fs)
+after f [] later least = refl
+after f (g ∷ gs) later least =
+    let parts = and_parts (nat_le (suc (index_of f)) (index_of g)) (is_ascending (suc (index_of g)) gs) later in
+    let least_too : nat_le 2 (index_of g) ≡ true = le-leb 2 (index_of g) (omega (arith, leb-true 2 (index_of f) least, leb-true (suc (index_of f)) (index_of g) parts.0)) in
+    rw least_too parts.1
 
 -- a header of another name isn't looked at
 passed : (h : HeaderText) (hs : List HeaderText) → is_named h.name (codes "Session") ≡ false → values_of (codes "Session") hs ≡ [] → values_of (codes "Session") (h ∷ hs) ≡ []
 unfolding values_of
 passed h hs other rest = rw other rest
 
-none_among : (fs : List Field) → AreOthers fs → (lines : List HeaderText) → AreAmong (map (λ h. h.name) lines) fs → values_of (codes "Session") lines ≡ []
+none_among : (fs : List Field) (lines : List HeaderText) → map (λ h. h.name) lines ≡ map name_of_field fs → IsTrue (is_ascending 2 fs) → values_of (codes "Session") lines ≡ []
 unfolding values_of
-none_among fs others [] among = refl
-none_among [] others (h ∷ hs) among = absurd among
-none_among (f ∷ fs) others (h ∷ hs) (inl here) = passed h hs (subst (λ (n : List ℕ). is_named n (codes "Session") ≡ false) (sym here.0) others.0) (none_among fs others.1 hs here.1)
-none_among (f ∷ fs) others (h ∷ hs) (inr later) = none_among fs others.1 (h ∷ hs) later
+none_among fs [] names ascending = refl
+none_among [] (h ∷ hs) names ascending = absurd cc
+none_among (f ∷ fs) (h ∷ hs) names ascending =
+    let parts = and_parts (nat_le 2 (index_of f)) (is_ascending (suc (index_of f)) fs) ascending in
+    let here : h.name ≡ name_of_field f = cc in
+    let rest : map (λ h. h.name) hs ≡ map name_of_field fs = cc in
+    passed h hs (subst (λ (n : List ℕ). is_named n (codes "Session") ≡ false) (sym here) (other_name f parts.0)) (none_among fs hs rest (after f fs parts.1 parts.0))
 
 -- the id of a session, if any
 abbrev id_texts : Option ℕ → List (List ℕ)
 id_texts None = []
 id_texts (Some id) = hex_text 32 id ∷ []
 
-front_shows : (cseq : ℕ) (session : Option ℕ) (lines : List HeaderText) → AreAmong (map (λ h. h.name) lines) fields_behind → values_of (codes "Session") (front_lines (record { cseq = cseq; session = session }) ++ lines) ≡ id_texts session
+front_shows : (cseq : ℕ) (session : Option ℕ) (lines : List HeaderText) → AreFrom 2 lines → values_of (codes "Session") (start_lines (record { cseq = cseq; session = session }) ++ lines) ≡ id_texts session
 unfolding values_of name_of_field
-front_shows cseq None lines among = none_among fields_behind others_behind lines among
-front_shows cseq (Some id) lines among = ap (λ (rest : List (List ℕ)). hex_text 32 id ∷ rest) (none_among fields_behind others_behind lines among)
+front_shows cseq None lines among = none_among among.fields lines among.names among.ascending
+front_shows cseq (Some id) lines among = ap (λ (rest : List (List ℕ)). hex_text 32 id ∷ rest) (none_among among.fields lines among.names among.ascending)
 
-behind_shows : (front : Front) (given : Response) → Behind front given → sessions_in given ≡ id_texts front.session
-behind_shows front given b = ap (λ (hs : List HeaderText). values_of (codes "Session") hs) b.headers ∙ front_shows front.cseq front.session b.lines b.order
+behind_shows : (start : ResponseStart) (given : Response) → Behind start given → sessions_in given ≡ id_texts start.session
+behind_shows start given b = ap (λ (hs : List HeaderText). values_of (codes "Session") hs) b.headers ∙ front_shows start.cseq start.session b.lines b.order
 
-refused_shows : (front : Front) (f : Fault) → sessions_in (refused front f) ≡ id_texts front.session
-refused_shows front f = behind_shows front (refused front f) (behind_refused front f)
+refused_shows : (start : ResponseStart) (f : Fault) → sessions_in (refused start f) ≡ id_texts start.session
+refused_shows start f = behind_shows start (refused start f) (behind_refused start f)
 
 same_shown : (view : Option Living) → id_texts (shown_id view) ≡ shown view
 same_shown None = refl
@@ -85,173 +110,133 @@ same_shown (Some v) = refl
 
 -- ---- a refused step
 
-turned_shows : (front : Front) (view : Option Living) (r : Refusal) → front.session ≡ shown_id view → sessions_in (turned_down front r) ≡ still_shown view r
-turned_shows front view refusals.NoSession e = refused_shows (gone front) (faults.Refused statuses.SessionNotFound)
-turned_shows front view refusals.TooManySessions e = refused_shows front (faults.Refused (status_of refusals.TooManySessions)) ∙ ap id_texts e ∙ same_shown view
-turned_shows front view refusals.NoBandwidth e = refused_shows front (faults.Refused (status_of refusals.NoBandwidth)) ∙ ap id_texts e ∙ same_shown view
-turned_shows front view refusals.NoPair e = refused_shows front (faults.Refused (status_of refusals.NoPair)) ∙ ap id_texts e ∙ same_shown view
-turned_shows front view refusals.NoChannel e = refused_shows front (faults.Refused (status_of refusals.NoChannel)) ∙ ap id_texts e ∙ same_shown view
-turned_shows front view refusals.WrongState e = refused_shows front (faults.Refused (status_of refusals.WrongState)) ∙ ap id_texts e ∙ same_shown view
-turned_shows front view refusals.IdTaken e = refused_shows front (faults.Refused (status_of refusals.IdTaken)) ∙ ap id_texts e ∙ same_shown view
-turned_shows front view refusals.StartupTaken e = refused_shows front (faults.Refused (status_of refusals.StartupTaken)) ∙ ap id_texts e ∙ same_shown view
-turned_shows front view refusals.NotHeld e = refused_shows front (faults.Refused (status_of refusals.NotHeld)) ∙ ap id_texts e ∙ same_shown view
-turned_shows front view refusals.JournalFull e = refused_shows front (faults.Refused (status_of refusals.JournalFull)) ∙ ap id_texts e ∙ same_shown view
-turned_shows front view refusals.NothingDue e = refused_shows front (faults.Refused (status_of refusals.NothingDue)) ∙ ap id_texts e ∙ same_shown view
-turned_shows front view refusals.NumbersSpent e = refused_shows front (faults.Refused (status_of refusals.NumbersSpent)) ∙ ap id_texts e ∙ same_shown view
-turned_shows front view refusals.OutOfMemory e = refused_shows front (faults.Refused (status_of refusals.OutOfMemory)) ∙ ap id_texts e ∙ same_shown view
+turned_shows : (start : ResponseStart) (view : Option Living) (r : Refusal) → start.session ≡ shown_id view → sessions_in (refusal_response start r) ≡ still_shown view r
+turned_shows start view refusals.NoSession e = refused_shows (without_session start) (faults.Refused statuses.SessionNotFound)
+turned_shows start view refusals.TooManySessions e = refused_shows start (faults.Refused (status_of refusals.TooManySessions)) ∙ ap id_texts e ∙ same_shown view
+turned_shows start view refusals.NoBandwidth e = refused_shows start (faults.Refused (status_of refusals.NoBandwidth)) ∙ ap id_texts e ∙ same_shown view
+turned_shows start view refusals.NoPair e = refused_shows start (faults.Refused (status_of refusals.NoPair)) ∙ ap id_texts e ∙ same_shown view
+turned_shows start view refusals.NoChannel e = refused_shows start (faults.Refused (status_of refusals.NoChannel)) ∙ ap id_texts e ∙ same_shown view
+turned_shows start view refusals.WrongState e = refused_shows start (faults.Refused (status_of refusals.WrongState)) ∙ ap id_texts e ∙ same_shown view
+turned_shows start view refusals.IdTaken e = refused_shows start (faults.Refused (status_of refusals.IdTaken)) ∙ ap id_texts e ∙ same_shown view
+turned_shows start view refusals.StartupTaken e = refused_shows start (faults.Refused (status_of refusals.StartupTaken)) ∙ ap id_texts e ∙ same_shown view
+turned_shows start view refusals.NotHeld e = refused_shows start (faults.Refused (status_of refusals.NotHeld)) ∙ ap id_texts e ∙ same_shown view
+turned_shows start view refusals.JournalFull e = refused_shows start (faults.Refused (status_of refusals.JournalFull)) ∙ ap id_texts e ∙ same_shown view
+turned_shows start view refusals.NothingDue e = refused_shows start (faults.Refused (status_of refusals.NothingDue)) ∙ ap id_texts e ∙ same_shown view
+turned_shows start view refusals.NumbersSpent e = refused_shows start (faults.Refused (status_of refusals.NumbersSpent)) ∙ ap id_texts e ∙ same_shown view
+turned_shows start view refusals.OutOfMemory e = refused_shows start (faults.Refused (status_of refusals.OutOfMemory)) ∙ ap id_texts e ∙ same_shown view
 
 -- ---- what a plan knows of its session
 
-abbrev InView : Option Living → Stepping → Type 0
+abbrev InView : Option Living → StepPlan → Type 0
 InView None s = ⊥
-InView (Some v) s = id_texts s.done.session ≡ (if ends v s.step then [] else shown (Some v))
+InView (Some v) s = (session_in s.step ≡ Some v.0) × (id_texts s.done.session ≡ (if ends v s.step then [] else shown (Some v)))
 
 abbrev Planned : Option Living → ℕ → Plan → Type 0
-Planned view timeout (plans.Answer given) = Unit {0}
-Planned view timeout (plans.Step s) = (s.front.session ≡ shown_id view) × InView view s
-Planned view timeout (plans.Admit a) = (a.front.session ≡ shown_id view) × (a.timeout ≡ timeout) × Opens view a.ask.opening
+Planned view timeout (plans.Answer given) = sessions_in given ≡ shown view
+Planned view timeout (plans.Step s) = (s.start.session ≡ shown_id view) × InView view s
+Planned view timeout (plans.Admit a) = (a.timeout ≡ timeout) × SetsUpIn view a.session
 
-done_shows : (b : Bool) (front : Front) (v : Living) → front.session ≡ Some v.1.id → id_texts (if b then gone front else front).session ≡ (if b then [] else shown (Some v))
-done_shows true front v e = refl
-done_shows false front v e = ap id_texts e
+done_shows : (b : Bool) (start : ResponseStart) (v : Living) → start.session ≡ Some v.1.id → id_texts (if b then without_session start else start).session ≡ (if b then [] else shown (Some v))
+done_shows true start v e = refl
+done_shows false start v e = ap id_texts e
 
-in_view : (front : Front) (view : Option Living) (s : Stepping) → front.session ≡ shown_id view → InSession front view s → InView view s
-in_view front None s e inside = inside
-in_view front (Some v) s e inside = ap (λ (f : Front). id_texts f.session) inside ∙ done_shows (ends v s.step) front v e
+in_view : (start : ResponseStart) (view : Option Living) (s : StepPlan) → start.session ≡ shown_id view → InSession start view s → InView view s
+in_view start None s e inside = inside
+in_view start (Some v) s e inside = (inside.0, ap (λ (f : ResponseStart). id_texts f.session) inside.1 ∙ done_shows (ends v s.step) start v e)
 
-settled_planned : (front : Front) (view : Option Living) (timeout : ℕ) → front.session ≡ shown_id view → (rules : Result Plan Fault) → Rules (Sound front view timeout) Whatever rules → Planned view timeout (settled front rules)
-settled_planned front view timeout e (Err f) sound = tt
-settled_planned front view timeout e (Ok (plans.Answer given)) sound = tt
-settled_planned front view timeout e (Ok (plans.Step s)) sound = (ap (λ (f : Front). f.session) sound.0 ∙ e, in_view front view s e sound.1)
-settled_planned front view timeout e (Ok (plans.Admit a)) sound = (ap (λ (f : Front). f.session) sound.0 ∙ e, sound.1, sound.2)
-
-decided_planned : (a : Asking) (cseq : Result ℕ Fault) (asked : Result Asked Fault) → Planned a.view a.table.server.timeout (decided a.table a.request a.view a.peer a.moment cseq asked)
-decided_planned a (Err f) asked = tt
-decided_planned a (Ok cseq) (Err f) = tt
-decided_planned a (Ok cseq) (Ok asked) =
-    settled_planned (front_of cseq a.view) a.view a.table.server.timeout refl
-    (cell (scene_of a.table a.request a.peer a.moment (front_of cseq a.view)) asked a.view)
-    (sound_cell (scene_of a.table a.request a.peer a.moment (front_of cseq a.view)) asked a.view)
+settled_planned : (start : ResponseStart) (view : Option Living) (timeout : ℕ) → start.session ≡ shown_id view → (rules : Result Plan Fault) → Rules (Sound start view timeout) Whatever rules → Planned view timeout (settled start rules)
+settled_planned start view timeout e (Err f) sound = refused_shows start f ∙ ap id_texts e ∙ same_shown view
+settled_planned start view timeout e (Ok (plans.Answer given)) sound = behind_shows start given sound ∙ ap id_texts e ∙ same_shown view
+settled_planned start view timeout e (Ok (plans.Step s)) sound = (ap (λ (f : ResponseStart). f.session) sound.0 ∙ e, in_view start view s e sound.1)
+settled_planned start view timeout e (Ok (plans.Admit a)) sound = (sound.1, sound.2)
 
 plan_planned : (a : Asking) → Planned a.view a.table.server.timeout (plan_of a)
 unfolding decide
-plan_planned a = decided_planned a (cseq_of a.request.headers) (asked_of a.table a.request)
+plan_planned a =
+    let context = context_of a.table a.request a.view a.peer a.moment in
+    settled_planned (start_of a.request.cseq a.view) a.view a.table.server.timeout refl
+    (cell context a.request.method a.view a.request.name a.request.target)
+    (sound_cell context a.request.method a.view a.request.name a.request.target)
 
 planned_at : (a : Asking) (p : Plan) → plan_of a ≡ p → Planned a.view a.table.server.timeout p
 planned_at a p e = subst (λ (q : Plan). Planned a.view a.table.server.timeout q) e (plan_planned a)
 
 -- ---- steps
 
-some_in : (view : Option Living) (s : Stepping) → InView view s → IsSome view
-some_in None s inside = absurd inside
-some_in (Some v) s inside = refl
+in_the_session : (view : Option Living) (s : StepPlan) → InView view s → StepsIn view s.step
+in_the_session None s inside = inside
+in_the_session (Some v) s inside = inside.0
 
-steps_in : (a : Asking) (s : Stepping) → plan_of a ≡ plans.Step s → IsSome a.view
-steps_in a s e = some_in a.view s (planned_at a (plans.Step s) e).1
+steps_in : (a : Asking) (plan : StepPlan) → plan_of a ≡ plans.Step plan → StepsIn a.view plan.step
+steps_in a plan e = in_the_session a.view plan (planned_at a (plans.Step plan) e).1
 
-done_in : (view : Option Living) (s : Stepping) (v : Living) → InView view s → view ≡ Some v → id_texts s.done.session ≡ (if ends v s.step then [] else shown view)
-done_in view s v inside e = rw e (subst (λ (w : Option Living). InView w s) e inside)
+done_in : (view : Option Living) (s : StepPlan) (v : Living) → InView view s → view ≡ Some v → id_texts s.done.session ≡ left_of v s.step
+done_in view s v inside e = let at : InView (Some v) s = subst (λ (w : Option Living). InView w s) e inside in at.1
 
-step_done : (a : Asking) (s : Stepping) (v : Living) (receipt : List Record) → plan_of a ≡ plans.Step s → a.view ≡ Some v → sessions_in (answer (plans.Step s) (outcomes.Done receipt)) ≡ (if ends v s.step then [] else shown a.view)
-step_done a s v receipt e living = front_shows s.done.cseq s.done.session (shown_lines s.shows (moved receipt)) (shown_behind s.shows (moved receipt)) ∙ done_in a.view s v (planned_at a (plans.Step s) e).1 living
+step_done : (a : Asking) (plan : StepPlan) (v : Living) (receipt : List Record) → plan_of a ≡ plans.Step plan → a.view ≡ Some v → sessions_in (step_answer plan (Ok receipt)) ≡ left_of v plan.step
+step_done a s v receipt e living = front_shows s.done.cseq s.done.session (shown_lines s.details (moved receipt)) (shown_behind s.details (moved receipt)) ∙ done_in a.view s v (planned_at a (plans.Step s) e).1 living
 
-step_undone : (a : Asking) (s : Stepping) (r : Refusal) → plan_of a ≡ plans.Step s → sessions_in (answer (plans.Step s) (outcomes.Refused r)) ≡ still_shown a.view r
-step_undone a s r e = turned_shows s.front a.view r (planned_at a (plans.Step s) e).0
+step_undone : (a : Asking) (plan : StepPlan) (r : Refusal) → plan_of a ≡ plans.Step plan → sessions_in (step_answer plan (Err r)) ≡ still_shown a.view r
+step_undone a s r e = turned_shows s.start a.view r (planned_at a (plans.Step s) e).0
 
 -- ---- admissions
 
-opens_where : (view : Option Living) (opening : Option Opening) → Opens view opening → IsSome opening ↔ IsNone view
-opens_where None None h = absurd h
-opens_where None (Some o) h = (λ s. refl, λ n. refl)
-opens_where (Some v) None h = (λ s. absurd cc, λ n. absurd cc)
-opens_where (Some v) (Some o) h = absurd h
+sets_up : (a : Asking) (plan : SetupPlan) → plan_of a ≡ plans.Admit plan → SetsUpIn a.view plan.session
+sets_up a plan e = (planned_at a (plans.Admit plan) e).1
 
-opens : (a : Asking) (made : Admission) → plan_of a ≡ plans.Admit made → IsSome made.ask.opening ↔ IsNone a.view
-opens a made e = opens_where a.view made.ask.opening (planned_at a (plans.Admit made) e).2
-
-admitted_shows : (asked : Admission) (made : Admitted) → sessions_in (answer (plans.Admit asked) (outcomes.Admitted made)) ≡ timed (id_shown asked.ask.opening asked.front.session) asked.timeout
+admitted_shows : (plan : SetupPlan) (drawn : SessionKey) (made : Admitted) → sessions_in (setup_answer plan drawn (Ok made)) ≡ timed (key_of plan.session drawn).id plan.timeout
 unfolding values_of name_of_field text_of
-admitted_shows asked made = refl
+admitted_shows plan drawn made = refl
 
-opened : (a : Asking) (asked : Admission) (ask : Ask) (o : Opening) (made : Admitted) → plan_of a ≡ plans.Admit asked → ask.opening ≡ Some o → sessions_in (answer (plans.Admit (record asked { ask = ask })) (outcomes.Admitted made)) ≡ timed o.id a.table.server.timeout
-opened a asked ask o made e opening =
-    admitted_shows (record asked { ask = ask }) made
-    ∙ ap (λ (p : Option Opening). timed (id_shown p asked.front.session) asked.timeout) opening
-    ∙ ap (λ (t : ℕ). timed o.id t) (planned_at a (plans.Admit asked) e).1
+-- the key of a session that is opened, or lives
+same_id : (view : Option Living) (session : SetupSession) (drawn : SessionKey) → SetsUpIn view session → (key_of session drawn).id ≡ id_in view drawn
+same_id None (New expires startup) drawn h = refl
+same_id None (Lives key) drawn h = absurd h
+same_id (Some v) session drawn h = ap (λ (s : SetupSession). (key_of s drawn).id) h
 
-joined : (a : Asking) (asked : Admission) (ask : Ask) (v : Living) (made : Admitted) → plan_of a ≡ plans.Admit asked → a.view ≡ Some v → ask.opening ≡ None → sessions_in (answer (plans.Admit (record asked { ask = ask })) (outcomes.Admitted made)) ≡ timed v.1.id a.table.server.timeout
-joined a asked ask v made e living none =
-    admitted_shows (record asked { ask = ask }) made
-    ∙ ap (λ (p : Option Opening). timed (id_shown p asked.front.session) asked.timeout) none
-    ∙ ap (λ (s : Option ℕ). timed (id_shown None s) asked.timeout) ((planned_at a (plans.Admit asked) e).0 ∙ ap shown_id living)
-    ∙ ap (λ (t : ℕ). timed v.1.id t) (planned_at a (plans.Admit asked) e).1
+set_up : (a : Asking) (plan : SetupPlan) (drawn : SessionKey) (made : Admitted) → plan_of a ≡ plans.Admit plan → sessions_in (setup_answer plan drawn (Ok made)) ≡ timed (id_in a.view drawn) a.table.server.timeout
+set_up a plan drawn made e =
+    admitted_shows plan drawn made
+    ∙ ap (λ (id : ℕ). timed id plan.timeout) (same_id a.view plan.session drawn (planned_at a (plans.Admit plan) e).1)
+    ∙ ap (λ (t : ℕ). timed (id_in a.view drawn) t) (planned_at a (plans.Admit plan) e).0
 
-refused_admission : (a : Asking) (asked : Admission) (ask : Ask) (r : Refusal) → plan_of a ≡ plans.Admit asked → sessions_in (answer (plans.Admit (record asked { ask = ask })) (outcomes.Refused r)) ≡ still_shown a.view r
-refused_admission a asked ask r e = turned_shows asked.front a.view r (planned_at a (plans.Admit asked) e).0
+same_start : (view : Option Living) (session : SetupSession) → SetsUpIn view session → id_known session ≡ shown_id view
+same_start None (New expires startup) h = refl
+same_start None (Lives key) h = absurd h
+same_start (Some v) session h = ap id_known h
 
--- ---- answers as they stand
+refused_setup : (a : Asking) (plan : SetupPlan) (drawn : SessionKey) (r : Refusal) → plan_of a ≡ plans.Admit plan → sessions_in (setup_answer plan drawn (Err r)) ≡ still_shown a.view r
+refused_setup a plan drawn r e = turned_shows (setup_start plan) a.view r (same_start a.view plan.session (planned_at a (plans.Admit plan) e).1)
+
+-- ---- answers at once
 
 abbrev NoneIf : Screen → Type 0
 NoneIf (Answered given) = sessions_in given ≡ []
-NoneIf (Asks name) = Unit {0}
+NoneIf (Asks parsed) = Unit {0}
 
-screened_none : (cseq : Result ℕ Fault) (asked : Result Asked Fault) → NoneIf (screened cseq asked)
+screened_none : (request : Request) (cseq : Result ℕ Fault) (asked : Result Asked Fault) → NoneIf (screened request cseq asked)
 unfolding values_of
-screened_none (Err f) asked = refl
-screened_none (Ok cseq) (Err f) = refused_shows (record { cseq = cseq; session = None }) f
-screened_none (Ok cseq) (Ok asked) = tt
+screened_none request (Err f) asked = refl
+screened_none request (Ok cseq) (Err f) = refused_shows (record { cseq = cseq; session = None }) f
+screened_none request (Ok cseq) (Ok asked) = tt
 
 screen_none : (table : TableValue) (request : Request) (given : Response) → screen table request ≡ Answered given → sessions_in given ≡ []
 unfolding screen
-screen_none table request given e = subst (λ (s : Screen). NoneIf s) e (screened_none (cseq_of request.headers) (asked_of table request))
+screen_none table request given e = subst (λ (s : Screen). NoneIf s) e (screened_none request (cseq_of request.headers) (asked_of table request))
 
-ended_shows : (result : Result ℕ Fault) (cseq : ℕ) (view : Option Living) (r : Refusal) → result ≡ Ok cseq → sessions_in (ended_by result view r) ≡ still_shown view r
-ended_shows (Ok n) cseq view r e = turned_shows (front_of n view) view r refl
-ended_shows (Err f) cseq view r e = absurd cc
-
-renewal_shows : (request : Request) (cseq : ℕ) (view : Option Living) (r : Refusal) → cseq_of request.headers ≡ Ok cseq → sessions_in (renewal_refused request view r) ≡ still_shown view r
+renewal_shows : (request : ParsedValue) (view : Living) (r : Refusal) → sessions_in (renewal_refused request view r) ≡ still_shown (Some view) r
 unfolding renewal_refused
-renewal_shows request cseq view r e = ended_shows (cseq_of request.headers) cseq view r e
-
-abbrev ShownIf : Option Living → Plan → Type 0
-ShownIf view (plans.Answer given) = sessions_in given ≡ shown view
-ShownIf view (plans.Step s) = Unit {0}
-ShownIf view (plans.Admit a) = Unit {0}
-
-settled_shown : (front : Front) (view : Option Living) (timeout : ℕ) → front.session ≡ shown_id view → (rules : Result Plan Fault) → Rules (Sound front view timeout) Whatever rules → ShownIf view (settled front rules)
-settled_shown front view timeout e (Err f) sound = refused_shows front f ∙ ap id_texts e ∙ same_shown view
-settled_shown front view timeout e (Ok (plans.Answer given)) sound = behind_shows front given sound ∙ ap id_texts e ∙ same_shown view
-settled_shown front view timeout e (Ok (plans.Step s)) sound = tt
-settled_shown front view timeout e (Ok (plans.Admit a)) sound = tt
-
-abbrev IsAsking : Screen → Type 0
-IsAsking (Answered given) = ⊥
-IsAsking (Asks name) = Unit {0}
-
-decided_shown : (a : Asking) (cseq : Result ℕ Fault) (asked : Result Asked Fault) → IsAsking (screened cseq asked) → ShownIf a.view (decided a.table a.request a.view a.peer a.moment cseq asked)
-decided_shown a (Err f) asked asks = absurd asks
-decided_shown a (Ok cseq) (Err f) asks = absurd asks
-decided_shown a (Ok cseq) (Ok asked) asks =
-    settled_shown (front_of cseq a.view) a.view a.table.server.timeout refl
-    (cell (scene_of a.table a.request a.peer a.moment (front_of cseq a.view)) asked a.view)
-    (sound_cell (scene_of a.table a.request a.peer a.moment (front_of cseq a.view)) asked a.view)
-
-plan_shown : (a : Asking) (name : Option Name) (given : Response) → screen a.table a.request ≡ Asks name → plan_of a ≡ plans.Answer given → sessions_in given ≡ shown a.view
-unfolding decide screen
-plan_shown a name given asks e =
-    let asking : IsAsking (screened (cseq_of a.request.headers) (asked_of a.table a.request)) = subst (λ (s : Screen). IsAsking s) (sym asks) tt in
-    subst (λ (p : Plan). ShownIf a.view p) e (decided_shown a (cseq_of a.request.headers) (asked_of a.table a.request) asking)
+renewal_shows request view r = turned_shows (start_of request.cseq (Some view)) (Some view) r refl
 
 pub shows_session : ShowsSession
 shows_session = record {
   screened = screen_none;
   renewal = renewal_shows;
-  planned = plan_shown;
+  planned = λ a given e. planned_at a (plans.Answer given) e;
   steps_in = steps_in;
   done = step_done;
   undone = step_undone;
-  opens = opens;
-  opened = opened;
-  joined = joined;
-  refused_admission = refused_admission;
+  sets_up = sets_up;
+  set_up = set_up;
+  refused_setup = refused_setup;
 }

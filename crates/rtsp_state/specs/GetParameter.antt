@@ -6,9 +6,9 @@ use Rattle.rtsp_record.specs.Moments.{point}
 use Rattle.rtsp_state.specs.declared.status.Status.TheVariants.{BadRequest, ParameterNotUnderstood, SessionNotFound}
 use Rattle.rtsp_state.specs.declared.fault.Fault.{Fault}
 use Rattle.rtsp_state.specs.declared.fault.Fault.TheVariants.{Refused}
-use Rattle.rtsp_state.specs.declared.asked.Aim.{Aim}
-use Rattle.rtsp_state.specs.declared.asked.Aim.TheVariants as aims
-use Rattle.rtsp_state.specs.declared.lines.Timing.{Timing}
+use Rattle.rtsp_state.specs.declared.request.Target.{Target}
+use Rattle.rtsp_state.specs.declared.request.Target.TheVariants as targets
+use Rattle.rtsp_state.specs.declared.timing.Timing.{Timing}
 use Rattle.rtsp_state.specs.declared.words.Word.TheVariants as words
 use Rattle.rtsp_state.specs.declared.parameters.Parameter.{Parameter}
 use Rattle.rtsp_state.specs.declared.parameters.Parameter.TheVariants.{Position, Duration}
@@ -16,7 +16,7 @@ use Rattle.rtsp_state.specs.declared.plan.Plan.{Plan}
 use Rattle.rtsp_state.specs.Fault.{◌>>=◌, must}
 use Rattle.rtsp_state.specs.Words.{text_of}
 use Rattle.rtsp_state.specs.Lines.{type_line, length_line}
-use Rattle.rtsp_state.specs.Scene.{SceneValue, Living, timing_of, known, plainly}
+use Rattle.rtsp_state.specs.Context.{ContextValue, Living, timing_of, known, plainly}
 
 -- the first line of a text, without its CR LF, and what stands behind it; without CR LF the whole is the line
 unfoldable pub first_line : List ℕ → List ℕ × List ℕ
@@ -53,23 +53,23 @@ is_position Position = true
 is_position Duration = false
 
 -- the point of the session
-abbrev pub point_of : SceneValue → Option Living → ℕ → ℕ
-point_of scene (Some view) unit_ms = point view.1.phase unit_ms scene.moment
-point_of scene None unit_ms = 0
+abbrev pub point_of : ContextValue → Option Living → ℕ → ℕ
+point_of context (Some view) unit_ms = point view.1.phase unit_ms context.moment
+point_of context None unit_ms = 0
 
-abbrev pub get_parameters : SceneValue → Option Living → ℕ → Result Plan Fault
-get_parameters scene view p = do
-  names ← parameters_in 64 scene.body
+abbrev pub get_parameters : ContextValue → Option Living → ℕ → Result Plan Fault
+get_parameters context view p = do
+  names ← parameters_in 64 context.body
   living ← must (is_some view || not (list_any is_position names)) SessionNotFound
-  presentation ← known (slice_get scene.table.presentations p)
-  let body = parameters_body (timing_of presentation) (point_of scene view presentation.unit_ms) names in
-      Ok (plainly scene (type_line words.Parameters ∷ length_line body ∷ []) body)
+  presentation ← known (slice_get context.table.presentations p)
+  let body = parameters_body (timing_of presentation) (point_of context view presentation.unit_ms) names in
+      Ok (plainly context (type_line words.Parameters ∷ length_line body ∷ []) body)
 
-abbrev pub get_parameter_body : SceneValue → Option Living → Aim → Result Plan Fault
-get_parameter_body scene view (aims.Presentation base p) = get_parameters scene view p
-get_parameter_body scene view (aims.Track base p t) = get_parameters scene view p
-get_parameter_body scene view aims.Star = Err (Refused BadRequest)
-get_parameter_body scene view aims.Server = Err (Refused BadRequest)
+abbrev pub get_parameter_body : ContextValue → Option Living → Target → Result Plan Fault
+get_parameter_body context view (targets.Presentation base p) = get_parameters context view p
+get_parameter_body context view (targets.Track base p t) = get_parameters context view p
+get_parameter_body context view targets.Star = Err (Refused BadRequest)
+get_parameter_body context view targets.Server = Err (Refused BadRequest)
 
-abbrev pub get_parameter : SceneValue → Option Living → Aim → Result Plan Fault
-get_parameter scene view aim = if length scene.body == 0 then Ok (plainly scene [] []) else get_parameter_body scene view aim
+abbrev pub get_parameter : ContextValue → Option Living → Target → Result Plan Fault
+get_parameter context view target = if length context.body == 0 then Ok (plainly context [] []) else get_parameter_body context view target

@@ -1,12 +1,10 @@
 -- The headers of a response (RFC 7826 section 18).
 use Rattle.std.specs.Prelude.{◌≡◌, ℕ, ◌+◌, ◌≤◌, List, [], ◌∷◌, ◌++◌, length, decimal, vec_capacity, Option, Some, None}
-use Rattle.std.specs.List.{AllByRecursion}
 use Rattle.rtsp_grammar.specs.Header.{HeaderText}
-use Rattle.rtsp_grammar.specs.Draft.{size, Takes, HasRoom}
-use Rattle.rtsp_transport.specs.Hex.{hex_text}
+use Rattle.rtsp_text.specs.Hexadecimal.{hex_text}
 use Rattle.rtsp_transport.specs.Granted.{transport_text}
-use Rattle.rtsp_transport.specs.declared.granted.Granted.{Granted}
-use Rattle.rtsp_transport.specs.declared.granted.Granted.TheVariants.{Udp, Inter}
+use Rattle.rtsp_transport.specs.declared.write.Granted.{Granted}
+use Rattle.rtsp_transport.specs.declared.write.Granted.TheVariants.{Udp, Inter}
 use Rattle.rtsp_npt.specs.Printed.{time_text, range_text}
 use Rattle.rtsp_record.specs.declared.holdings.Thing.{Thing}
 use Rattle.rtsp_record.specs.declared.holdings.Thing.TheVariants.{Pair, Chan, Rate}
@@ -15,9 +13,8 @@ use Rattle.rtsp_state.specs.Words.{name_of_field, text_of}
 use Rattle.rtsp_state.specs.declared.words.Field.TheVariants as fields
 use Rattle.rtsp_state.specs.declared.words.Word.{Word}
 use Rattle.rtsp_state.specs.declared.words.Word.TheVariants as words
-use Rattle.rtsp_state.specs.declared.lines.Lines.{Lines}
-use Rattle.rtsp_state.specs.declared.lines.Front.{Front}
-use Rattle.rtsp_state.specs.declared.lines.Timing.{Timing}
+use Rattle.rtsp_state.specs.declared.response_start.ResponseStart.{ResponseStart}
+use Rattle.rtsp_state.specs.declared.timing.Timing.{Timing}
 
 -- the request's number, as a number
 abbrev pub cseq_line : ℕ → HeaderText
@@ -48,7 +45,8 @@ accept_ranges_line = record { name = name_of_field fields.AcceptRanges; value = 
 
 -- a play may start at each unit; the media doesn't change, and is there for ever
 abbrev pub properties_line : ℕ → HeaderText
-properties_line unit_ms = record { name = name_of_field fields.MediaProperties; value = text_of words.RandomAccess ++ time_text 1 unit_ms ++ text_of words.Immutable }
+properties_line unit_ms =
+    record { name = name_of_field fields.MediaProperties; value = text_of words.RandomAccess ++ time_text 1 unit_ms ++ text_of words.Immutable }
 
 -- the whole of the media
 abbrev pub media_range_line : Timing → HeaderText
@@ -92,26 +90,5 @@ session_lines None = []
 session_lines (Some id) = session_line id ∷ []
 
 -- what stands first in each response
-abbrev pub front_lines : Front → List HeaderText
-front_lines front = cseq_line front.cseq ∷ session_lines front.session
-
--- a header was added, within its room
-abbrev pub Puts : Lines → Lines → HeaderText → Type 0
-Puts old new h = Takes old.draft new.draft h × (vec_capacity old.value ≤ vec_capacity new.value)
-
--- there is room for a header and its value
-abbrev pub Fits : Lines → HeaderText → Type 0
-Fits lines h = HasRoom lines.draft h × (length h.value ≤ vec_capacity lines.value)
-
--- the bytes of headers together
-abbrev pub size_all : List HeaderText → ℕ
-size_all [] = 0
-size_all (h ∷ hs) = size h + size_all hs
-
--- the headers were added, within their room
-abbrev pub PutsAll : Lines → Lines → List HeaderText → Type 0
-PutsAll old new hs = (new.draft.headers ≡ old.draft.headers ++ hs) × (old.draft.lines ≤ new.draft.lines + length hs) × (old.draft.bytes ≤ new.draft.bytes + size_all hs) × (vec_capacity old.value ≤ vec_capacity new.value)
-
--- there is room for all of them: how many, how many bytes together, and how long a value may be
-abbrev pub FitsAll : Lines → List HeaderText → Type 0
-FitsAll lines hs = (length hs ≤ lines.draft.lines) × (size_all hs ≤ lines.draft.bytes) × AllByRecursion (λ h. length h.value ≤ vec_capacity lines.value) hs
+abbrev pub start_lines : ResponseStart → List HeaderText
+start_lines start = cseq_line start.cseq ∷ session_lines start.session

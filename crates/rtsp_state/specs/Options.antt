@@ -3,7 +3,7 @@ use Rattle.std.specs.Prelude.{[], ◌∷◌, Result, Ok}
 use Rattle.rtsp_state.specs.declared.fault.Fault.{Fault}
 use Rattle.rtsp_state.specs.declared.plan.Plan.{Plan}
 use Rattle.rtsp_state.specs.Lines.{public_line}
-use Rattle.rtsp_state.specs.Scene.{SceneValue, plainly}
+use Rattle.rtsp_state.specs.Context.{ContextValue, plainly}
 
-abbrev pub options : SceneValue → Result Plan Fault
-options scene = Ok (plainly scene (public_line ∷ []) [])
+abbrev pub options : ContextValue → Result Plan Fault
+options context = Ok (plainly context (public_line ∷ []) [])

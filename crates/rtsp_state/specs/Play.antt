@@ -3,8 +3,8 @@ use Rattle.std.specs.Prelude.{ℕ, ◌+◌, ◌==◌, not, List, [], ◌∷◌, 
 use Rattle.rtsp_state.specs.declared.status.Status.TheVariants.{BadRequest, SessionNotFound, MethodNotValid, HeaderNotValid, InvalidRange, OnlyAggregateAllowed}
 use Rattle.rtsp_state.specs.declared.fault.Fault.{Fault}
 use Rattle.rtsp_state.specs.declared.fault.Fault.TheVariants.{Refused}
-use Rattle.rtsp_state.specs.declared.asked.Aim.{Aim}
-use Rattle.rtsp_state.specs.declared.asked.Aim.TheVariants as aims
+use Rattle.rtsp_state.specs.declared.request.Target.{Target}
+use Rattle.rtsp_state.specs.declared.request.Target.TheVariants as targets
 use Rattle.rtsp_state.specs.declared.plan.Plan.{Plan}
 use Rattle.rtsp_state.specs.declared.plan.Plan.TheVariants as plans
 use Rattle.rtsp_state.specs.Fault.{◌>>=◌, must}
@@ -20,11 +20,11 @@ use Rattle.rtsp_npt.specs.declared.fault.OutOfMedia.{OutOfMedia}
 use Rattle.rtsp_content.specs.PresentationValue.{PresentationValue}
 use Rattle.rtsp_content.specs.TrackValue.{TrackValue}
 use Rattle.rtsp_book.specs.declared.steps.Step.TheVariants as steps
-use Rattle.rtsp_state.specs.declared.play.Reach.{Reach}
-use Rattle.rtsp_state.specs.declared.plan.Part.{Part}
-use Rattle.rtsp_state.specs.declared.plan.Shows.TheVariants as shows
-use Rattle.rtsp_state.specs.Values.{one}
-use Rattle.rtsp_state.specs.Scene.{SceneValue, Living, streams_of, is_other, timing_of, known}
+use Rattle.rtsp_state.specs.declared.play.Units.{Units}
+use Rattle.rtsp_state.specs.declared.plan.StreamInfo.{StreamInfo}
+use Rattle.rtsp_state.specs.declared.plan.Details.TheVariants as details
+use Rattle.rtsp_state.specs.Values.{single_value}
+use Rattle.rtsp_state.specs.Context.{ContextValue, Living, streams_of, is_other, timing_of, known}
 
 -- no Range header is the rest of the media; another unit than npt, a malformed text and `now` are refused
 abbrev pub fault_of : RangeFault → Fault
@@ -48,48 +48,48 @@ from_of (ranges.Until stop) from = None
 from_of (ranges.Between start stop) from = Some from
 
 -- the units that are asked for lie in the media
-abbrev pub reach_of : Range → Result (ℕ × ℕ) OutOfMedia → Result Reach Fault
-reach_of range (Ok units) = Ok (record { from = from_of range units.0; stop = units.1 })
-reach_of range (Err outside) = Err (Refused InvalidRange)
+abbrev pub units_in : Range → Result (ℕ × ℕ) OutOfMedia → Result Units Fault
+units_in range (Ok units) = Ok (record { from = from_of range units.0; stop = units.1 })
+units_in range (Err outside) = Err (Refused InvalidRange)
 
-abbrev pub reach_asked : SceneValue → Living → PresentationValue → Result Reach Fault
-reach_asked scene view p = do
-  value ← one (codes "Range") scene.headers
+abbrev pub units_asked : ContextValue → Living → PresentationValue → Result Units Fault
+units_asked context view p = do
+  value ← single_value (codes "Range") context.headers
   range ← range_in value
-  reach_of range (units_of range (point view.1.phase p.unit_ms scene.moment) p.unit_ms p.units)
+  units_in range (units_of range (point view.1.phase p.unit_ms context.moment) p.unit_ms p.units)
 
 -- the stream of a track
 abbrev pub stream_of : ℕ → List Stream → Option Stream
 stream_of t [] = None
 stream_of t (s ∷ ss) = if s.track == t then Some s else stream_of t ss
 
-abbrev pub part_of : List ℕ → TrackValue → Stream → Part
-part_of base t s = record { url = base ++ t.name; ssrc = s.ssrc; seq = s.seq; rtptime = s.rtptime; ticks = t.ticks }
+abbrev pub stream_info : List ℕ → TrackValue → Stream → StreamInfo
+stream_info base t s = record { url = base ++ t.name; ssrc = s.ssrc; seq = s.seq; rtptime = s.rtptime; ticks = t.ticks }
 
-abbrev pub parts_at : List ℕ → TrackValue → Option Stream → List Part
-parts_at base t None = []
-parts_at base t (Some s) = part_of base t s ∷ []
+abbrev pub stream_info_at : List ℕ → TrackValue → Option Stream → List StreamInfo
+stream_info_at base t None = []
+stream_info_at base t (Some s) = stream_info base t s ∷ []
 
 -- one part a stream, in the order of the tracks, which are counted from i
-abbrev pub parts_from : List ℕ → List Stream → ℕ → List TrackValue → List Part
-parts_from base streams i [] = []
-parts_from base streams i (t ∷ ts) = parts_at base t (stream_of i streams) ++ parts_from base streams (i + 1) ts
+abbrev pub rtp_info_from : List ℕ → List Stream → ℕ → List TrackValue → List StreamInfo
+rtp_info_from base streams i [] = []
+rtp_info_from base streams i (t ∷ ts) = stream_info_at base t (stream_of i streams) ++ rtp_info_from base streams (i + 1) ts
 
-abbrev pub play_presentation : SceneValue → Living → List ℕ → ℕ → Result Plan Fault
-play_presentation scene view base p = do
+abbrev pub play_presentation : ContextValue → Living → List ℕ → ℕ → Result Plan Fault
+play_presentation context view base p = do
   same ← must (not (is_other p (streams_of view.1))) SessionNotFound
   some ← must (not (length (streams_of view.1) == 0)) MethodNotValid
-  presentation ← known (slice_get scene.table.presentations p)
-  reach ← reach_asked scene view presentation
+  presentation ← known (slice_get context.table.presentations p)
+  units ← units_asked context view presentation
   Ok (plans.Step (record {
-    front = scene.front;
-    done = scene.front;
-    step = steps.Play view.0 reach.from reach.stop presentation.unit_ms scene.moment;
-    shows = shows.Played (timing_of presentation) (parts_from base (streams_of view.1) 0 presentation.tracks);
+    start = context.start;
+    done = context.start;
+    step = steps.Play (record { session = view.0; from = units.from; stop = units.stop; unit_ms = presentation.unit_ms; now = context.moment });
+    details = details.Played (timing_of presentation) (rtp_info_from base (streams_of view.1) 0 presentation.tracks);
   }))
 
-abbrev pub play : SceneValue → Living → Aim → Result Plan Fault
-play scene view (aims.Track base p t) = Err (Refused OnlyAggregateAllowed)
-play scene view (aims.Presentation base p) = play_presentation scene view base p
-play scene view aims.Server = Err (Refused BadRequest)
-play scene view aims.Star = Err (Refused BadRequest)
+abbrev pub play : ContextValue → Living → Target → Result Plan Fault
+play context view (targets.Track base p t) = Err (Refused OnlyAggregateAllowed)
+play context view (targets.Presentation base p) = play_presentation context view base p
+play context view targets.Server = Err (Refused BadRequest)
+play context view targets.Star = Err (Refused BadRequest)

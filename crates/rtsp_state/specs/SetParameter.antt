@@ -4,10 +4,10 @@ use Rattle.rtsp_state.specs.declared.status.Status.TheVariants.{ParameterNotUnde
 use Rattle.rtsp_state.specs.declared.fault.Fault.{Fault}
 use Rattle.rtsp_state.specs.declared.plan.Plan.{Plan}
 use Rattle.rtsp_state.specs.Fault.{◌>>=◌, must}
-use Rattle.rtsp_state.specs.Scene.{SceneValue, plainly}
+use Rattle.rtsp_state.specs.Context.{ContextValue, plainly}
 
 -- no parameter can be set
-abbrev pub set_parameter : SceneValue → Result Plan Fault
-set_parameter scene = do
-  empty ← must (length scene.body == 0) ParameterNotUnderstood
-  Ok (plainly scene [] [])
+abbrev pub set_parameter : ContextValue → Result Plan Fault
+set_parameter context = do
+  empty ← must (length context.body == 0) ParameterNotUnderstood
+  Ok (plainly context [] [])

@@ -3,10 +3,7 @@ use Rattle.std.specs.Prelude.{ℕ, ◌-◌, Bool, not, ◌&&◌, ◌||◌, ◌==
 use Rattle.std.specs.List.{list_all, flat_map}
 use Rattle.std.specs.Str.{is_utf8}
 use Rattle.std.specs.Str.Parse.{digits_value}
-use Rattle.rtsp_grammar.specs.Cut.{cut}
 use Rattle.rtsp_grammar.specs.Header.{HeaderText, values_of}
-use Rattle.rtsp_grammar.specs.Number.{number_of}
-use Rattle.rtsp_grammar.specs.Reading.{is_version}
 use Rattle.rtsp_transport.specs.Session.{is_session_name, name_of}
 use Rattle.rtsp_transport.specs.Tags.{is_known, tags_of}
 use Rattle.rtsp_transport.specs.TransportReading.{transports_of}
@@ -22,11 +19,11 @@ use Rattle.rtsp_state.specs.declared.fault.Fault.{Fault}
 use Rattle.rtsp_state.specs.declared.fault.Fault.TheVariants.{Refused, OutOfMemory}
 
 -- the value of a header that may stand once
-abbrev pub one_of : List (List ℕ) → Result (Option (List ℕ)) Fault
-one_of values = if nat_lt 1 (length values) then Err (Refused BadRequest) else Ok (slice_get values 0)
+abbrev pub single_of : List (List ℕ) → Result (Option (List ℕ)) Fault
+single_of values = if nat_lt 1 (length values) then Err (Refused BadRequest) else Ok (slice_get values 0)
 
-abbrev pub one : List ℕ → List HeaderText → Result (Option (List ℕ)) Fault
-one name headers = one_of (values_of name headers)
+abbrev pub single_value : List ℕ → List HeaderText → Result (Option (List ℕ)) Fault
+single_value name headers = single_of (values_of name headers)
 
 -- a text behind a comma and a space
 abbrev pub behind_comma : List ℕ → List ℕ
@@ -44,10 +41,6 @@ joined_of (value ∷ values) = Some (joined (value ∷ values))
 
 abbrev pub joined_in : List ℕ → List HeaderText → Option (List ℕ)
 joined_in name headers = joined_of (values_of name headers)
-
--- the numbers of a version are 2 and 0; leading zeros count for nothing
-unfoldable pub is_2_0 : List ℕ → Bool
-is_2_0 text = is_version text && (number_of (cut 46 (drop 5 text)).0 == 2 && number_of (cut 46 (drop 5 text)).1 == 0)
 
 -- the digits 0 to 9 and a to f
 abbrev pub is_hex_digit : ℕ → Bool

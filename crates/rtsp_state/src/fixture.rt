@@ -1,9 +1,9 @@
-//! What the tests stand on: the example configuration, a book with sessions in each state, and requests.
+//! What the tests share: the example configuration, a book with sessions in each state, and requests.
 
-use rtsp_book::{Kept, PlainBook, Refusal, Step};
+use rtsp_book::{ChannelHold, Commit, Kept, Life, PlainBook, Play, Refusal, Step};
 use rtsp_content::Table;
-use rtsp_grammar::{Draft, Request, Text};
-use rtsp_record::{Stream, Whole};
+use rtsp_grammar::{HeadersBuilder, Method, Request, Text, Version};
+use rtsp_record::{Id, Stream, Whole};
 use std::alloc::{AllocError, Global};
 use std::test::Fail;
 
@@ -74,12 +74,12 @@ pub fn stream(presentation: u16, track: u16, ssrc: u32) -> Stream {
 fn open(kept: &mut Kept<PlainBook>, session: u64) -> Result<(), Refusal> {
     kept.act(
         0,
-        &Step::Open {
+        &Step::Open(Life {
             session,
-            id: u128::from(session),
+            id: Id::new(u128::from(session)),
             conn: 1,
             expires: 60_000,
-        },
+        }),
     )?;
     Ok(())
 }
@@ -100,21 +100,21 @@ fn set_up(
     )?;
     kept.act(
         0,
-        &Step::HoldChan {
+        &Step::HoldChan(ChannelHold {
             session,
             admission,
             conn: 1,
             wish: None,
-        },
+        }),
     )?;
     kept.act(
         0,
-        &Step::Commit {
+        &Step::Commit(Commit {
             session,
             admission,
             stream,
             startup: None,
-        },
+        }),
     )?;
     Ok(())
 }
@@ -123,13 +123,13 @@ fn set_up(
 fn play(kept: &mut Kept<PlainBook>, session: u64) -> Result<(), Refusal> {
     kept.act(
         0,
-        &Step::Play {
+        &Step::Play(Play {
             session,
             from: None,
             stop: 500,
             unit_ms: 20,
             now: 0,
-        },
+        }),
     )?;
     Ok(())
 }
@@ -175,7 +175,7 @@ pub fn request(
     range: &str,
     body: &str,
 ) -> Result<Request, AllocError> {
-    let mut draft = Draft::new(alloc);
+    let mut draft = HeadersBuilder::new(alloc);
     draft.push(b"CSeq", b"1")?;
     if !session.is_empty() {
         draft.push(b"Session", session.as_bytes())?;
@@ -185,9 +185,9 @@ pub fn request(
         draft.push(b"Range", range.as_bytes())?;
     }
     Ok(Request {
-        method: Text::from_slice(alloc, line.0.as_bytes())?,
+        method: Method::from_slice(alloc, line.0.as_bytes())?,
         uri: Text::from_slice(alloc, line.1.as_bytes())?,
-        version: Text::fixed(b"RTSP/2.0"),
+        version: Version::Rtsp2,
         headers: draft.into_headers(),
         body: Text::from_slice(alloc, body.as_bytes())?,
     })

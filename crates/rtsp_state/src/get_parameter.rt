@@ -1,71 +1,72 @@
 //! GET_PARAMETER (RFC 7826 section 13.8).
 
-ghost use Rattle.std.specs.Prelude.{◌≡◌, option_map, not, ◌<◌};
+ghost use Rattle.std.specs.Prelude.{◌≡◌, option_map, not, ◌<◌, IfOk};
 ghost use Rattle.rtsp_state.specs.Fault.{Gives};
-ghost use Rattle.rtsp_state.specs.Scene.{seen};
+ghost use Rattle.rtsp_state.specs.Conduct.{IsConducted};
+ghost use Rattle.rtsp_state.specs.Context.{context_value};
 ghost use Rattle.rtsp_state.specs.GetParameter.{point_of, get_parameter, get_parameters, get_parameter_body};
 
-use crate::asked::Aim;
+use crate::context::{Context, timing_of};
 use crate::fault::{Fault, must};
-use crate::lines::{no_lines, put_front, put_length, put_type};
 use crate::parameters::{has_position, parameters_body, parameters_in};
-use crate::plan::{Plan, Scene};
-use crate::response::finish;
-use crate::scene::timing_of;
+use crate::plan::Plan;
+use crate::reply::Reply;
+use crate::request::Target;
 use crate::status::Status;
-use crate::words::Word;
 use rtsp_book::SessionView;
 use rtsp_grammar::Text;
-use rtsp_record::point;
 use std::alloc::Global;
 
 /// The point of the session, where there is one.
-fn point_of(scene: &Scene<'_>, view: Option<&SessionView>, unit_ms: u32) -> u32
+fn point_of(context: &Context<'_>, view: Option<&SessionView>, unit_ms: u32) -> u32
     requires { 0 < unit_ms }
-    ensures { result ≡ point_of (seen scene.now) (option_map (λ v. v.now) view.entry) unit_ms }
+    ensures { result ≡ point_of (context_value context.now) (option_map (λ v. v.now) view.entry) unit_ms }
 {
     match view {
-        Some(view) => point(&view.phase(), unit_ms, scene.moment),
+        Some(view) => view.phase().point(unit_ms, context.moment),
         None => 0,
     }
 }
 
 fn get_parameters(
     alloc: Global,
-    scene: &Scene<'_>,
+    context: &Context<'_>,
     view: Option<&SessionView>,
     presentation: u16,
 ) -> Result<Plan, Fault>
-    ensures { Gives result (get_parameters (seen scene.now) (option_map (λ v. v.now) view.entry) presentation) }
+    ensures value { Gives result (get_parameters (context_value context.now) (option_map (λ v. v.now) view.entry) presentation) }
+    ensures conducted { IfOk result IsConducted }
 {
-    let names = parameters_in(alloc, scene.request.body.as_bytes())?;
+    let names = parameters_in(alloc, context.body)?;
     let lives = view.is_some();
     let positioned = has_position(&names);
     must(lives || !positioned, Status::SessionNotFound)?;
-    let Some(presentation) = scene.table.presentation(presentation) else {
+    let Some(presentation) = context.table.presentation(presentation) else {
         return Err(Fault::Refused(Status::NotFound));
     };
-    let at = point_of(scene, view, presentation.unit_ms());
+    let at = point_of(context, view, presentation.unit_ms());
     let body = parameters_body(alloc, timing_of(presentation), at, &names)?;
-    let mut lines = no_lines(alloc);
-    put_front(&mut lines, scene.front)?;
-    put_type(&mut lines, Word::Parameters)?;
-    put_length(&mut lines, &body)?;
-    Ok(Plan::Answer(finish(Status::Success, lines, Text::from_vec(body))))
+    Ok(Plan::Answer(Reply::parameters(context.start, Text::from_vec(body))))
 }
 
 fn get_parameter_body(
     alloc: Global,
-    scene: &Scene<'_>,
+    context: &Context<'_>,
     view: Option<&SessionView>,
-    aim: &Aim,
+    target: &Target,
 ) -> Result<Plan, Fault>
-    ensures { Gives result (get_parameter_body (seen scene.now) (option_map (λ v. v.now) view.entry) aim.now) }
+    ensures value { Gives result (get_parameter_body (context_value context.now) (option_map (λ v. v.now) view.entry) target.now) }
+    ensures conducted { IfOk result IsConducted }
 {
-    match aim {
-        Aim::Presentation(_, presentation) => get_parameters(alloc, scene, view, *presentation),
-        Aim::Track(_, presentation, _) => get_parameters(alloc, scene, view, *presentation),
-        Aim::Server | Aim::Star => Err(Fault::Refused(Status::BadRequest)),
+    match target {
+        Target::Presentation(_, presentation) => get_parameters(
+            alloc,
+            context,
+            view,
+            *presentation,
+        ),
+        Target::Track(_, presentation, _) => get_parameters(alloc, context, view, *presentation),
+        Target::Server | Target::Star => Err(Fault::Refused(Status::BadRequest)),
     }
 }
 
@@ -73,16 +74,15 @@ fn get_parameter_body(
 /// a presentation.
 pub fn get_parameter(
     alloc: Global,
-    scene: &Scene<'_>,
+    context: &Context<'_>,
     view: Option<&SessionView>,
-    aim: &Aim,
+    target: &Target,
 ) -> Result<Plan, Fault>
-    ensures { Gives result (get_parameter (seen scene.now) (option_map (λ v. v.now) view.entry) aim.now) }
+    ensures value { Gives result (get_parameter (context_value context.now) (option_map (λ v. v.now) view.entry) target.now) }
+    ensures conducted { IfOk result IsConducted }
 {
-    if scene.request.body.as_bytes().is_empty() {
-        let mut lines = no_lines(alloc);
-        put_front(&mut lines, scene.front)?;
-        return Ok(Plan::Answer(finish(Status::Success, lines, Text::fixed(b""))));
+    if context.body.is_empty() {
+        return Ok(Plan::Answer(Reply::plain(context.start)));
     }
-    get_parameter_body(alloc, scene, view, aim)
+    get_parameter_body(alloc, context, view, target)
 }

@@ -1,13 +1,18 @@
 //! What holds of every answer. These functions do nothing: their contracts are the laws.
 
-ghost use Rattle.rtsp_state.specs.Laws.{AnswersRefusal, ShowsAllowed, AllowedIsValid, AnswersInOrder, ShowsSession};
+ghost use Rattle.rtsp_state.specs.Laws.{ReadsOnce, AnswersRefusal, ShowsAllowed, AllowedIsValid, AnswersInOrder, ShowsSession};
+
+/// What is handed on of a request is what it says, so that nothing of it is read again.
+pub fn law_reads_once()
+    ensures { ReadsOnce }
+{}
 
 /// A refused step or admission is answered by the status of its refusal.
 pub fn law_answers_refusal()
     ensures { AnswersRefusal }
 {}
 
-/// Each 455 shows the methods that no state refuses.
+/// Each 455 has an Allow header with the methods that no state refuses.
 pub fn law_shows_allowed()
     ensures { ShowsAllowed }
 {}
@@ -17,12 +22,12 @@ pub fn law_allowed_is_valid()
     ensures { AllowedIsValid }
 {}
 
-/// The headers of every response stand in their order.
+/// The headers of every response are in their one order.
 pub fn law_answers_in_order()
     ensures { AnswersInOrder }
 {}
 
-/// A session stands in a response exactly where it lives or was opened.
+/// A response has a Session header exactly if the session is alive or was opened by it.
 pub fn law_shows_session()
     ensures { ShowsSession }
 {}

@@ -2,49 +2,68 @@
 //! asks of the book of sessions, and how it is answered.
 #![tactic(auto)]
 
-mod answering;
-mod asked;
-mod deciding;
+mod context;
 mod describe;
+mod end_of_stream;
 mod fault;
 mod get_parameter;
-mod info;
+mod headers;
 mod laws;
-mod lines;
+mod media_uri;
 mod method;
-mod numbers;
 mod options;
+mod order_of_refusals;
 mod parameters;
 mod pause;
 mod plan;
 mod play;
-mod response;
-mod scene;
+mod refusals;
+mod renewals;
+mod reply;
+mod request;
+mod response_start;
+mod room;
+mod rtp_info;
 mod screening;
 mod set_parameter;
 mod setup;
+mod setup_plan;
+mod setup_response;
+mod state_table;
 mod status;
+mod status_line;
+mod step_response;
 mod teardown;
+mod timing;
 mod uri;
 mod values;
 mod words;
 
-pub use answering::answer;
-pub use asked::Name;
-pub use deciding::{decide, renewal, renewal_refused};
+pub use end_of_stream::notify;
 pub use fault::Fault;
 pub use laws::{
-    law_allowed_is_valid, law_answers_in_order, law_answers_refusal, law_shows_allowed,
-    law_shows_session,
+    law_allowed_is_valid, law_answers_in_order, law_answers_refusal, law_reads_once,
+    law_shows_allowed, law_shows_session,
 };
-pub use lines::{Front, Timing};
-pub use plan::{Admission, Outcome, Part, Parts, Plan, Screen, Shows, Stepping};
-pub use response::{refused, turned_down};
+pub use media_uri::MediaUri;
+pub use plan::{Details, Plan, RtpInfo, StepPlan, StreamInfo};
+pub use renewals::{renewal, renewal_refused};
+pub use reply::Reply;
+pub use request::{Name, ParsedRequest, Screen, Target};
+pub use response_start::ResponseStart;
+pub use room::Room;
 pub use screening::screen;
+pub use setup_plan::{Delivery, Drawn, SessionKey, SetupPlan, SetupSession};
+pub use state_table::decide;
 pub use status::Status;
+pub use timing::Timing;
 
 #[cfg(test)]
+mod end_of_stream_tests;
+#[cfg(test)]
 mod fixture;
+#[cfg(test)]
+mod response_tests;
 #[cfg(test)]
 mod tests;
 #[cfg(test)]

@@ -6,8 +6,8 @@ ghost use Rattle.rtsp_state.specs.Fault.{Gives, GivesBy};
 ghost use Rattle.rtsp_state.specs.GetParameter.{first_line, parameter_of, parameters_in, parameter_line, parameters_body, is_position};
 
 use crate::fault::Fault;
-use crate::lines::Timing;
 use crate::status::Status;
+use crate::timing::Timing;
 use crate::words::{Word, text_of};
 use rtsp_npt::write_time;
 use std::alloc::{AllocError, Global};

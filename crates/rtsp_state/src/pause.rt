@@ -1,56 +1,68 @@
 //! PAUSE (RFC 7826 section 13.6).
 
-ghost use Rattle.std.specs.Prelude.{◌≡◌, not};
+ghost use Rattle.std.specs.Prelude.{◌≡◌, not, IfOk};
 ghost use Rattle.rtsp_state.specs.Fault.{Gives};
-ghost use Rattle.rtsp_state.specs.Scene.{seen};
+ghost use Rattle.rtsp_state.specs.Conduct.{IsConducted};
+ghost use Rattle.rtsp_state.specs.Context.{context_value};
 ghost use Rattle.rtsp_state.specs.Pause.{pause, pause_presentation};
 
-use crate::asked::Aim;
+use crate::context::{Context, is_other, streams_of, timing_of};
 use crate::fault::{Fault, must};
-use crate::plan::{Plan, Scene, Shows, Stepping};
-use crate::scene::{is_other, streams_of, timing_of};
+use crate::plan::{Details, Plan, StepPlan};
+use crate::request::Target;
 use crate::status::Status;
 use rtsp_book::{SessionView, Step};
-use rtsp_record::point;
 use std::alloc::Global;
 
 fn pause_presentation(
     alloc: Global,
-    scene: &Scene<'_>,
+    context: &Context<'_>,
     view: &SessionView,
     presentation: u16,
 ) -> Result<Plan, Fault>
-    ensures { Gives result (pause_presentation (seen scene.now) view.now presentation) }
+    ensures value { Gives result (pause_presentation (context_value context.now) view.now presentation) }
+    ensures conducted { IfOk result IsConducted }
 {
     let streams = streams_of(alloc, view)?;
     must(!is_other(presentation, &streams), Status::SessionNotFound)?;
     must(!streams.is_empty(), Status::MethodNotValid)?;
-    let Some(presentation) = scene.table.presentation(presentation) else {
+    let Some(presentation) = context.table.presentation(presentation) else {
         return Err(Fault::Refused(Status::NotFound));
     };
     let unit_ms = presentation.unit_ms();
-    Ok(Plan::Step(Stepping {
-        front: scene.front,
-        done: scene.front,
+    Ok(Plan::Step(StepPlan {
+        start: context.start,
+        done: context.start,
         step: Step::Pause {
             session: view.session(),
             unit_ms,
-            now: scene.moment,
+            now: context.moment,
         },
-        shows: Shows::Paused {
+        details: Details::Paused {
             timing: timing_of(presentation),
-            at: point(&view.phase(), unit_ms, scene.moment),
+            at: view.phase().point(unit_ms, context.moment),
         },
     }))
 }
 
 /// PAUSE of a session's presentation. The tracks of a session are paused together.
-pub fn pause(alloc: Global, scene: &Scene<'_>, view: &SessionView, aim: &Aim) -> Result<Plan, Fault>
-    ensures { Gives result (pause (seen scene.now) view.now aim.now) }
+pub fn pause(
+    alloc: Global,
+    context: &Context<'_>,
+    view: &SessionView,
+    target: &Target,
+) -> Result<Plan, Fault>
+    ensures value { Gives result (pause (context_value context.now) view.now target.now) }
+    ensures conducted { IfOk result IsConducted }
 {
-    match aim {
-        Aim::Track(..) => Err(Fault::Refused(Status::OnlyAggregateAllowed)),
-        Aim::Presentation(_, presentation) => pause_presentation(alloc, scene, view, *presentation),
-        Aim::Server | Aim::Star => Err(Fault::Refused(Status::BadRequest)),
+    match target {
+        Target::Track(..) => Err(Fault::Refused(Status::OnlyAggregateAllowed)),
+        Target::Presentation(_, presentation) => pause_presentation(
+            alloc,
+            context,
+            view,
+            *presentation,
+        ),
+        Target::Server | Target::Star => Err(Fault::Refused(Status::BadRequest)),
     }
 }

@@ -1,59 +1,51 @@
-//! What a request asks of the book, and what came of it.
+//! What is done about a request, and what its response shows.
 
 ghost use Rattle.std.specs.Prelude.{◌≡◌, [], ◌∷◌, ◌++◌, OnOk};
 
-use crate::asked::Name;
-use crate::lines::{Front, Timing};
-use rtsp_book::{Admitted, Ask, Receipt, Refusal, Step};
-use rtsp_content::Table;
-use rtsp_grammar::{Request, Response, Text};
+use crate::reply::Reply;
+use crate::response_start::ResponseStart;
+use crate::setup_plan::SetupPlan;
+use crate::timing::Timing;
+use rtsp_book::Step;
+use rtsp_grammar::Text;
 use std::alloc::{AllocError, Global};
 use std::marker::Model;
-
-/// What a request comes to before a session is looked at.
-#[derive(Debug, Drop)]
-pub enum Screen {
-    /// It is answered.
-    Answered(Response),
-    /// It asks for the session of this name, or names none.
-    Asks(Option<Name>),
-}
 
 /// What is done about a request.
 #[derive(Debug, Drop)]
 pub enum Plan {
-    /// It is answered as it stands.
-    Answer(Response),
+    /// It is answered at once.
+    Answer(Reply),
     /// A step is to be made.
-    Step(Stepping),
-    /// A track is to be admitted.
-    Admit(Admission),
+    Step(StepPlan),
+    /// A track is to be set up.
+    Admit(SetupPlan),
 }
 
-/// A step, and what its response shows.
+/// A step of a living session, and what the response to it shows.
 #[derive(Debug, Drop)]
-pub struct Stepping {
+pub struct StepPlan {
     /// What a response shows first where the step is refused.
-    pub front: Front,
+    pub start: ResponseStart,
     /// What it shows first once the step is made.
-    pub done: Front,
+    pub done: ResponseStart,
     pub step: Step,
-    pub shows: Shows,
+    pub details: Details,
 }
 
-/// What the response to a step shows beside its front.
+/// What the response to a step shows beside its start.
 #[derive(Debug, Drop)]
-pub enum Shows {
+pub enum Details {
     Nothing,
     /// Where the session is paused: at the point that the step moves to, or at this one.
     Paused { timing: Timing, at: u32 },
     /// What is played.
-    Played { timing: Timing, parts: Parts },
+    Played { timing: Timing, info: RtpInfo },
 }
 
 /// One stream in RTP-Info (RFC 7826 section 18.45).
 #[derive(Debug, Drop)]
-pub struct Part {
+pub struct StreamInfo {
     /// The URI of its track.
     pub url: Text,
     pub ssrc: u32,
@@ -65,71 +57,38 @@ pub struct Part {
     pub ticks: u32,
 }
 
-/// An admission, and what its response shows. The ask's number of the session, where it opens one, and number of the
-/// admission, its connection and its words (id, SSRC, sequence number, timestamp) are 0: they are drawn and filled in
-/// before the ask is made.
-#[derive(Debug, Drop)]
-pub struct Admission {
-    pub front: Front,
-    /// Seconds that a session lives without a request.
-    pub timeout: u32,
-    pub ask: Ask,
-    pub timing: Timing,
-}
-
-/// What came of a plan.
-#[derive(Drop)]
-pub enum Outcome {
-    /// The step was made.
-    Done(Receipt),
-    /// The track was admitted.
-    Admitted(Admitted),
-    /// It was refused.
-    Refused(Refusal),
-}
-
-/// What a row of the state table sees.
-#[derive(Clone, Copy)]
-pub struct Scene<'a> {
-    pub front: Front,
-    pub peer: u32,
-    pub moment: u64,
-    pub table: &'a Table,
-    pub request: &'a Request,
-}
-
 /// The streams in RTP-Info, in the order of the table.
 #[derive(Debug, Drop)]
-pub struct Parts {
-    items: Vec<Part>,
+pub struct RtpInfo {
+    items: Vec<StreamInfo>,
 }
 
-impl Model for Parts {
+impl Model for RtpInfo {
     ghost use Rattle.std.specs.Prelude.{List};
-    ghost use Rattle.rtsp_state.specs.declared.plan.Part.{Part};
+    ghost use Rattle.rtsp_state.specs.declared.plan.StreamInfo.{StreamInfo};
 
-    ghost Value = { List Part };
+    ghost Value = { List StreamInfo };
 
     ghost view = { λ p. p.items.items };
 }
 
-impl Parts {
-    pub fn new(alloc: Global) -> Parts
+impl RtpInfo {
+    pub fn new(alloc: Global) -> RtpInfo
         ensures { result ≡ [] }
     {
-        Parts {
+        RtpInfo {
             items: Vec::new(alloc),
         }
     }
 
-    pub fn push(&mut self, part: Part) -> Result<(), AllocError>
-        ensures { OnOk result (self.new ≡ self.old ++ part ∷ []) }
+    pub fn push(&mut self, stream: StreamInfo) -> Result<(), AllocError>
+        ensures { OnOk result (self.new ≡ self.old ++ stream ∷ []) }
     {
-        self.items.push(part)?;
+        self.items.push(stream)?;
         Ok(())
     }
 
-    pub fn as_slice(&self) -> &[Part]
+    pub fn as_slice(&self) -> &[StreamInfo]
         ensures { result.now ≡ self.now }
     {
         self.items.as_slice()

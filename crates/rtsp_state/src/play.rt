@@ -1,26 +1,27 @@
 //! PLAY (RFC 7826 section 13.4).
 
-ghost use Rattle.std.specs.Prelude.{◌≡◌, not, Ok, option_map};
+ghost use Rattle.std.specs.Prelude.{◌≡◌, ◌≤◌, not, Ok, option_map, IfOk};
 ghost use Rattle.rtsp_state.specs.Fault.{Gives};
-ghost use Rattle.rtsp_state.specs.Scene.{seen};
-ghost use Rattle.rtsp_state.specs.Play.{fault_of, range_in, from_of, reach_of, reach_asked, stream_of, part_of, parts_from, play, play_presentation};
+ghost use Rattle.rtsp_state.specs.Conduct.{IsConducted};
+ghost use Rattle.rtsp_state.specs.Context.{context_value};
+ghost use Rattle.rtsp_state.specs.Play.{fault_of, range_in, from_of, units_in, units_asked, stream_of, stream_info, rtp_info_from, play, play_presentation};
 
-use crate::asked::Aim;
+use crate::context::{Context, is_other, streams_of, timing_of};
 use crate::fault::{Fault, must};
-use crate::plan::{Part, Parts, Plan, Scene, Shows, Stepping};
-use crate::scene::{is_other, streams_of, timing_of};
+use crate::plan::{Details, Plan, RtpInfo, StepPlan, StreamInfo};
+use crate::request::Target;
 use crate::status::Status;
-use crate::values::one;
-use rtsp_book::{SessionView, Step};
+use crate::values::single_value;
+use rtsp_book::{Play, SessionView, Step};
 use rtsp_content::{Presentation, Track};
 use rtsp_grammar::Text;
 use rtsp_npt::{OutOfMedia, Range, RangeFault, read_range, resolve};
-use rtsp_record::{Stream, point};
+use rtsp_record::Stream;
 use std::alloc::Global;
 
-/// The units to be played: from the point of the session where `from` is missing, and before `stop`.
+// The units to be played: from `from`, or the session's point if it is missing, up to `stop`.
 #[derive(Clone, Copy, Debug)]
-pub struct Reach {
+pub struct Units {
     pub from: Option<u32>,
     pub stop: u32,
 }
@@ -57,11 +58,13 @@ fn from_of(range: Range, from: u32) -> Option<u32>
     }
 }
 
-fn reach_of(range: Range, units: Result<(u32, u32), OutOfMedia>) -> Result<Reach, Fault>
-    ensures { result ≡ reach_of range units }
+fn units_in(range: Range, resolved: Result<(u32, u32), OutOfMedia>) -> Result<Units, Fault>
+    requires { IfOk resolved (λ taken. taken.1 ≤ 10000000) }
+    ensures value { result ≡ units_in range resolved }
+    ensures most { IfOk result (λ units. units.stop ≤ 10000000) }
 {
-    match units {
-        Ok((from, stop)) => Ok(Reach {
+    match resolved {
+        Ok((from, stop)) => Ok(Units {
             from: from_of(range, from),
             stop,
         }),
@@ -69,18 +72,19 @@ fn reach_of(range: Range, units: Result<(u32, u32), OutOfMedia>) -> Result<Reach
     }
 }
 
-fn reach_asked(
-    scene: &Scene<'_>,
+fn units_asked(
+    context: &Context<'_>,
     view: &SessionView,
     presentation: &Presentation,
-) -> Result<Reach, Fault>
-    ensures { Gives result (reach_asked (seen scene.now) view.now presentation.now) }
+) -> Result<Units, Fault>
+    ensures value { result ≡ units_asked (context_value context.now) view.now presentation.now }
+    ensures most { IfOk result (λ units. units.stop ≤ 10000000) }
 {
-    let value = one(&scene.request.headers, b"Range")?;
+    let value = single_value(context.headers, b"Range")?;
     let range = range_in(value)?;
     let unit_ms = presentation.unit_ms();
-    let resume = point(&view.phase(), unit_ms, scene.moment);
-    reach_of(range, resolve(range, resume, unit_ms, presentation.units()))
+    let resume = view.phase().point(unit_ms, context.moment);
+    units_in(range, resolve(range, resume, unit_ms, presentation.units()))
 }
 
 /// The stream of a track.
@@ -95,13 +99,18 @@ fn stream_of(track: usize, streams: &[Stream]) -> Option<Stream>
     None
 }
 
-fn part_of(alloc: Global, base: &[u8], track: &Track, stream: Stream) -> Result<Part, Fault>
-    ensures { Gives result (Ok (part_of base.now track.now stream)) }
+fn stream_info(
+    alloc: Global,
+    base: &[u8],
+    track: &Track,
+    stream: Stream,
+) -> Result<StreamInfo, Fault>
+    ensures { Gives result (Ok (stream_info base.now track.now stream)) }
 {
     let mut url = Vec::new(alloc);
     url.extend_from_slice(base)?;
     url.extend_from_slice(track.name().as_bytes())?;
-    Ok(Part {
+    Ok(StreamInfo {
         url: Text::from_vec(url),
         ssrc: stream.ssrc,
         seq: stream.seq,
@@ -111,66 +120,73 @@ fn part_of(alloc: Global, base: &[u8], track: &Track, stream: Stream) -> Result<
 }
 
 /// What RTP-Info shows, in the order of the tracks.
-fn parts_of(
+pub fn rtp_info(
     alloc: Global,
     base: &[u8],
     streams: &[Stream],
     tracks: &[Track],
-) -> Result<Parts, Fault>
-    ensures { Gives result (Ok (parts_from base.now streams.now 0 tracks.now)) }
+) -> Result<RtpInfo, Fault>
+    ensures { Gives result (Ok (rtp_info_from base.now streams.now 0 tracks.now)) }
 {
-    let mut parts = Parts::new(alloc);
+    let mut info = RtpInfo::new(alloc);
     for (index, track) in tracks.iter().enumerate() {
         if let Some(stream) = stream_of(index, streams) {
-            parts.push(part_of(alloc, base, track, stream)?)?;
+            info.push(stream_info(alloc, base, track, stream)?)?;
         }
     }
-    Ok(parts)
+    Ok(info)
 }
 
 fn play_presentation(
     alloc: Global,
-    scene: &Scene<'_>,
+    context: &Context<'_>,
     view: &SessionView,
     base: &[u8],
     presentation: u16,
 ) -> Result<Plan, Fault>
-    ensures { Gives result (play_presentation (seen scene.now) view.now base.now presentation) }
+    ensures value { Gives result (play_presentation (context_value context.now) view.now base.now presentation) }
+    ensures conducted { IfOk result IsConducted }
 {
     let streams = streams_of(alloc, view)?;
     must(!is_other(presentation, &streams), Status::SessionNotFound)?;
     must(!streams.is_empty(), Status::MethodNotValid)?;
-    let Some(presentation) = scene.table.presentation(presentation) else {
+    let Some(presentation) = context.table.presentation(presentation) else {
         return Err(Fault::Refused(Status::NotFound));
     };
-    let reach = reach_asked(scene, view, presentation)?;
-    let parts = parts_of(alloc, base, &streams, presentation.tracks())?;
-    Ok(Plan::Step(Stepping {
-        front: scene.front,
-        done: scene.front,
-        step: Step::Play {
+    let units = units_asked(context, view, presentation)?;
+    let info = rtp_info(alloc, base, &streams, presentation.tracks())?;
+    Ok(Plan::Step(StepPlan {
+        start: context.start,
+        done: context.start,
+        step: Step::Play(Play {
             session: view.session(),
-            from: reach.from,
-            stop: reach.stop,
+            from: units.from,
+            stop: units.stop,
             unit_ms: presentation.unit_ms(),
-            now: scene.moment,
-        },
-        shows: Shows::Played {
+            now: context.moment,
+        }),
+        details: Details::Played {
             timing: timing_of(presentation),
-            parts,
+            info,
         },
     }))
 }
 
 /// PLAY of a session's presentation. The tracks of a session are played together.
-pub fn play(alloc: Global, scene: &Scene<'_>, view: &SessionView, aim: &Aim) -> Result<Plan, Fault>
-    ensures { Gives result (play (seen scene.now) view.now aim.now) }
+pub fn play(
+    alloc: Global,
+    context: &Context<'_>,
+    view: &SessionView,
+    target: &Target,
+) -> Result<Plan, Fault>
+    ensures value { Gives result (play (context_value context.now) view.now target.now) }
+    ensures conducted { IfOk result IsConducted }
 {
-    match aim {
-        Aim::Track(..) => Err(Fault::Refused(Status::OnlyAggregateAllowed)),
-        Aim::Presentation(base, presentation) => {
-            play_presentation(alloc, scene, view, base.as_bytes(), *presentation)
+    match target {
+        Target::Track(..) => Err(Fault::Refused(Status::OnlyAggregateAllowed)),
+        Target::Presentation(base, presentation) => {
+            play_presentation(alloc, context, view, base.as_bytes(), *presentation)
         }
-        Aim::Server | Aim::Star => Err(Fault::Refused(Status::BadRequest)),
+        Target::Server | Target::Star => Err(Fault::Refused(Status::BadRequest)),
     }
 }

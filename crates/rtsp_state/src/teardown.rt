@@ -1,15 +1,15 @@
 //! TEARDOWN (RFC 7826 section 13.7).
 
-ghost use Rattle.std.specs.Prelude.{◌≡◌, not};
+ghost use Rattle.std.specs.Prelude.{◌≡◌, not, IfOk};
 ghost use Rattle.rtsp_state.specs.Fault.{Gives};
-ghost use Rattle.rtsp_state.specs.Scene.{seen};
+ghost use Rattle.rtsp_state.specs.Conduct.{IsConducted};
+ghost use Rattle.rtsp_state.specs.Context.{context_value};
 ghost use Rattle.rtsp_state.specs.Teardown.{teardown, teardown_presentation, teardown_track};
 
-use crate::asked::Aim;
+use crate::context::{Context, has_track, is_other, streams_of};
 use crate::fault::{Fault, must};
-use crate::plan::{Plan, Scene, Shows, Stepping};
-use crate::response::gone;
-use crate::scene::{has_track, is_other, streams_of};
+use crate::plan::{Details, Plan, StepPlan};
+use crate::request::Target;
 use crate::status::Status;
 use rtsp_book::{SessionView, Step};
 use rtsp_record::Phase;
@@ -17,32 +17,34 @@ use std::alloc::Global;
 
 fn teardown_presentation(
     alloc: Global,
-    scene: &Scene<'_>,
+    context: &Context<'_>,
     view: &SessionView,
     presentation: u16,
 ) -> Result<Plan, Fault>
-    ensures { Gives result (teardown_presentation (seen scene.now) view.now presentation) }
+    ensures value { Gives result (teardown_presentation (context_value context.now) view.now presentation) }
+    ensures conducted { IfOk result IsConducted }
 {
     let streams = streams_of(alloc, view)?;
     must(!is_other(presentation, &streams), Status::SessionNotFound)?;
-    Ok(Plan::Step(Stepping {
-        front: scene.front,
-        done: gone(scene.front),
+    Ok(Plan::Step(StepPlan {
+        start: context.start,
+        done: context.start.without_session(),
         step: Step::End {
             session: view.session(),
         },
-        shows: Shows::Nothing,
+        details: Details::Nothing,
     }))
 }
 
 fn teardown_track(
     alloc: Global,
-    scene: &Scene<'_>,
+    context: &Context<'_>,
     view: &SessionView,
     presentation: u16,
     track: u16,
 ) -> Result<Plan, Fault>
-    ensures { Gives result (teardown_track (seen scene.now) view.now presentation track) }
+    ensures value { Gives result (teardown_track (context_value context.now) view.now presentation track) }
+    ensures conducted { IfOk result IsConducted }
 {
     let streams = streams_of(alloc, view)?;
     must(!is_other(presentation, &streams), Status::SessionNotFound)?;
@@ -50,34 +52,39 @@ fn teardown_track(
     let only = streams.len() <= 1;
     let ready = matches!(view.phase(), Phase::Ready { .. });
     must(ready || only, Status::MethodNotValid)?;
-    let done = if only { gone(scene.front) } else { scene.front };
-    Ok(Plan::Step(Stepping {
-        front: scene.front,
+    let done = if only {
+        context.start.without_session()
+    } else {
+        context.start
+    };
+    Ok(Plan::Step(StepPlan {
+        start: context.start,
         done,
         step: Step::DropTrack {
             session: view.session(),
             track,
         },
-        shows: Shows::Nothing,
+        details: Details::Nothing,
     }))
 }
 
 /// TEARDOWN of a session's presentation ends the session, of its only track too.
 pub fn teardown(
     alloc: Global,
-    scene: &Scene<'_>,
+    context: &Context<'_>,
     view: &SessionView,
-    aim: &Aim,
+    target: &Target,
 ) -> Result<Plan, Fault>
-    ensures { Gives result (teardown (seen scene.now) view.now aim.now) }
+    ensures value { Gives result (teardown (context_value context.now) view.now target.now) }
+    ensures conducted { IfOk result IsConducted }
 {
-    match aim {
-        Aim::Presentation(_, presentation) => {
-            teardown_presentation(alloc, scene, view, *presentation)
+    match target {
+        Target::Presentation(_, presentation) => {
+            teardown_presentation(alloc, context, view, *presentation)
         }
-        Aim::Track(_, presentation, track) => {
-            teardown_track(alloc, scene, view, *presentation, *track)
+        Target::Track(_, presentation, track) => {
+            teardown_track(alloc, context, view, *presentation, *track)
         }
-        Aim::Server | Aim::Star => Err(Fault::Refused(Status::BadRequest)),
+        Target::Server | Target::Star => Err(Fault::Refused(Status::BadRequest)),
     }
 }

@@ -1,12 +1,10 @@
 //! One answer of each kind, from each public call.
 
-ghost use Rattle.rtsp_book.specs.Replies.{IsAskable};
-
 use crate::fixture::{request, sessions, stream, tone};
 use crate::*;
-use rtsp_book::{Admitted, BookRep, Kept, Opening, PlainBook, Refusal, Step};
+use rtsp_book::{Admitted, BookRep, Kept, Opening, PlainBook, Play, Refusal, SessionView, Step};
 use rtsp_content::Table;
-use rtsp_grammar::{Draft, Response, Text, write_response};
+use rtsp_grammar::{HeadersBuilder, Request, Text};
 use rtsp_record::Thing;
 use std::alloc::{AllocError, Global};
 use std::process::Abort;
@@ -92,17 +90,36 @@ const ANSWERS: [Row; 6] = [
     ),
 ];
 
-fn assert_told(
+// What is written in a room.
+fn assert_written(rt: &impl Abort, room: &Room, expected: &str) -> Result<(), Fail> {
+    let written = std::str::from_utf8(room.as_bytes())?;
+    assert_eq!(rt; written, expected);
+    Ok(())
+}
+
+fn assert_replied(
     rt: &impl Abort,
     alloc: Global,
-    response: &Response,
+    reply: &Reply,
     expected: &str,
 ) -> Result<(), Fail> {
-    let mut text = Vec::new(alloc);
-    write_response(&mut text, response)?;
-    let told = std::str::from_utf8(text.as_slice())?;
-    assert_eq!(rt; told, expected);
-    Ok(())
+    let mut room = Room::new(alloc);
+    reply.make_room(&mut room)?;
+    reply.answer(&mut room);
+    assert_written(rt, &room, expected)
+}
+
+// The plan of a request that nothing refuses before its session is looked up.
+fn plan_of(
+    alloc: Global,
+    request: &Request,
+    view: Option<&SessionView>,
+    table: &Table,
+) -> Result<Option<Plan>, AllocError> {
+    match screen(alloc, request, table)? {
+        Screen::Answered(_) => Ok(None),
+        Screen::Asks(parsed) => Ok(Some(decide(alloc, parsed, view, table, PEER, 0)?)),
+    }
 }
 
 fn assert_answered(
@@ -115,14 +132,16 @@ fn assert_answered(
     let (session, id, method, range, body, expected) = row;
     let request = request(alloc, (method, TONE), id, range, body)?;
     let view = kept.book().session(*session);
-    let plan = decide(alloc, &request, view.as_ref(), table, PEER, 0)?;
-    assert!(rt; matches!(&plan, Plan::Answer(_)), "{method} {range}");
-    let response = answer(alloc, plan, Outcome::Refused(Refusal::JournalFull))?;
-    assert_told(rt, alloc, &response, expected)
+    let plan = plan_of(alloc, &request, view.as_ref(), table)?;
+    assert!(rt; matches!(&plan, Some(Plan::Answer(_))), "{method} {range}");
+    if let Some(Plan::Answer(reply)) = &plan {
+        assert_replied(rt, alloc, reply, expected)?;
+    }
+    Ok(())
 }
 
 #[test]
-fn what_stands_is_answered_whatever_comes(rt: HostRuntime) -> Result<(), Fail> {
+fn some_requests_are_answered_at_once(rt: HostRuntime) -> Result<(), Fail> {
     let table = tone(&rt)?;
     let kept = sessions(rt.alloc())?;
     for row in ANSWERS.iter() {
@@ -131,34 +150,8 @@ fn what_stands_is_answered_whatever_comes(rt: HostRuntime) -> Result<(), Fail> {
     Ok(())
 }
 
-// The plan of a first SETUP, with the id of the session that it opens.
-fn first_setup(rt: &impl Abort, alloc: Global, table: &Table) -> Result<Plan, Fail> {
-    let setup = request(alloc, ("SETUP", "rtsp://h/tone/a"), "", "", "")?;
-    let plan = decide(alloc, &setup, None, table, PEER, 0)?;
-    assert!(rt; matches!(&plan, Plan::Admit(_)));
-    match plan {
-        Plan::Admit(mut admission) => {
-            admission.ask.opening = Some(Opening {
-                id: 9,
-                conn: 1,
-                expires: 60_000,
-            });
-            Ok(Plan::Admit(admission))
-        }
-        other => Ok(other),
-    }
-}
-
-// A step that pauses a session that is Ready, and makes no record.
-fn pause() -> Step
-    ensures { IsAskable result }
-{
-    Step::Pause {
-        session: 2,
-        unit_ms: 20,
-        now: 0,
-    }
-}
+// The key that is drawn for a new session.
+const DRAWN: SessionKey = SessionKey { session: 9, id: 9 };
 
 fn made() -> Admitted {
     Admitted {
@@ -173,32 +166,57 @@ fn made() -> Admitted {
 fn an_admission_shows_the_session_that_it_opened(rt: HostRuntime) -> Result<(), Fail> {
     let alloc = rt.alloc();
     let table = tone(&rt)?;
-    let plan = first_setup(&rt, alloc, &table)?;
-    let response = answer(alloc, plan, Outcome::Admitted(made()))?;
-    let opened = "RTSP/2.0 200 OK\r\nCSeq: 1\r\n\
-        Session: 00000000000000000000000000000009;timeout=60\r\n\
-        Transport: RTP/AVP/TCP;unicast;interleaved=0-1;ssrc=00000001\r\n\
-        Accept-Ranges: npt\r\n\
-        Media-Properties: Random-Access=0.020, Immutable, Unlimited\r\n\
-        Media-Range: npt=0.000-10.000\r\n\r\n";
-    assert_told(&rt, alloc, &response, opened)?;
-    let plan = first_setup(&rt, alloc, &table)?;
-    let response = answer(alloc, plan, Outcome::Refused(Refusal::NoBandwidth))?;
-    let refused = "RTSP/2.0 453 Not Enough Bandwidth\r\nCSeq: 1\r\n\r\n";
-    assert_told(&rt, alloc, &response, refused)?;
-    let mut kept = sessions(alloc)?;
-    let receipt = kept.act(0, &pause())?;
-    let plan = first_setup(&rt, alloc, &table)?;
-    let response = answer(alloc, plan, Outcome::Done(receipt))?;
-    let unfit = "RTSP/2.0 500 Internal Server Error\r\nCSeq: 1\r\n\r\n";
-    assert_told(&rt, alloc, &response, unfit)
+    let request = request(alloc, ("SETUP", "rtsp://h/tone/a"), "", "", "")?;
+    let plan = plan_of(alloc, &request, None, &table)?;
+    assert!(rt; matches!(&plan, Some(Plan::Admit(_))));
+    if let Some(Plan::Admit(plan)) = &plan {
+        let ask = plan.ask(Drawn {
+            conn: 1,
+            key: DRAWN,
+            admission: 30,
+            ssrc: 1,
+            seq: 0,
+            rtptime: 0,
+        });
+        let opening = Opening {
+            id: 9,
+            conn: 1,
+            expires: 60_000,
+        };
+        assert!(rt; ask.session == 9 && ask.admission == 30 && ask.opening == Some(opening));
+        let opened = "RTSP/2.0 200 OK\r\nCSeq: 1\r\n\
+            Session: 00000000000000000000000000000009;timeout=60\r\n\
+            Transport: RTP/AVP/TCP;unicast;interleaved=0-1;ssrc=00000001\r\n\
+            Accept-Ranges: npt\r\n\
+            Media-Properties: Random-Access=0.020, Immutable, Unlimited\r\n\
+            Media-Range: npt=0.000-10.000\r\n\r\n";
+        let mut room = Room::new(alloc);
+        plan.make_room(&mut room)?;
+        plan.answer(&mut room, DRAWN, Ok(&made()));
+        assert_written(&rt, &room, opened)?;
+        let refused = "RTSP/2.0 453 Not Enough Bandwidth\r\nCSeq: 1\r\n\r\n";
+        room.clear();
+        plan.make_room(&mut room)?;
+        plan.answer(&mut room, DRAWN, Err(Refusal::NoBandwidth));
+        assert_written(&rt, &room, refused)?;
+        let by_udp = "RTSP/2.0 461 Unsupported Transport\r\nCSeq: 1\r\n\r\n";
+        room.clear();
+        plan.make_room(&mut room)?;
+        plan.refuse(&mut room, Status::UnsupportedTransport);
+        assert_written(&rt, &room, by_udp)?;
+    }
+    Ok(())
 }
 
 // The plan of a PLAY of the session that is Ready.
-fn first_play(alloc: Global, table: &Table, kept: &Kept<PlainBook>) -> Result<Plan, AllocError> {
+fn first_play(
+    alloc: Global,
+    table: &Table,
+    kept: &Kept<PlainBook>,
+) -> Result<Option<Plan>, AllocError> {
     let request = request(alloc, ("PLAY", TONE), READY, "npt=2.505-", "")?;
     let view = kept.book().session(2);
-    decide(alloc, &request, view.as_ref(), table, PEER, 0)
+    plan_of(alloc, &request, view.as_ref(), table)
 }
 
 #[test]
@@ -206,21 +224,28 @@ fn a_play_shows_what_is_played(rt: HostRuntime) -> Result<(), Fail> {
     let alloc = rt.alloc();
     let table = tone(&rt)?;
     let mut kept = sessions(alloc)?;
-    let plan = first_play(alloc, &table, &kept)?;
-    let step = Step::Play {
+    let step = Step::Play(Play {
         session: 2,
         from: Some(125),
         stop: 500,
         unit_ms: 20,
         now: 0,
-    };
-    assert!(rt; matches!(&plan, Plan::Step(stepping) if stepping.step == step));
-    let receipt = kept.act(0, &step)?;
-    let response = answer(alloc, plan, Outcome::Done(receipt))?;
-    let played = "RTSP/2.0 200 OK\r\nCSeq: 1\r\nSession: 00000000000000000000000000000002\r\n\
-        Range: npt=2.500-10.000\r\nSeek-Style: RAP\r\n\
-        RTP-Info: url=\"rtsp://h/tone/a\" ssrc=00000001:seq=0;rtptime=0\r\n\r\n";
-    assert_told(&rt, alloc, &response, played)
+    });
+    let plan = first_play(alloc, &table, &kept)?;
+    assert!(rt; matches!(&plan, Some(Plan::Step(plan)) if plan.step == step));
+    if let Some(Plan::Step(plan)) = &plan {
+        let mut room = Room::new(alloc);
+        plan.make_room(&mut room)?;
+        match kept.act(0, &step) {
+            Ok(receipt) => plan.answer(&mut room, Ok(&receipt)),
+            Err(refusal) => plan.answer(&mut room, Err(refusal)),
+        }
+        let played = "RTSP/2.0 200 OK\r\nCSeq: 1\r\nSession: 00000000000000000000000000000002\r\n\
+            Range: npt=2.500-10.000\r\nSeek-Style: RAP\r\n\
+            RTP-Info: url=\"rtsp://h/tone/a\" ssrc=00000001:seq=0;rtptime=0\r\n\r\n";
+        assert_written(&rt, &room, played)?;
+    }
+    Ok(())
 }
 
 #[test]
@@ -230,68 +255,70 @@ fn a_step_that_is_not_made_shows_why(rt: HostRuntime) -> Result<(), Fail> {
     let kept = sessions(alloc)?;
     let cases = [
         (
-            Outcome::Refused(Refusal::NoSession),
+            Refusal::NoSession,
             "RTSP/2.0 454 Session Not Found\r\nCSeq: 1\r\n\r\n",
         ),
         (
-            Outcome::Refused(Refusal::NotHeld),
+            Refusal::NotHeld,
             "RTSP/2.0 455 Method Not Valid in This State\r\nCSeq: 1\r\n\
             Session: 00000000000000000000000000000002\r\n\
             Allow: OPTIONS, DESCRIBE, GET_PARAMETER, SET_PARAMETER\r\n\r\n",
         ),
-        (
-            Outcome::Admitted(made()),
-            "RTSP/2.0 500 Internal Server Error\r\nCSeq: 1\r\n\
-            Session: 00000000000000000000000000000002\r\n\r\n",
-        ),
     ];
-    for (outcome, expected) in cases {
-        let plan = first_play(alloc, &table, &kept)?;
-        let response = answer(alloc, plan, outcome)?;
-        assert_told(&rt, alloc, &response, expected)?;
+    for (refusal, expected) in cases {
+        if let Some(Plan::Step(plan)) = &first_play(alloc, &table, &kept)? {
+            let mut room = Room::new(alloc);
+            plan.make_room(&mut room)?;
+            plan.answer(&mut room, Err(refusal));
+            assert_written(&rt, &room, expected)?;
+        }
     }
     Ok(())
+}
+
+// The session that a request names, where nothing refuses it before.
+fn session_named(
+    alloc: Global,
+    table: &Table,
+    given: &Request,
+) -> Result<Option<Name>, AllocError> {
+    match screen(alloc, given, table)? {
+        Screen::Asks(parsed) => Ok(parsed.session_name()),
+        Screen::Answered(_) => Ok(None),
+    }
 }
 
 #[test]
 fn what_has_no_number_is_screened(rt: HostRuntime) -> Result<(), Fail> {
     let alloc = rt.alloc();
     let table = tone(&rt)?;
-    let mut options = request(alloc, ("OPTIONS", "*"), "", "", "")?;
-    assert!(rt; matches!(screen(alloc, &options, &table)?, Screen::Asks(None)));
-    options.headers = Draft::new(alloc).into_headers();
-    let screened = screen(alloc, &options, &table)?;
-    assert!(rt; matches!(&screened, Screen::Answered(_)));
-    if let Screen::Answered(response) = &screened {
-        assert_told(&rt, alloc, response, "RTSP/2.0 400 Bad Request\r\n\r\n")?;
+    let mut options = request(alloc, ("OPTIONS", "*"), READY, "", "")?;
+    assert!(rt; session_named(alloc, &table, &options)? == Some(Name::Id(2)));
+    options.headers = HeadersBuilder::new(alloc).into_headers();
+    match screen(alloc, &options, &table)? {
+        Screen::Answered(reply) => {
+            assert_replied(&rt, alloc, &reply, "RTSP/2.0 400 Bad Request\r\n\r\n")?;
+        }
+        Screen::Asks(_) => assert!(rt; false),
     }
     Ok(())
 }
 
 // The moment to which a request of the session that is Ready renews it, at the moment 1,000.
-fn renewed_until(
-    alloc: Global,
-    table: &Table,
-    kept: &Kept<PlainBook>,
-    method: &str,
-) -> Result<Option<u64>, AllocError> {
+fn renewed_until(alloc: Global, table: &Table, method: &str) -> Result<Option<u64>, AllocError> {
     let request = request(alloc, (method, TONE), READY, "", "")?;
-    let Some(view) = kept.book().session(2) else {
-        return Ok(None);
-    };
-    match renewal(&request, &view, table, 1_000) {
-        Some(Step::Touch { until, .. }) => Ok(Some(until)),
-        _ => Ok(None),
+    match screen(alloc, &request, table)? {
+        Screen::Answered(_) => Ok(None),
+        Screen::Asks(parsed) => Ok(renewal(&parsed, table, 1_000)),
     }
 }
 
 #[test]
 fn a_session_is_renewed_but_by_its_teardown(rt: HostRuntime) -> Result<(), Fail> {
     let table = tone(&rt)?;
-    let kept = sessions(rt.alloc())?;
-    let renewed = renewed_until(rt.alloc(), &table, &kept, "PLAY")?;
+    let renewed = renewed_until(rt.alloc(), &table, "PLAY")?;
     assert_eq!(rt; renewed, Some(61_000));
-    let ended = renewed_until(rt.alloc(), &table, &kept, "TEARDOWN")?;
+    let ended = renewed_until(rt.alloc(), &table, "TEARDOWN")?;
     assert_eq!(rt; ended, None);
     Ok(())
 }
@@ -299,33 +326,47 @@ fn a_session_is_renewed_but_by_its_teardown(rt: HostRuntime) -> Result<(), Fail>
 #[test]
 fn a_refused_renewal_ends_the_request(rt: HostRuntime) -> Result<(), Fail> {
     let alloc = rt.alloc();
+    let table = tone(&rt)?;
     let kept = sessions(alloc)?;
     let play = request(alloc, ("PLAY", TONE), READY, "", "")?;
+    let screened = screen(alloc, &play, &table)?;
     let view = kept.book().session(2);
-    let response = renewal_refused(alloc, &play, view.as_ref(), Refusal::JournalFull)?;
-    let full = "RTSP/2.0 503 Service Unavailable\r\nCSeq: 1\r\n\
-        Session: 00000000000000000000000000000002\r\n\r\n";
-    assert_told(&rt, alloc, &response, full)
+    assert!(rt; matches!((&screened, &view), (Screen::Asks(_), Some(_))));
+    if let (Screen::Asks(parsed), Some(view)) = (&screened, &view) {
+        let reply = renewal_refused(parsed, view, Refusal::JournalFull);
+        let full = "RTSP/2.0 503 Service Unavailable\r\nCSeq: 1\r\n\
+            Session: 00000000000000000000000000000002\r\n\r\n";
+        assert_replied(&rt, alloc, &reply, full)?;
+    }
+    Ok(())
 }
 
 #[test]
-fn a_refusal_stands_behind_its_front(rt: HostRuntime) -> Result<(), Fail> {
-    let alloc = rt.alloc();
-    let front = Front {
+fn a_refusal_shows_its_number(rt: HostRuntime) -> Result<(), Fail> {
+    let start = ResponseStart {
         cseq: 7,
         session: None,
     };
     let unknown = Fault::Unsupported(Text::fixed(b"x.y, z"));
-    let response = refused(alloc, front, unknown)?;
     let unsupported = "RTSP/2.0 551 Option Not Supported\r\nCSeq: 7\r\nUnsupported: x.y, z\r\n\r\n";
-    assert_told(&rt, alloc, &response, unsupported)?;
-    let response = turned_down(alloc, front, Refusal::IdTaken)?;
+    assert_replied(
+        &rt,
+        rt.alloc(),
+        &Reply::refused(start, unknown),
+        unsupported,
+    )?;
     let taken = "RTSP/2.0 500 Internal Server Error\r\nCSeq: 7\r\n\r\n";
-    assert_told(&rt, alloc, &response, taken)
+    assert_replied(
+        &rt,
+        rt.alloc(),
+        &Reply::refused_step(start, Refusal::IdTaken),
+        taken,
+    )
 }
 
 #[test]
 fn the_laws_hold() {
+    law_reads_once();
     law_answers_refusal();
     law_shows_allowed();
     law_allowed_is_valid();

@@ -7,7 +7,7 @@ use std::alloc::{AllocError, Global};
 use std::str;
 use url::{ParseError, Position, Url};
 
-/// The rtsp URL that a text is, or `None` where it is none.
+/// The rtsp URL that a text spells, or `None`.
 fn read_url(alloc: Global, text: &str) -> Result<Option<Url>, AllocError>
     ensures { IfOk result (λ url. url ≡ rtsp_url text.now) }
 {
@@ -25,7 +25,7 @@ fn read_url(alloc: Global, text: &str) -> Result<Option<Url>, AllocError>
     }
 }
 
-/// Reads a request URI: the rtsp URL that it is, or `None` where it is none.
+/// Reads a request URI: the rtsp URL that it spells, or `None`.
 pub fn read_uri(alloc: Global, text: &[u8]) -> Result<Option<Url>, AllocError>
     ensures { IfOk result (λ url. url ≡ uri_of text.now) }
 {
@@ -35,7 +35,7 @@ pub fn read_uri(alloc: Global, text: &[u8]) -> Result<Option<Url>, AllocError>
     }
 }
 
-/// The URL without query and fragment, with one slash at its end: what the names of tracks are joined to.
+/// The URL without query and fragment, with one slash at its end: the names of tracks are appended to it.
 #[tactic(auto, unfolding(crate::specs::Values::with_slash))]
 pub fn base_of(alloc: Global, url: &Url) -> Result<Vec<u8>, AllocError>
     ensures { IfOk result (λ text. text.items ≡ with_slash (bare_text url.now)) }

@@ -3,23 +3,23 @@
 ghost use Rattle.std.specs.Prelude.{◌≡◌, ◌++◌, ◌∷◌, [], IfOk, OnOk, option_map};
 ghost use Rattle.std.specs.List.{flat_map};
 ghost use Rattle.rtsp_grammar.specs.Header.{values_of};
-ghost use Rattle.rtsp_transport.specs.Number.{number_of};
-ghost use Rattle.rtsp_transport.specs.Split.{texts};
-ghost use Rattle.rtsp_state.specs.Fault.{GivesBy};
-ghost use Rattle.rtsp_state.specs.Values.{one, joined, joined_in, is_2_0, id_of, session_name, fault_of, specs_in, tags_in, unknown_tags};
+ghost use Rattle.rtsp_text.specs.Decimal.{number_of};
+ghost use Rattle.rtsp_text.specs.Slices.{texts};
+ghost use Rattle.rtsp_state.specs.Fault.{GivesBy, IsBy};
+ghost use Rattle.rtsp_state.specs.Values.{single_value, joined, joined_in, id_of, session_name, fault_of, specs_in, tags_in, unknown_tags};
 
 use crate::fault::Fault;
 use crate::status::Status;
-use rtsp_grammar::{Headers, is_version_2_0};
+use rtsp_grammar::Headers;
 use rtsp_transport::{
     Spec, TextFault, is_known, read_cseq, read_session, read_startup, read_tags, read_transports,
     session_id,
 };
 use std::alloc::{AllocError, Global};
 
-/// The value of a header that may stand once.
-pub fn one<'a>(headers: &'a Headers, name: &[u8]) -> Result<Option<&'a [u8]>, Fault>
-    ensures { GivesBy (option_map (λ v. v.now)) result (one name.now headers.now) }
+/// The value of a header that may be given once.
+pub fn single_value<'a>(headers: &'a Headers, name: &[u8]) -> Result<Option<&'a [u8]>, Fault>
+    ensures { IsBy (option_map (λ v. v.now)) result (single_value name.now headers.now) }
 {
     if headers.count_of(name) > 1 {
         return Err(Fault::Refused(Status::BadRequest));
@@ -27,7 +27,7 @@ pub fn one<'a>(headers: &'a Headers, name: &[u8]) -> Result<Option<&'a [u8]>, Fa
     Ok(headers.nth_value(name, 0))
 }
 
-/// Writes texts behind one another, with a comma and a space between them.
+/// Writes texts one after another, with a comma and a space between them.
 pub fn put_joined(out: &mut Vec<u8>, parts: &[&[u8]]) -> Result<(), AllocError>
     ensures { OnOk result (out.new.items ≡ out.old.items ++ joined (texts parts.now)) }
 {
@@ -59,7 +59,7 @@ fn values_of<'a>(
     Ok(values)
 }
 
-/// The values of the headers of a name, which are one header.
+/// The values of the headers of a name, joined into one.
 pub fn joined_in(
     alloc: Global,
     headers: &Headers,
@@ -74,13 +74,6 @@ pub fn joined_in(
     let mut joined = Vec::new(alloc);
     put_joined(&mut joined, &values)?;
     Ok(Some(joined))
-}
-
-/// Whether the version is 2.0, by its numbers.
-pub fn is_2_0(version: &[u8]) -> bool
-    ensures { result ≡ is_2_0 version.now }
-{
-    is_version_2_0(version)
 }
 
 /// The number of a CSeq header.
@@ -155,7 +148,7 @@ pub fn unknown_tags(alloc: Global, tags: &[rtsp_transport::Text]) -> Result<Vec<
     Ok(unknown)
 }
 
-/// The session's id that a name is.
+/// The session id that a name spells.
 pub fn id_of(name: &[u8]) -> Option<u128>
     ensures { result ≡ id_of name.now }
 {

@@ -81,7 +81,7 @@ fn read_cell(text: &str) -> Option<Cell> {
     }
 }
 
-// What a request comes to in a session, or in none.
+// The outcome of a request in a session, or in none.
 fn cell_of(
     alloc: Global,
     request: &Request,
@@ -89,9 +89,9 @@ fn cell_of(
     table: &Table,
 ) -> Result<Cell, AllocError> {
     match screen(alloc, request, table)? {
-        Screen::Answered(response) => Ok(Is(response.status)),
-        Screen::Asks(_) => match decide(alloc, request, view, table, 0x7f00_0001, 0)? {
-            Plan::Answer(response) => Ok(Is(response.status)),
+        Screen::Answered(reply) => Ok(Is(reply.status())),
+        Screen::Asks(parsed) => match decide(alloc, parsed, view, table, 0x7f00_0001, 0)? {
+            Plan::Answer(reply) => Ok(Is(reply.status())),
             Plan::Step(_) => Ok(Step),
             Plan::Admit(_) => Ok(Admit),
         },

@@ -3,20 +3,15 @@ use Rattle.std.proofs.Common.{◌≡◌, ℕ, ◌<◌, ◌≤◌, Bool, true, fa
 use Rattle.std.specs.Prelude.{◌&&◌, nat_le}
 use Rattle.std.specs.List.{list_all}
 use Rattle.std.proofs.lemmas.Bool.{leb-true, le-leb, eqb-true}
-use Rattle.rtsp_transport.specs.Bytes.{is_other}
-use Rattle.rtsp_transport.specs.Chain.{◌>>=◌}
-use Rattle.rtsp_transport.specs.SplitOnce.{split_once}
-use Rattle.rtsp_transport.specs.Number.{SpellsNumber, number_of}
+use Rattle.rtsp_text.specs.Bytes.{is_other}
+use Rattle.rtsp_text.specs.Options.{◌>>=◌}
+use Rattle.rtsp_text.specs.SplitOnce.{split_once}
+use Rattle.rtsp_text.specs.Decimal.{SpellsNumber, number_of}
 use Rattle.rtsp_transport.specs.Address.{Place, Places, SpellsPlace, SpellsPlaces, after, alone, quoted_of, quoted_pair, port_in, port_of, place_of, places_of}
-use Rattle.rtsp_transport.proofs.BoolLemmas.{eqb_same}
-use Rattle.rtsp_transport.proofs.SplitOnceLemmas.{CutsAt, split_cuts, split_found}
-use Rattle.rtsp_transport.proofs.FindsLemmas.{sound_at}
-use Rattle.rtsp_transport.proofs.NumberLemmas.{numbers}
-
--- what each step of a chain found
-pub chain_found : {A B : Type 0} (o : Option A) (f : A → Option B) (y : B) → (o >>= f) ≡ Some y → (x : A) × (o ≡ Some x) × (f x ≡ Some y)
-chain_found (Some x) f y e = (x, refl, e)
-chain_found None f y e = absurd cc
+use Rattle.rtsp_text.proofs.ByteLemmas.{eqb_same}
+use Rattle.rtsp_text.proofs.SplitLemmas.{split_parts, split_found}
+use Rattle.rtsp_text.proofs.FindsLemmas.{chain_found, sound_at}
+use Rattle.rtsp_text.proofs.DecimalLemmas.{numbers}
 
 pub after_found : (byte : ℕ) (text rest : List ℕ) → after byte text ≡ Some rest → text ≡ byte ∷ rest
 after_found byte [] rest e = absurd cc
@@ -28,9 +23,6 @@ after_found byte (b ∷ bytes) rest e = go (eqb b byte) refl e where
 pub after_some : (byte : ℕ) (rest : List ℕ) → after byte (byte ∷ rest) ≡ Some rest
 after_some byte rest = rw (eqb_same byte) refl
 
-pub cut_parts : (byte : ℕ) (text : List ℕ) (p : List ℕ × List ℕ) → split_once byte text ≡ Some p → (text ≡ p.0 ++ byte ∷ p.1) × (list_all (is_other byte) p.0 ≡ true)
-cut_parts byte text p e = subst (λ (r : Option (List ℕ × List ℕ)). CutsAt byte text r) e (split_cuts byte text)
-
 abbrev Quotes : List ℕ → List ℕ → List ℕ → Type 0
 Quotes text inner rest = (text ≡ 34 ∷ inner ++ 34 ∷ rest) × (list_all (is_other 34) inner ≡ true)
 
@@ -38,7 +30,7 @@ quoted_found : (text : List ℕ) (p : List ℕ × List ℕ) → quoted_of text �
 unfolding quoted_of
 quoted_found text p e =
     let s = chain_found (after 34 text) (split_once 34) p e in
-    let c = cut_parts 34 s.0 p s.2 in
+    let c = split_parts 34 s.0 p s.2 in
     (after_found 34 text s.0 s.1 ∙ ap (λ (t : List ℕ). 34 ∷ t) c.0, c.1)
 
 quoted_some : (inner rest : List ℕ) → list_all (is_other 34) inner ≡ true → quoted_of (34 ∷ inner ++ 34 ∷ rest) ≡ Some (inner, rest)
@@ -114,7 +106,7 @@ unfolding place_of
 place_sound text p e =
     let s = chain_found (split_once 58 text) (λ parts. port_of parts.1 >>= λ port. Some (made parts.0 port)) p e in
     let t = chain_found (port_of s.0.1) (λ port. Some (made s.0.0 port)) p s.2 in
-    let c = cut_parts 58 text s.0 s.1 in
+    let c = split_parts 58 text s.0 s.1 in
     let n = port_found s.0.1 t.0 t.1 in
     let same : made s.0.0 t.0 ≡ p = inside (made s.0.0 t.0) p t.2 in
     subst (λ (q : Place). SpellsPlace text q) same (record { digits = s.0.1; parts = c.0; host = c.1; port = n.0; some = n.1; few = n.2 }) where

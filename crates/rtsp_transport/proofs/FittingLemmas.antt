@@ -3,9 +3,9 @@ use Rattle.std.proofs.Common.{◌≡◌, ℕ, Bool, true, false, cond, eqb, List
 use Rattle.std.specs.Prelude.{◌||◌, ◌&&◌, is_some, codes}
 use Rattle.std.specs.Char.{to_ascii_lowercase}
 use Rattle.std.specs.List.{list_any}
-use Rattle.std.proofs.lemmas.Bool.{eqb-true, or_cases, or_parts, or_from, false_from_ne_true}
+use Rattle.std.proofs.lemmas.Bool.{eqb-true, or_cases, or_parts, or_from, false_from_ne_true, and_parts, and_from, both_ways}
 use Rattle.std.proofs.lemmas.List.{nil_from_length}
-use Rattle.rtsp_transport.specs.Chain.{◌>>=◌}
+use Rattle.rtsp_text.specs.Options.{◌>>=◌}
 use Rattle.rtsp_transport.specs.Address.{Places, SpellsPlaces, places_of}
 use Rattle.rtsp_transport.specs.Hosts.{AllowsHost, allows, is_bracketed}
 use Rattle.rtsp_transport.specs.Names.{is_named, is_udp, is_tcp}
@@ -13,13 +13,12 @@ use Rattle.rtsp_transport.specs.Parameters.{asks_more, first_named, first_value}
 use Rattle.rtsp_transport.specs.Peer.{peer_text, is_peer}
 use Rattle.rtsp_transport.specs.Fitting.{udp_to, udp_fit, inter_on, inter_fit, fit_of}
 use Rattle.rtsp_transport.specs.Picking.{IsUdpForm, IsUdp, IsForeign, IsInterleaved, IsUsable}
-use Rattle.rtsp_transport.specs.declared.choice.Pick.{Pick}
-use Rattle.rtsp_transport.specs.declared.choice.Pick.TheVariants.{Udp, Inter, Unsupported, Prohibited}
+use Rattle.rtsp_transport.specs.declared.picks.Pick.{Pick}
+use Rattle.rtsp_transport.specs.declared.picks.Pick.TheVariants.{Udp, Inter, Unsupported, Prohibited}
 use Rattle.rtsp_transport.specs.declared.spec.Spec.{Spec}
-use Rattle.rtsp_transport.proofs.BoolLemmas.{both_true, and_true, clash}
 use Rattle.rtsp_transport.proofs.PeerLemmas.{same_text, peer_is}
 use Rattle.rtsp_transport.proofs.AddressLemmas.{places_sound, places_complete}
-use Rattle.rtsp_transport.proofs.WishLemmas.{is_wish, one_wish}
+use Rattle.rtsp_transport.proofs.ChannelLemmas.{is_pair, one_pair}
 
 -- ---- hosts
 
@@ -76,18 +75,18 @@ form_fit peer spec places f =
 
 udp_only : (peer : ℕ) (spec : Spec) (a b : ℕ) → IsUdp peer spec a b → fit_of peer spec ≡ Udp a b
 udp_only peer spec a b s =
-    let t = and_true (allows peer s.places.rtp.host) (allows peer s.places.rtcp.host) (allowing peer s.places.rtp.host s.rtp_host) (allowing peer s.places.rtcp.host s.rtcp_host) in
+    let t = and_from (allows peer s.places.rtp.host) (allows peer s.places.rtcp.host) (allowing peer s.places.rtp.host s.rtp_host) (allowing peer s.places.rtcp.host s.rtcp_host) in
     form_fit peer spec s.places s.form ∙ ap (λ (x : Bool). cond x (Udp s.places.rtp.port s.places.rtcp.port) Prohibited) t ∙ ap (λ (n : ℕ). Udp n s.places.rtcp.port) s.rtp ∙ ap (λ (n : ℕ). Udp a n) s.rtcp
 
 pub foreign_only : (peer : ℕ) (spec : Spec) → IsForeign peer spec → fit_of peer spec ≡ Prohibited
 foreign_only peer spec s =
-    let t : (allows peer s.places.rtp.host && allows peer s.places.rtcp.host) ≡ false = false_from_ne_true (allows peer s.places.rtp.host && allows peer s.places.rtcp.host) (λ e. let p = both_true (allows peer s.places.rtp.host) (allows peer s.places.rtcp.host) e in s.foreign (allowed peer s.places.rtp.host p.0, allowed peer s.places.rtcp.host p.1)) in
+    let t : (allows peer s.places.rtp.host && allows peer s.places.rtcp.host) ≡ false = false_from_ne_true (allows peer s.places.rtp.host && allows peer s.places.rtcp.host) (λ e. let p = and_parts (allows peer s.places.rtp.host) (allows peer s.places.rtcp.host) e in s.foreign (allowed peer s.places.rtp.host p.0, allowed peer s.places.rtcp.host p.1)) in
     form_fit peer spec s.places s.form ∙ ap (λ (x : Bool). cond x (Udp s.places.rtp.port s.places.rtcp.port) Prohibited) t
 
 inter_only : (peer : ℕ) (spec : Spec) (wish : Option ℕ) → IsInterleaved spec wish → fit_of peer spec ≡ Inter wish
 unfolding inter_fit
 inter_only peer spec wish s =
-    fit_tcp peer spec s.served s.protocol ∙ ap (λ (x : Bool). cond x Unsupported (inter_on (first_value (codes "interleaved") spec.parameters))) (ap is_some s.no_address) ∙ ap inter_on s.value ∙ ap Inter (one_wish s.text wish s.wished)
+    fit_tcp peer spec s.served s.protocol ∙ ap (λ (x : Bool). cond x Unsupported (inter_on (first_value (codes "interleaved") spec.parameters))) (ap is_some s.no_address) ∙ ap inter_on s.value ∙ ap Inter (one_pair s.text wish s.wished)
 
 pub usable_only : (peer : ℕ) (spec : Spec) (pick : Pick) → IsUsable peer spec pick → fit_of peer spec ≡ pick
 usable_only peer spec (Udp a b) s = udp_only peer spec a b s
@@ -108,8 +107,8 @@ unfolding udp_fit
 udp_fits peer spec served udp = value (first_value (codes "dest_addr") spec.parameters) refl where
   hosts : (places : Places) → IsUdpForm spec places → (x y : Bool) → allows peer places.rtp.host ≡ x → allows peer places.rtcp.host ≡ y → Fits peer spec (cond (x && y) (Udp places.rtp.port places.rtcp.port) Prohibited)
   hosts places f true true p q = record { places = places; form = f; rtp_host = allowed peer places.rtp.host p; rtcp_host = allowed peer places.rtcp.host q; rtp = refl; rtcp = refl }
-  hosts places f true false p q = record { places = places; form = f; foreign = λ h. clash (allows peer places.rtcp.host) (allowing peer places.rtcp.host h.1) q }
-  hosts places f false y p q = record { places = places; form = f; foreign = λ h. clash (allows peer places.rtp.host) (allowing peer places.rtp.host h.0) p }
+  hosts places f true false p q = record { places = places; form = f; foreign = λ h. both_ways (allows peer places.rtcp.host) q (allowing peer places.rtcp.host h.1) }
+  hosts places f false y p q = record { places = places; form = f; foreign = λ h. both_ways (allows peer places.rtp.host) p (allowing peer places.rtp.host h.0) }
 
   plain : (text : List ℕ) → first_value (codes "dest_addr") spec.parameters ≡ Some text → (places : Places) → SpellsPlaces text places → (x : Bool) → (is_bracketed places.rtp.host || is_bracketed places.rtcp.host) ≡ x
       → Fits peer spec (cond x Unsupported (cond (allows peer places.rtp.host && allows peer places.rtcp.host) (Udp places.rtp.port places.rtcp.port) Prohibited))
@@ -131,7 +130,7 @@ unfolding inter_fit
 inter_fits peer spec served tcp = address (first_named (codes "dest_addr") spec.parameters) refl where
   value : first_named (codes "dest_addr") spec.parameters ≡ None → (o : Option (List ℕ)) → first_value (codes "interleaved") spec.parameters ≡ o → Fits peer spec (inter_on o)
   value n None v = tt
-  value n (Some text) v = record { protocol = tcp; served = served; no_address = n; text = text; value = v; wished = is_wish text }
+  value n (Some text) v = record { protocol = tcp; served = served; no_address = n; text = text; value = v; wished = is_pair text }
 
   address : (o : Option _) → first_named (codes "dest_addr") spec.parameters ≡ o → Fits peer spec (cond (is_some o) Unsupported (inter_on (first_value (codes "interleaved") spec.parameters)))
   address (Some p) e = tt

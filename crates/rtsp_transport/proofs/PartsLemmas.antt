@@ -2,9 +2,9 @@
 use Rattle.std.proofs.Common.{◌≡◌, ◌≢◌, ℕ, Bool, true, false, cond, eqb, List, [], ◌∷◌, ◌++◌, refl, sym, ap, subst, ◌∙◌}
 use Rattle.std.specs.Prelude.{not, ◌&&◌, ◌||◌}
 use Rattle.std.specs.List.{join_with_byte, AllByRecursion}
-use Rattle.std.proofs.lemmas.Bool.{eqb-true}
+use Rattle.std.proofs.lemmas.Bool.{eqb-true, and_parts, and_from, not-true}
 use Rattle.rtsp_transport.specs.Split.{is_part, IsPart, IsSplit, is_closed, onto_first, split}
-use Rattle.rtsp_transport.proofs.BoolLemmas.{both_true, and_true, not_true, eqb_same}
+use Rattle.rtsp_text.proofs.ByteLemmas.{eqb_same}
 use Rattle.rtsp_transport.proofs.SplitLemmas.{split_quote, split_separator, split_plain}
 
 -- a byte of a part separates nothing
@@ -39,14 +39,14 @@ alone inside separator (b ∷ bytes) e = go (eqb b 34) refl (λ i h. alone i sep
       (split_quote inside separator b bytes q ∙ ap (onto_first (b ∷ [])) r.0, rw q r.1)
   go false q again =
       let p : ((inside || not (eqb b separator)) && is_part inside separator bytes) ≡ true = rw q at e in
-      let s = both_true (inside || not (eqb b separator)) (is_part inside separator bytes) p in
+      let s = and_parts (inside || not (eqb b separator)) (is_part inside separator bytes) p in
       let r = again inside s.1 in
       (split_plain inside separator b bytes q (part_byte (eqb b separator) inside s.0) ∙ ap (onto_first (b ∷ [])) r.0, rw q r.1)
 
 followed : (inside : Bool) (separator : ℕ) (part rest : List ℕ) → eqb separator 34 ≡ false → is_part inside separator part ≡ true
     → (split inside separator (part ++ separator ∷ rest) ≡ part ∷ split false separator rest) × (is_closed inside (part ++ separator ∷ rest) ≡ is_closed false rest)
 followed inside separator [] rest n e =
-    let out : inside ≡ false = not_true inside e in
+    let out : inside ≡ false = not-true inside e in
     (split_separator inside separator separator rest n (rw (eqb_same separator, out) refl), ap (λ (x : Bool). is_closed (cond x (not inside) inside) rest) n ∙ ap (λ (i : Bool). is_closed i rest) out)
 followed inside separator (b ∷ bytes) rest n e = go (eqb b 34) refl (λ i h. followed i separator bytes rest n h) where
   go : (x : Bool) → eqb b 34 ≡ x → ((i : Bool) → is_part i separator bytes ≡ true → (split i separator (bytes ++ separator ∷ rest) ≡ bytes ∷ split false separator rest) × (is_closed i (bytes ++ separator ∷ rest) ≡ is_closed false rest))
@@ -57,7 +57,7 @@ followed inside separator (b ∷ bytes) rest n e = go (eqb b 34) refl (λ i h. f
       (split_quote inside separator b (bytes ++ separator ∷ rest) q ∙ ap (onto_first (b ∷ [])) r.0, ap (λ (x : Bool). is_closed (cond x (not inside) inside) (bytes ++ separator ∷ rest)) q ∙ r.1)
   go false q again =
       let p : ((inside || not (eqb b separator)) && is_part inside separator bytes) ≡ true = rw q at e in
-      let s = both_true (inside || not (eqb b separator)) (is_part inside separator bytes) p in
+      let s = and_parts (inside || not (eqb b separator)) (is_part inside separator bytes) p in
       let r = again inside s.1 in
       (split_plain inside separator b (bytes ++ separator ∷ rest) q (part_byte (eqb b separator) inside s.0) ∙ ap (onto_first (b ∷ [])) r.0, ap (λ (x : Bool). is_closed (cond x (not inside) inside) (bytes ++ separator ∷ rest)) q ∙ r.1)
 
@@ -117,7 +117,7 @@ makes_all inside separator (b ∷ bytes) e = go (eqb b 34) (eqb b separator && n
   go false false q s again =
       let p : is_closed inside bytes ≡ true = rw q at e in
       subst (λ (ps : List (List ℕ)). Makes inside separator (b ∷ bytes) ps) (sym (split_plain inside separator b bytes q s))
-      (makes_on inside inside separator b bytes (split inside separator bytes) (λ part h. rw q (and_true (inside || not (eqb b separator)) (is_part inside separator part) (byte_part (eqb b separator) inside s) h)) (again inside p))
+      (makes_on inside inside separator b bytes (split inside separator bytes) (λ part h. rw q (and_from (inside || not (eqb b separator)) (is_part inside separator part) (byte_part (eqb b separator) inside s) h)) (again inside p))
 
 from_makes : (separator : ℕ) (text : List ℕ) (parts : List (List ℕ)) → Makes false separator text parts → IsSplit separator text parts
 from_makes separator text [] m = absurd m.1

@@ -3,60 +3,61 @@ use Rattle.std.proofs.Common.{◌≡◌, ℕ, ◌/◌, ◌%◌, Bool, true, fals
 use Rattle.std.specs.Prelude.{decimal}
 use Rattle.std.specs.List.{starts_with}
 use Rattle.std.specs.Cmp.Lexicographic.{pointwise}
-use Rattle.std.proofs.lemmas.Bool.{eqb-true, ne_eqb}
+use Rattle.std.proofs.lemmas.Bool.{eqb-true, ne_eqb, and_parts, and_from, both_ways}
 use Rattle.std.proofs.lemmas.List.{append-nil, drop_at}
-use Rattle.rtsp_transport.specs.Chain.{◌>>=◌}
+use Rattle.rtsp_text.specs.Options.{◌>>=◌}
 use Rattle.rtsp_transport.specs.Address.{after}
-use Rattle.rtsp_transport.specs.Peer.{behind, behind_peer, peer_text, is_peer}
-use Rattle.rtsp_transport.proofs.BoolLemmas.{both_true, and_true, eqb_same, clash}
-use Rattle.rtsp_transport.proofs.AddressLemmas.{chain_found, after_found}
+use Rattle.rtsp_transport.specs.Peer.{after_text, after_peer, peer_text, is_peer}
+use Rattle.rtsp_text.proofs.ByteLemmas.{eqb_same}
+use Rattle.rtsp_transport.proofs.AddressLemmas.{after_found}
+use Rattle.rtsp_text.proofs.FindsLemmas.{chain_found}
 
 starts_parts : (front text : List ℕ) → starts_with nat_eq text front ≡ true → text ≡ front ++ drop (length front) text
 starts_parts [] text e = refl
 starts_parts (p ∷ front) [] e = absurd cc
 starts_parts (p ∷ front) (b ∷ text) e =
-    let s = both_true (eqb p b) (starts_with nat_eq text front) e in
+    let s = and_parts (eqb p b) (starts_with nat_eq text front) e in
     ap (λ (x : ℕ). x ∷ text) (sym (eqb-true p b s.0)) ∙ ap (λ (xs : List ℕ). p ∷ xs) (starts_parts front text s.1)
 
 starts_some : (front rest : List ℕ) → starts_with nat_eq (front ++ rest) front ≡ true
 starts_some [] rest = refl
-starts_some (p ∷ front) rest = and_true (eqb p p) (starts_with nat_eq (front ++ rest) front) (eqb_same p) (starts_some front rest)
+starts_some (p ∷ front) rest = and_from (eqb p p) (starts_with nat_eq (front ++ rest) front) (eqb_same p) (starts_some front rest)
 
-pub behind_found : (front text rest : List ℕ) → behind front text ≡ Some rest → text ≡ front ++ rest
-unfolding behind
-behind_found front text rest e = go (starts_with nat_eq text front) refl e where
+pub after_text_found : (front text rest : List ℕ) → after_text front text ≡ Some rest → text ≡ front ++ rest
+unfolding after_text
+after_text_found front text rest e = go (starts_with nat_eq text front) refl e where
   go : (x : Bool) → starts_with nat_eq text front ≡ x → cond x (Some (drop (length front) text)) None ≡ Some rest → text ≡ front ++ rest
   go true s h = let same : drop (length front) text ≡ rest = cc in starts_parts front text s ∙ ap (λ (r : List ℕ). front ++ r) same
   go false s h = absurd cc
 
-pub behind_some : (front rest : List ℕ) → behind front (front ++ rest) ≡ Some rest
-unfolding behind
-behind_some front rest = let s = starts_some front rest in let d = drop_at front rest (length front) refl in rw s (ap Some d)
+pub after_text_some : (front rest : List ℕ) → after_text front (front ++ rest) ≡ Some rest
+unfolding after_text
+after_text_some front rest = let s = starts_some front rest in let d = drop_at front rest (length front) refl in rw s (ap Some d)
 
-peer_found : (peer : ℕ) (text rest : List ℕ) → behind_peer peer text ≡ Some rest → text ≡ decimal (peer / 0x1000000) ++ 46 ∷ (decimal (peer / 0x10000 % 256) ++ 46 ∷ (decimal (peer / 0x100 % 256) ++ 46 ∷ (decimal (peer % 256) ++ rest)))
-unfolding behind_peer
+peer_found : (peer : ℕ) (text rest : List ℕ) → after_peer peer text ≡ Some rest → text ≡ decimal (peer / 0x1000000) ++ 46 ∷ (decimal (peer / 0x10000 % 256) ++ 46 ∷ (decimal (peer / 0x100 % 256) ++ 46 ∷ (decimal (peer % 256) ++ rest)))
+unfolding after_peer
 peer_found peer text rest e = steps (decimal (peer / 0x1000000)) (decimal (peer / 0x10000 % 256)) (decimal (peer / 0x100 % 256)) (decimal (peer % 256)) e where
-  steps : (p q r s : List ℕ) → (behind p text >>= λ a. after 46 a >>= λ b. behind q b >>= λ c. after 46 c >>= λ d. behind r d >>= λ e. after 46 e >>= λ f. behind s f) ≡ Some rest
+  steps : (p q r s : List ℕ) → (after_text p text >>= λ a. after 46 a >>= λ b. after_text q b >>= λ c. after 46 c >>= λ d. after_text r d >>= λ e. after 46 e >>= λ f. after_text s f) ≡ Some rest
       → text ≡ p ++ 46 ∷ (q ++ 46 ∷ (r ++ 46 ∷ (s ++ rest)))
   steps p q r s h =
-      let a = chain_found (behind p text) (λ a. after 46 a >>= λ b. behind q b >>= λ c. after 46 c >>= λ d. behind r d >>= λ e. after 46 e >>= λ f. behind s f) rest h in
-      let b = chain_found (after 46 a.0) (λ b. behind q b >>= λ c. after 46 c >>= λ d. behind r d >>= λ e. after 46 e >>= λ f. behind s f) rest a.2 in
-      let c = chain_found (behind q b.0) (λ c. after 46 c >>= λ d. behind r d >>= λ e. after 46 e >>= λ f. behind s f) rest b.2 in
-      let d = chain_found (after 46 c.0) (λ d. behind r d >>= λ e. after 46 e >>= λ f. behind s f) rest c.2 in
-      let e = chain_found (behind r d.0) (λ e. after 46 e >>= λ f. behind s f) rest d.2 in
-      let f = chain_found (after 46 e.0) (λ f. behind s f) rest e.2 in
-      behind_found p text a.0 a.1 ∙ ap (λ (t : List ℕ). p ++ t) (after_found 46 a.0 b.0 b.1 ∙ ap (λ (t : List ℕ). 46 ∷ t) (behind_found q b.0 c.0 c.1 ∙ ap (λ (t : List ℕ). q ++ t)
-      (after_found 46 c.0 d.0 d.1 ∙ ap (λ (t : List ℕ). 46 ∷ t) (behind_found r d.0 e.0 e.1 ∙ ap (λ (t : List ℕ). r ++ t) (after_found 46 e.0 f.0 f.1 ∙ ap (λ (t : List ℕ). 46 ∷ t) (behind_found s f.0 rest f.2))))))
+      let a = chain_found (after_text p text) (λ a. after 46 a >>= λ b. after_text q b >>= λ c. after 46 c >>= λ d. after_text r d >>= λ e. after 46 e >>= λ f. after_text s f) rest h in
+      let b = chain_found (after 46 a.0) (λ b. after_text q b >>= λ c. after 46 c >>= λ d. after_text r d >>= λ e. after 46 e >>= λ f. after_text s f) rest a.2 in
+      let c = chain_found (after_text q b.0) (λ c. after 46 c >>= λ d. after_text r d >>= λ e. after 46 e >>= λ f. after_text s f) rest b.2 in
+      let d = chain_found (after 46 c.0) (λ d. after_text r d >>= λ e. after 46 e >>= λ f. after_text s f) rest c.2 in
+      let e = chain_found (after_text r d.0) (λ e. after 46 e >>= λ f. after_text s f) rest d.2 in
+      let f = chain_found (after 46 e.0) (λ f. after_text s f) rest e.2 in
+      after_text_found p text a.0 a.1 ∙ ap (λ (t : List ℕ). p ++ t) (after_found 46 a.0 b.0 b.1 ∙ ap (λ (t : List ℕ). 46 ∷ t) (after_text_found q b.0 c.0 c.1 ∙ ap (λ (t : List ℕ). q ++ t)
+      (after_found 46 c.0 d.0 d.1 ∙ ap (λ (t : List ℕ). 46 ∷ t) (after_text_found r d.0 e.0 e.1 ∙ ap (λ (t : List ℕ). r ++ t) (after_found 46 e.0 f.0 f.1 ∙ ap (λ (t : List ℕ). 46 ∷ t) (after_text_found s f.0 rest f.2))))))
 
-peer_spelled : (peer : ℕ) → behind_peer peer (peer_text peer) ≡ Some []
-unfolding behind_peer
+peer_spelled : (peer : ℕ) → after_peer peer (peer_text peer) ≡ Some []
+unfolding after_peer
 peer_spelled peer = steps (decimal (peer / 0x1000000)) (decimal (peer / 0x10000 % 256)) (decimal (peer / 0x100 % 256)) (decimal (peer % 256)) where
-  steps : (p q r s : List ℕ) → (behind p (p ++ 46 ∷ (q ++ 46 ∷ (r ++ 46 ∷ s))) >>= λ a. after 46 a >>= λ b. behind q b >>= λ c. after 46 c >>= λ d. behind r d >>= λ e. after 46 e >>= λ f. behind s f) ≡ Some []
+  steps : (p q r s : List ℕ) → (after_text p (p ++ 46 ∷ (q ++ 46 ∷ (r ++ 46 ∷ s))) >>= λ a. after 46 a >>= λ b. after_text q b >>= λ c. after 46 c >>= λ d. after_text r d >>= λ e. after 46 e >>= λ f. after_text s f) ≡ Some []
   steps p q r s =
-      let a = behind_some p (46 ∷ (q ++ 46 ∷ (r ++ 46 ∷ s))) in
-      let b = behind_some q (46 ∷ (r ++ 46 ∷ s)) in
-      let c = behind_some r (46 ∷ s) in
-      let d : behind s s ≡ Some [] = ap (behind s) (sym (append-nil s)) ∙ behind_some s [] in
+      let a = after_text_some p (46 ∷ (q ++ 46 ∷ (r ++ 46 ∷ s))) in
+      let b = after_text_some q (46 ∷ (r ++ 46 ∷ s)) in
+      let c = after_text_some r (46 ∷ s) in
+      let d : after_text s s ≡ Some [] = ap (after_text s) (sym (append-nil s)) ∙ after_text_some s [] in
       rw a (rw b (rw c d))
 
 pub same_text : (xs ys : List ℕ) → pointwise nat_eq xs ys ≡ true → xs ≡ ys
@@ -64,12 +65,12 @@ same_text [] [] e = refl
 same_text [] (y ∷ ys) e = absurd cc
 same_text (x ∷ xs) [] e = absurd cc
 same_text (x ∷ xs) (y ∷ ys) e =
-    let s = both_true (eqb x y) (pointwise nat_eq xs ys) e in
+    let s = and_parts (eqb x y) (pointwise nat_eq xs ys) e in
     ap (λ (z : ℕ). z ∷ xs) (eqb-true x y s.0) ∙ ap (λ (zs : List ℕ). y ∷ zs) (same_text xs ys s.1)
 
 pub text_itself : (xs : List ℕ) → pointwise nat_eq xs xs ≡ true
 text_itself [] = refl
-text_itself (x ∷ xs) = and_true (eqb x x) (pointwise nat_eq xs xs) (eqb_same x) (text_itself xs)
+text_itself (x ∷ xs) = and_from (eqb x x) (pointwise nat_eq xs xs) (eqb_same x) (text_itself xs)
 
 pub peer_is : (peer : ℕ) (text : List ℕ) → text ≡ peer_text peer → is_peer peer text ≡ true
 peer_is peer text e = ap (is_peer peer) e ∙ text_itself (peer_text peer)
@@ -79,12 +80,12 @@ same_test true b f g = sym (f refl)
 same_test false true f g = g refl
 same_test false false f g = refl
 
-pub peer_some : (peer : ℕ) (text rest : List ℕ) (empty : Bool) → Some rest ≡ behind_peer peer text → empty ≡ eqb (length rest) 0 → empty ≡ is_peer peer text
+pub peer_some : (peer : ℕ) (text rest : List ℕ) (empty : Bool) → Some rest ≡ after_peer peer text → empty ≡ eqb (length rest) 0 → empty ≡ is_peer peer text
 peer_some peer text [] empty e n =
     n ∙ sym (peer_is peer text (peer_found peer text [] (sym e) ∙ ap (λ (t : List ℕ). decimal (peer / 0x1000000) ++ 46 ∷ (decimal (peer / 0x10000 % 256) ++ 46 ∷ (decimal (peer / 0x100 % 256) ++ 46 ∷ t))) (append-nil (decimal (peer % 256)))))
 peer_some peer text (b ∷ rest) empty e n =
     let f : eqb (length (b ∷ rest)) 0 ≡ false = ne_eqb (length (b ∷ rest)) 0 (λ z. omega arith) in
-    same_test empty (is_peer peer text) (λ t. absurd (clash empty t (n ∙ f))) (λ t. let h = e ∙ ap (behind_peer peer) (same_text text (peer_text peer) t) ∙ peer_spelled peer in absurd cc)
+    same_test empty (is_peer peer text) (λ t. absurd (both_ways empty (n ∙ f) t)) (λ t. let h = e ∙ ap (after_peer peer) (same_text text (peer_text peer) t) ∙ peer_spelled peer in absurd cc)
 
-pub peer_none : (peer : ℕ) (text : List ℕ) → None ≡ behind_peer peer text → false ≡ is_peer peer text
-peer_none peer text e = same_test false (is_peer peer text) (λ f. absurd cc) (λ t. let h = e ∙ ap (behind_peer peer) (same_text text (peer_text peer) t) ∙ peer_spelled peer in absurd cc)
+pub peer_none : (peer : ℕ) (text : List ℕ) → None ≡ after_peer peer text → false ≡ is_peer peer text
+peer_none peer text e = same_test false (is_peer peer text) (λ f. absurd cc) (λ t. let h = e ∙ ap (after_peer peer) (same_text text (peer_text peer) t) ∙ peer_spelled peer in absurd cc)

@@ -3,8 +3,8 @@ use Rattle.std.proofs.Common.{◌≡◌, ◌⊎◌, ℕ, ◌+◌, ◌<◌, ◌�
 use Rattle.std.proofs.lemmas.List.{drop_more, drop_all}
 use Rattle.rtsp_transport.specs.Fitting.{fit_of}
 use Rattle.rtsp_transport.specs.Picking.{IsForeign, IsUsable, NotUsable, IsFirst, HasForeign, Picks, prohibited_or, better, pick_of}
-use Rattle.rtsp_transport.specs.declared.choice.Pick.{Pick}
-use Rattle.rtsp_transport.specs.declared.choice.Pick.TheVariants.{Udp, Inter, Unsupported, Prohibited}
+use Rattle.rtsp_transport.specs.declared.picks.Pick.{Pick}
+use Rattle.rtsp_transport.specs.declared.picks.Pick.TheVariants.{Udp, Inter, Unsupported, Prohibited}
 use Rattle.rtsp_transport.specs.declared.spec.Spec.{Spec}
 use Rattle.rtsp_transport.proofs.FittingLemmas.{Fits, fits, usable_only, foreign_only}
 

@@ -2,28 +2,28 @@
 use Rattle.std.proofs.Common.{◌≡◌, List, [], ◌∷◌, Result, Ok, Err, refl, sym, subst, ◌∙◌, inl, inr}
 use Rattle.std.specs.Prelude.{IfOk, IfErr}
 use Rattle.std.specs.List.{AllByRecursion}
-use Rattle.rtsp_transport.specs.Gives.{◌>>=◌, GivesBy, each_of}
+use Rattle.rtsp_text.specs.Results.{◌>>=◌, GivesBy, each_of}
 use Rattle.rtsp_transport.specs.Paired.{Paired}
-use Rattle.rtsp_transport.specs.Reads.{IsSpelled, Reads, Refuses, Answers}
+use Rattle.rtsp_transport.specs.Reads.{IsSpelled, IsMalformed, Reads, Refuses, Answers}
 use Rattle.rtsp_transport.specs.declared.fault.TextFault.{TextFault}
-use Rattle.rtsp_transport.specs.declared.fault.TextFault.TheVariants.{Malformed}
+use Rattle.rtsp_transport.specs.declared.fault.TextFault.TheVariants.{OutOfMemory}
 
 -- a text that is refused spells nothing
-pub unspelled : {T X : Type 0} (Spells : T → X → Type 0) (read : T → Result X TextFault) → Reads Spells read → (text : T) (f : TextFault) → read text ≡ Err f → (f ≡ Malformed) × ((x : X) → ¬ Spells text x)
+pub unspelled : {T X : Type 0} (Spells : T → X → Type 0) (read : T → Result X TextFault) → Reads Spells read → (text : T) (f : TextFault) → read text ≡ Err f → IsMalformed (Spells text) f
 unspelled Spells read r text f e = (subst (λ (y : Result _ TextFault). IsSpelled (Spells text) y) e (r.sound text), λ x s. let c = r.complete text x s in absurd cc)
 
-pub found : {T X Y : Type 0} (Spells : T → Y → Type 0) (read : T → Result Y TextFault) → Reads Spells read → (view : X → Y) (text : T) (result : Result X TextFault) → GivesBy view result (read text)
+pub found : {T X Y : Type 0} (Spells : T → Y → Type 0) (read : T → Result Y TextFault) → Reads Spells read → (view : X → Y) (text : T) (result : Result X TextFault) → GivesBy OutOfMemory view result (read text)
     → IfOk result (λ x. Spells text (view x))
 found Spells read r view text (Ok x) g = subst (λ (y : Result _ TextFault). IsSpelled (Spells text) y) g (r.sound text)
 found Spells read r view text (Err f) g = tt
 
-pub only : {T X Y : Type 0} (Spells : T → Y → Type 0) (read : T → Result Y TextFault) → Reads Spells read → (view : X → Y) (text : T) (result : Result X TextFault) → GivesBy view result (read text)
+pub only : {T X Y : Type 0} (Spells : T → Y → Type 0) (read : T → Result Y TextFault) → Reads Spells read → (view : X → Y) (text : T) (result : Result X TextFault) → GivesBy OutOfMemory view result (read text)
     → (y : Y) → Spells text y → Answers view result y
 only Spells read r view text (Ok x) g y s = let c = r.complete text y s in let e : Ok (view x) ≡ Ok y = sym g ∙ c in cc
 only Spells read r view text (Err f) (inl m) y s = m
 only Spells read r view text (Err f) (inr g) y s = let c = r.complete text y s in absurd cc
 
-pub refused : {T X Y : Type 0} (Spells : T → Y → Type 0) (read : T → Result Y TextFault) → Reads Spells read → (view : X → Y) (text : T) (result : Result X TextFault) → GivesBy view result (read text)
+pub refused : {T X Y : Type 0} (Spells : T → Y → Type 0) (read : T → Result Y TextFault) → Reads Spells read → (view : X → Y) (text : T) (result : Result X TextFault) → GivesBy OutOfMemory view result (read text)
     → IfErr result (λ f. Refuses (Spells text) f)
 refused Spells read r view text (Ok x) g = tt
 refused Spells read r view text (Err f) (inl m) = inl m

@@ -4,7 +4,8 @@ use Rattle.std.specs.Prelude.{not, ◌&&◌}
 use Rattle.std.specs.Borrow.{Bor}
 use Rattle.std.proofs.lemmas.Bool.{eqb-true}
 use Rattle.std.proofs.lemmas.List.{append-nil, drop_more, drop_all, take_more, get_or-drop, length-drop, map-append}
-use Rattle.rtsp_transport.specs.Split.{is_closed, onto_first, split, texts}
+use Rattle.rtsp_transport.specs.Split.{is_closed, onto_first, split}
+use Rattle.rtsp_text.specs.Slices.{texts}
 
 pub onto_onto : (xs : List ℕ) (b : ℕ) (parts : List (List ℕ)) → onto_first xs (onto_first (b ∷ []) parts) ≡ onto_first (xs ++ b ∷ []) parts
 onto_onto xs b [] = refl

@@ -2,16 +2,17 @@
 use Rattle.std.proofs.Common.{◌≡◌, ℕ, Bool, true, false, cond, eqb, List, [], ◌∷◌, ◌++◌, length, Result, Ok, Err, refl, ap, ◌∙◌}
 use Rattle.std.specs.Prelude.{not, ◌&&◌}
 use Rattle.std.specs.List.{list_all, AllByRecursion}
-use Rattle.rtsp_transport.specs.Bytes.{is_blank, is_token_byte}
+use Rattle.rtsp_text.specs.Bytes.{is_blank, is_token, is_token_byte}
 use Rattle.rtsp_transport.specs.Paired.{Paired}
 use Rattle.rtsp_transport.specs.Reads.{IsSpelled, Reads}
 use Rattle.rtsp_transport.specs.Split.{is_part, IsPart, IsSplit, is_closed, split}
-use Rattle.rtsp_transport.specs.Tags.{SpellsTag, SpellsTags, is_token, tag_of, tags_in, tags_of}
-use Rattle.rtsp_transport.specs.Trim.{trimmed}
+use Rattle.rtsp_transport.specs.Tags.{SpellsTag, SpellsTags, tag_of, tags_in, tags_of}
+use Rattle.rtsp_text.specs.Trim.{trimmed}
 use Rattle.rtsp_transport.specs.declared.fault.TextFault.{TextFault}
 use Rattle.rtsp_transport.specs.declared.fault.TextFault.TheVariants.{Malformed}
-use Rattle.rtsp_transport.proofs.BoolLemmas.{both_true, and_true, not_true, other, all_weaker, all_joined}
-use Rattle.rtsp_transport.proofs.PaddingLemmas.{padded_only, trimmed_padded}
+use Rattle.std.proofs.lemmas.Bool.{and_parts, and_from, not-true}
+use Rattle.rtsp_text.proofs.ByteLemmas.{other, all_weaker, all_joined}
+use Rattle.rtsp_text.proofs.PaddingLemmas.{padded_only, trimmed_padded}
 use Rattle.rtsp_transport.proofs.PartsLemmas.{split_is, split_only}
 use Rattle.rtsp_transport.proofs.ReadsLemmas.{each_reads}
 
@@ -43,17 +44,17 @@ is_plain b = not (eqb b 34) && not (eqb b 44)
 plain_part : (part : List ℕ) → list_all is_plain part ≡ true → is_part false 44 part ≡ true
 plain_part [] e = refl
 plain_part (b ∷ bytes) e =
-    let s = both_true (is_plain b) (list_all is_plain bytes) e in
-    let t = both_true (not (eqb b 34)) (not (eqb b 44)) s.0 in
-    let q = not_true (eqb b 34) t.0 in
-    rw q (and_true (not (eqb b 44)) (is_part false 44 bytes) t.1 (plain_part bytes s.1))
+    let s = and_parts (is_plain b) (list_all is_plain bytes) e in
+    let t = and_parts (not (eqb b 34)) (not (eqb b 44)) s.0 in
+    let q = not-true (eqb b 34) t.0 in
+    rw q (and_from (not (eqb b 44)) (is_part false 44 bytes) t.1 (plain_part bytes s.1))
 
 plain_of : (p : ℕ → Bool) (bytes : List ℕ) → p 34 ≡ false → p 44 ≡ false → list_all p bytes ≡ true → list_all is_plain bytes ≡ true
-plain_of p bytes q c e = all_weaker p is_plain bytes (λ b h. and_true (not (eqb b 34)) (not (eqb b 44)) (other p 34 b q h) (other p 44 b c h)) e
+plain_of p bytes q c e = all_weaker p is_plain bytes (λ b h. and_from (not (eqb b 34)) (not (eqb b 44)) (other p 34 b q h) (other p 44 b c h)) e
 
 tag_part : (part tag : List ℕ) → SpellsTag part tag → IsPart 44 part
 tag_part part tag s =
-    let t = (both_true (not (eqb (length tag) 0)) (list_all is_token_byte tag) s.token).1 in
+    let t = (and_parts (not (eqb (length tag) 0)) (list_all is_token_byte tag) s.token).1 in
     let p = s.padded in
     let all : list_all is_plain (p.before ++ (tag ++ p.behind)) ≡ true =
     all_joined is_plain p.before (tag ++ p.behind) (plain_of is_blank p.before refl refl p.before_blank)

@@ -3,10 +3,10 @@ use Rattle.std.proofs.Common.{◌≡◌, ◌≢◌, ℕ, ◌≤◌, Bool, true, 
 use Rattle.std.specs.Prelude.{not}
 use Rattle.std.specs.List.{AllByRecursion}
 use Rattle.std.proofs.lemmas.Bool.{ltb-false, le-ltb}
-use Rattle.rtsp_transport.specs.Trim.{trimmed, IsPadded}
-use Rattle.rtsp_transport.specs.SplitOnce.{split_once}
+use Rattle.rtsp_text.specs.Trim.{trimmed, IsPadded}
+use Rattle.rtsp_text.specs.SplitOnce.{split_once, IsSplitAt}
 use Rattle.rtsp_transport.specs.Split.{IsPart, IsSplit, is_closed, split}
-use Rattle.rtsp_transport.specs.Gives.{◌>>=◌}
+use Rattle.rtsp_text.specs.Results.{◌>>=◌}
 use Rattle.rtsp_transport.specs.Paired.{Paired}
 use Rattle.rtsp_transport.specs.Reads.{IsSpelled, Reads}
 use Rattle.rtsp_transport.specs.Transport.{SpellsParameter, SpellsProtocol, SpellsSpec, SpellsTransport}
@@ -15,8 +15,8 @@ use Rattle.rtsp_transport.specs.declared.spec.Parameter.{Parameter}
 use Rattle.rtsp_transport.specs.declared.spec.Spec.{Spec}
 use Rattle.rtsp_transport.specs.declared.fault.TextFault.{TextFault}
 use Rattle.rtsp_transport.specs.declared.fault.TextFault.TheVariants.{Malformed}
-use Rattle.rtsp_transport.proofs.PaddingLemmas.{padded_only, trimmed_padded}
-use Rattle.rtsp_transport.proofs.SplitOnceLemmas.{CutsAt, split_cuts, split_found, split_missed}
+use Rattle.rtsp_text.proofs.PaddingLemmas.{padded_only, trimmed_padded}
+use Rattle.rtsp_text.proofs.SplitLemmas.{split_found, split_missed, split_is as split_is_at}
 use Rattle.rtsp_transport.proofs.PartsLemmas.{split_is, split_only, part_closed}
 use Rattle.rtsp_transport.proofs.ReadsLemmas.{each_reads, each_sound, each_complete}
 
@@ -33,13 +33,13 @@ joined_some (x ∷ front) b rest e = absurd cc
 parameter_sound : (part : List ℕ) → IsSpelled (SpellsParameter part) (parameter_of part)
 unfolding parameter_of
 parameter_sound part = go (trimmed part) (trimmed_padded part) where
-  cut : (b : ℕ) (text : List ℕ) → IsPadded part (b ∷ text) → (r : Option (List ℕ × List ℕ)) → CutsAt 61 (b ∷ text) r → SpellsParameter part (named (b ∷ text) r)
+  cut : (b : ℕ) (text : List ℕ) → IsPadded part (b ∷ text) → (r : Option (List ℕ × List ℕ)) → IsSplitAt 61 (b ∷ text) r → SpellsParameter part (named (b ∷ text) r)
   cut b text p None h = record { padded = p; some = λ e. absurd cc; name = h }
   cut b text p (Some q) h = record { padded = subst (λ (t : List ℕ). IsPadded part t) h.0 p; some = joined_some q.0 61 q.1; name = h.1 }
 
   go : (t : List ℕ) → IsPadded part t → IsSpelled (SpellsParameter part) (some_text t >>= λ text. Ok (named text (split_once 61 text)))
   go [] p = refl
-  go (b ∷ text) p = cut b text p (split_once 61 (b ∷ text)) (split_cuts 61 (b ∷ text))
+  go (b ∷ text) p = cut b text p (split_once 61 (b ∷ text)) (split_is_at 61 (b ∷ text))
 
 parameter_complete : (part name : List ℕ) (value : Option (List ℕ)) → SpellsParameter part (record { name = name; value = value }) → parameter_of part ≡ Ok (record { name = name; value = value })
 unfolding parameter_of

@@ -1,10 +1,10 @@
 -- The addresses of a client (RFC 7826 section 18.54, dest_addr).
 use Rattle.std.specs.Prelude.{◌≡◌, ◌<◌, ◌≤◌, ℕ, true, ◌==◌, ◌&&◌, nat_le, List, [], ◌∷◌, ◌++◌, Option, Some, None, if◌then◌else◌}
 use Rattle.std.specs.List.{list_all}
-use Rattle.rtsp_transport.specs.Bytes.{is_other}
-use Rattle.rtsp_transport.specs.Chain.{◌>>=◌}
-use Rattle.rtsp_transport.specs.Number.{SpellsNumber, number_of}
-use Rattle.rtsp_transport.specs.SplitOnce.{split_once}
+use Rattle.rtsp_text.specs.Bytes.{is_other}
+use Rattle.rtsp_text.specs.Options.{◌>>=◌}
+use Rattle.rtsp_text.specs.Decimal.{SpellsNumber, number_of}
+use Rattle.rtsp_text.specs.SplitOnce.{split_once}
 
 -- a host, which may be empty, and a port
 pub record Place : Type 0 where
@@ -37,18 +37,18 @@ pub record SpellsPlaces (text : List ℕ) (places : Places) : Type 0 where
 
 -- ---- the one pair of a text, read from left to right
 
--- what stands behind this byte
+-- the text after this byte
 abbrev pub after : ℕ → List ℕ → Option (List ℕ)
 after byte [] = None
 after byte (b ∷ bytes) = if b == byte then Some bytes else None
 
--- what stands in quotes, and what stands behind them
+-- what is in quotes, and the text after them
 unfoldable pub quoted_of : List ℕ → Option (List ℕ × List ℕ)
 quoted_of text = do
   rest ← after 34 text
   split_once 34 rest
 
--- two texts, where nothing stands behind the second
+-- two texts, where nothing is after the second
 abbrev pub alone : List ℕ → List ℕ × List ℕ → Option (List ℕ × List ℕ)
 alone first (second, []) = Some (first, second)
 alone first (second, b ∷ bytes) = None

@@ -1,14 +1,14 @@
 -- What a specification comes to, read from its parameters.
 use Rattle.std.specs.Prelude.{ℕ, ◌||◌, ◌&&◌, is_some, List, Option, Some, None, codes, if◌then◌else◌}
 use Rattle.std.specs.List.{list_any}
-use Rattle.rtsp_transport.specs.Chain.{◌>>=◌}
+use Rattle.rtsp_text.specs.Options.{◌>>=◌}
 use Rattle.rtsp_transport.specs.Address.{Places, places_of}
 use Rattle.rtsp_transport.specs.Hosts.{allows, is_bracketed}
 use Rattle.rtsp_transport.specs.Names.{is_udp, is_tcp}
 use Rattle.rtsp_transport.specs.Parameters.{asks_more, first_named, first_value}
-use Rattle.rtsp_transport.specs.Wish.{wish_of}
-use Rattle.rtsp_transport.specs.declared.choice.Pick.{Pick}
-use Rattle.rtsp_transport.specs.declared.choice.Pick.TheVariants.{Udp, Inter, Unsupported, Prohibited}
+use Rattle.rtsp_transport.specs.Channels.{pair_of}
+use Rattle.rtsp_transport.specs.declared.picks.Pick.{Pick}
+use Rattle.rtsp_transport.specs.declared.picks.Pick.TheVariants.{Udp, Inter, Unsupported, Prohibited}
 use Rattle.rtsp_transport.specs.declared.spec.Parameter.{Parameter}
 use Rattle.rtsp_transport.specs.declared.spec.Spec.{Spec}
 
@@ -23,7 +23,7 @@ udp_fit peer parameters = udp_to peer (first_value (codes "dest_addr") parameter
 
 abbrev pub inter_on : Option (List ℕ) → Pick
 inter_on None = Unsupported
-inter_on (Some text) = Inter (wish_of text)
+inter_on (Some text) = Inter (pair_of text)
 
 unfoldable pub inter_fit : List Parameter → Pick
 inter_fit parameters = if is_some (first_named (codes "dest_addr") parameters) then Unsupported else inter_on (first_value (codes "interleaved") parameters)

@@ -1,8 +1,8 @@
 -- The Transport header of an answer (RFC 7826 section 18.54).
 use Rattle.std.specs.Prelude.{ℕ, ◌+◌, List, ◌++◌, codes, decimal}
-use Rattle.rtsp_transport.specs.Hex.{hex_text}
-use Rattle.rtsp_transport.specs.declared.granted.Granted.{Granted}
-use Rattle.rtsp_transport.specs.declared.granted.Granted.TheVariants.{Udp, Inter}
+use Rattle.rtsp_text.specs.Hexadecimal.{hex_text}
+use Rattle.rtsp_transport.specs.declared.write.Granted.{Granted}
+use Rattle.rtsp_transport.specs.declared.write.Granted.TheVariants.{Udp, Inter}
 
 -- two quoted addresses without hosts, joined by a slash
 abbrev pub ports_text : ℕ → ℕ → List ℕ

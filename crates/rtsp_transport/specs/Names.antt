@@ -15,7 +15,7 @@ is_udp protocol = is_named protocol (codes "RTP/AVP") || is_named protocol (code
 unfoldable pub is_tcp : List ℕ → Bool
 is_tcp protocol = is_named protocol (codes "RTP/AVP/TCP")
 
--- a parameter of this name asks for what this server has not
+-- a parameter of this name asks for more than this server serves
 unfoldable pub is_unserved : List ℕ → Bool
 is_unserved name =
     ((((((is_named name (codes "multicast") || is_named name (codes "ttl")) || is_named name (codes "layers")) || is_named name (codes "setup"))

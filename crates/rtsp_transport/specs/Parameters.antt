@@ -9,7 +9,7 @@ abbrev pub is_play : Option (List ℕ) → Bool
 is_play None = false
 is_play (Some mode) = is_named mode (codes "PLAY") || is_named mode (codes "\"PLAY\"")
 
--- the parameter asks for what this server has not
+-- the parameter asks for more than this server serves
 unfoldable pub asks_more : Parameter → Bool
 asks_more p = is_unserved p.name || (is_named p.name (codes "mode") && not (is_play p.value))
 

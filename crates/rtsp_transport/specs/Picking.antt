@@ -5,13 +5,13 @@ use Rattle.rtsp_transport.specs.Address.{Places, SpellsPlaces}
 use Rattle.rtsp_transport.specs.Hosts.{AllowsHost, is_bracketed}
 use Rattle.rtsp_transport.specs.Names.{is_udp, is_tcp}
 use Rattle.rtsp_transport.specs.Parameters.{asks_more, first_named, first_value}
-use Rattle.rtsp_transport.specs.Wish.{IsWish}
+use Rattle.rtsp_transport.specs.Channels.{IsPairOf}
 use Rattle.rtsp_transport.specs.Fitting.{fit_of}
-use Rattle.rtsp_transport.specs.declared.choice.Pick.{Pick}
-use Rattle.rtsp_transport.specs.declared.choice.Pick.TheVariants.{Udp, Inter, Unsupported, Prohibited}
+use Rattle.rtsp_transport.specs.declared.picks.Pick.{Pick}
+use Rattle.rtsp_transport.specs.declared.picks.Pick.TheVariants.{Udp, Inter, Unsupported, Prohibited}
 use Rattle.rtsp_transport.specs.declared.spec.Spec.{Spec}
 
--- RTP over UDP to a pair of addresses, and nothing that this server has not
+-- RTP over UDP to a pair of addresses, and no more than this server serves
 pub record IsUdpForm (spec : Spec) (places : Places) : Type 0 where
   pub protocol : is_udp spec.protocol ≡ true
   pub served : list_any asks_more spec.parameters ≡ false
@@ -36,14 +36,14 @@ pub record IsForeign (peer : ℕ) (spec : Spec) : Type 0 where
   pub form : IsUdpForm spec places
   pub foreign : ¬ (AllowsHost peer places.rtp.host × AllowsHost peer places.rtcp.host)
 
--- usable over the connection itself, with this wish
+-- usable over the connection itself, on these channels where the client names any
 pub record IsInterleaved (spec : Spec) (wish : Option ℕ) : Type 0 where
   pub protocol : is_tcp spec.protocol ≡ true
   pub served : list_any asks_more spec.parameters ≡ false
   pub no_address : first_named (codes "dest_addr") spec.parameters ≡ None
   pub text : List ℕ
   pub value : first_value (codes "interleaved") spec.parameters ≡ Some text
-  pub wished : IsWish text wish
+  pub wished : IsPairOf text wish
 
 -- the specification is usable so
 abbrev pub IsUsable : ℕ → Spec → Pick → Type 0
@@ -87,7 +87,7 @@ prohibited_or (Inter wish) = Inter wish
 prohibited_or Unsupported = Prohibited
 prohibited_or Prohibited = Prohibited
 
--- what one specification and the ones behind it come to
+-- what one specification and the ones after it come to
 abbrev pub better : Pick → Pick → Pick
 better (Udp rtp_port rtcp_port) rest = Udp rtp_port rtcp_port
 better (Inter wish) rest = Inter wish

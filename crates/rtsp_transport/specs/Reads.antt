@@ -13,9 +13,13 @@ pub record Reads {T X : Type 0} (Spells : T → X → Type 0) (read : T → Resu
   pub sound : (text : T) → IsSpelled (Spells text) (read text)
   pub complete : (text : T) (x : X) → Spells text x → read text ≡ Ok x
 
+-- the text spells no value
+abbrev pub IsMalformed : {X : Type 0} → (X → Type 0) → TextFault → Type 0
+IsMalformed {X} Spelled fault = (fault ≡ Malformed) × ((x : X) → ¬ Spelled x)
+
 -- memory ran out, or the text spells no value
 abbrev pub Refuses : {X : Type 0} → (X → Type 0) → TextFault → Type 0
-Refuses {X} Spelled fault = (fault ≡ OutOfMemory) ⊎ ((fault ≡ Malformed) × ((x : X) → ¬ Spelled x))
+Refuses Spelled fault = (fault ≡ OutOfMemory) ⊎ IsMalformed Spelled fault
 
 -- the value is this one, seen by a view, unless memory ran out
 abbrev pub Answers : {X Y : Type 0} → (X → Y) → Result X TextFault → Y → Type 0

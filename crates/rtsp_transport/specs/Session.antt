@@ -1,8 +1,12 @@
 -- The value of a Session header (RFC 7826 section 18.49).
-use Rattle.std.specs.Prelude.{◌≡◌, ◌<◌, ◌≤◌, ℕ, Bool, true, not, ◌==◌, ◌&&◌, nat_le, List, [], ◌∷◌, ◌++◌, length, Option, Some, None}
-use Rattle.std.specs.List.{list_all}
-use Rattle.rtsp_transport.specs.Bytes.{is_session_byte}
-use Rattle.rtsp_transport.specs.SplitOnce.{split_once}
+use Rattle.std.specs.Prelude.{◌≡◌, ◌<◌, ◌≤◌, ℕ, Bool, true, not, ◌==◌, ◌&&◌, ◌||◌, codes, nat_le, List, [], ◌∷◌, ◌++◌, length, Option, Some, None}
+use Rattle.std.specs.Char.{is_ascii_alphanumeric}
+use Rattle.std.specs.List.{list_all, list_any}
+use Rattle.rtsp_text.specs.SplitOnce.{split_once}
+
+-- a byte of a session's identifier (RFC 7826 section 4.3)
+abbrev pub is_session_byte : ℕ → Bool
+is_session_byte b = is_ascii_alphanumeric b || list_any (λ c. c == b) (codes "$-_.+")
 
 -- nothing, or a semicolon and any text
 abbrev pub IsIgnored : List ℕ → Type 0
@@ -18,12 +22,12 @@ pub record SpellsSession (text name : List ℕ) : Type 0 where
   pub few : length name ≤ 256
   pub bytes : list_all is_session_byte name ≡ true
 
--- what stands before the cut
+-- the text before the split
 abbrev pub front_of : List ℕ → Option (List ℕ × List ℕ) → List ℕ
 front_of text None = text
 front_of text (Some p) = p.0
 
--- what stands before the first semicolon
+-- the text before the first semicolon
 abbrev pub name_of : List ℕ → List ℕ
 name_of text = front_of text (split_once 59 text)
 

@@ -1,9 +1,8 @@
--- Parts of a text round a separator that may stand in quotes too.
-use Rattle.std.specs.Prelude.{◌≡◌, ◌≢◌, ℕ, Bool, true, false, not, ◌==◌, ◌&&◌, ◌||◌, List, [], ◌∷◌, ◌++◌, map, if◌then◌else◌}
+-- Parts of a text round a separator that may be in quotes too.
+use Rattle.std.specs.Prelude.{◌≡◌, ◌≢◌, ℕ, Bool, true, false, not, ◌==◌, ◌&&◌, ◌||◌, List, [], ◌∷◌, ◌++◌, if◌then◌else◌}
 use Rattle.std.specs.List.{join_with_byte, AllByRecursion}
-use Rattle.std.specs.Borrow.{Bor}
 
--- The quotes of a part are in pairs, and the separator stands only between the two of a pair.
+-- The quotes of a part are in pairs, and the separator is only between the two of a pair.
 abbrev pub is_part : Bool → ℕ → List ℕ → Bool
 is_part inside separator [] = not inside
 is_part inside separator (b ∷ bytes) =
@@ -34,7 +33,3 @@ split inside separator [] = [] ∷ []
 split inside separator (b ∷ bytes) =
     if b == 34 then onto_first (b ∷ []) (split (not inside) separator bytes)
     else (if (b == separator) && not inside then [] ∷ split false separator bytes else onto_first (b ∷ []) (split inside separator bytes))
-
--- what slices hold
-abbrev pub texts : List (Bor (List ℕ)) → List (List ℕ)
-texts slices = map (λ s. s.now) slices

@@ -1,18 +1,14 @@
 -- The option tags of a Require header (RFC 7826 section 18.43).
-use Rattle.std.specs.Prelude.{◌≡◌, ◌≢◌, ℕ, Bool, true, false, not, ◌==◌, ◌&&◌, List, [], length, codes, Result, Ok, Err, if◌then◌else◌}
-use Rattle.std.specs.List.{join_with_byte, list_all}
+use Rattle.std.specs.Prelude.{◌≡◌, ◌≢◌, ℕ, Bool, true, false, not, List, [], codes, Result, Ok, Err, if◌then◌else◌}
+use Rattle.std.specs.List.{join_with_byte}
 use Rattle.std.specs.Str.{bytes_eq}
-use Rattle.rtsp_transport.specs.Bytes.{is_token_byte}
-use Rattle.rtsp_transport.specs.Gives.{each_of}
+use Rattle.rtsp_text.specs.Bytes.{is_token}
+use Rattle.rtsp_text.specs.Results.{each_of}
 use Rattle.rtsp_transport.specs.Paired.{Paired}
 use Rattle.rtsp_transport.specs.Split.{is_closed, split}
-use Rattle.rtsp_transport.specs.Trim.{IsPadded, trimmed}
+use Rattle.rtsp_text.specs.Trim.{IsPadded, trimmed}
 use Rattle.rtsp_transport.specs.declared.fault.TextFault.{TextFault}
 use Rattle.rtsp_transport.specs.declared.fault.TextFault.TheVariants.{Malformed}
-
--- one byte of a token or more
-abbrev pub is_token : List ℕ → Bool
-is_token text = not (length text == 0) && list_all is_token_byte text
 
 -- The part is a token with spaces and tabs round it.
 pub record SpellsTag (part tag : List ℕ) : Type 0 where

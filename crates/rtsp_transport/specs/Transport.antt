@@ -1,8 +1,8 @@
 -- The value of a Transport header (RFC 7826 section 18.54).
 use Rattle.std.specs.Prelude.{◌≡◌, ◌≢◌, ◌≤◌, ℕ, true, List, [], ◌∷◌, ◌++◌, length, Option, Some, None}
 use Rattle.std.specs.List.{list_all}
-use Rattle.rtsp_transport.specs.Bytes.{is_other}
-use Rattle.rtsp_transport.specs.Trim.{IsPadded}
+use Rattle.rtsp_text.specs.Bytes.{is_other}
+use Rattle.rtsp_text.specs.Trim.{IsPadded}
 use Rattle.rtsp_transport.specs.Split.{IsSplit}
 use Rattle.rtsp_transport.specs.Paired.{Paired}
 use Rattle.rtsp_transport.specs.declared.spec.Parameter.{Parameter}

@@ -1,8 +1,8 @@
 -- The one value of a Transport header, read from left to right.
 use Rattle.std.specs.Prelude.{ℕ, not, nat_lt, false, List, [], ◌∷◌, length, Option, Some, None, Result, Ok, Err, if◌then◌else◌}
-use Rattle.rtsp_transport.specs.Gives.{◌>>=◌, each_of}
-use Rattle.rtsp_transport.specs.Trim.{trimmed}
-use Rattle.rtsp_transport.specs.SplitOnce.{split_once}
+use Rattle.rtsp_text.specs.Results.{◌>>=◌, each_of}
+use Rattle.rtsp_text.specs.Trim.{trimmed}
+use Rattle.rtsp_text.specs.SplitOnce.{split_once}
 use Rattle.rtsp_transport.specs.Split.{is_closed, split}
 use Rattle.rtsp_transport.specs.declared.spec.Parameter.{Parameter}
 use Rattle.rtsp_transport.specs.declared.spec.Spec.{Spec}

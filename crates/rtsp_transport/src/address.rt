@@ -1,33 +1,35 @@
-//! The addresses of a `dest_addr` parameter.
+//! The addresses of a `dest_addr` parameter, and the text of an IPv4 address.
 
-ghost use Rattle.std.specs.Prelude.{◌≡◌};
+ghost use Rattle.std.specs.Prelude.{◌≡◌, decimal};
 ghost use Rattle.std.specs.Option.{option_map};
-ghost use Rattle.rtsp_transport.specs.SplitOnce.{halves};
-ghost use Rattle.rtsp_transport.specs.Address.{after, quoted_of, quoted_pair, port_of, place_of, places_of};
+ghost use Rattle.rtsp_text.specs.Slices.{held, halves};
+ghost use Rattle.rtsp_transport.specs.Address.{after, quoted_of, quoted_pair};
+ghost use Rattle.rtsp_transport.specs.Address.{port_of, place_of, places_of};
+ghost use Rattle.rtsp_transport.specs.Peer.{after_text, after_peer, is_peer};
 
-use crate::bytes::split_once;
-use crate::number::number_of;
+use itoa::Buffer;
+use rtsp_text::{number_of, split_once};
 
 const QUOTE: u8 = b'"';
-/// The most digits of a port.
+// The most digits of a port.
 const PORT_DIGITS: usize = 5;
 
-/// Where a client wants packets: a host, which may be empty, and a port from 1 on.
+/// Where a client wants packets: a host, which may be empty, and a port, which isn't 0.
 #[derive(Clone, Copy)]
 pub struct Address<'a> {
     pub host: &'a [u8],
     pub port: u16,
 }
 
-/// What stands behind this byte.
-pub fn after(text: &[u8], byte: u8) -> Option<&[u8]>
-    ensures { option_map (λ s. s.now) result ≡ after byte text.now }
+// The text after this byte.
+fn after(text: &[u8], byte: u8) -> Option<&[u8]>
+    ensures { held result ≡ after byte text.now }
 {
     let (first, rest) = text.split_first()?;
     if *first == byte { Some(rest) } else { None }
 }
 
-/// What stands in quotes at the front, and what stands behind them.
+// What is in quotes at the front, and the text after them.
 #[tactic(auto, unfolding(crate::specs::Address::quoted_of))]
 fn quoted_of(text: &[u8]) -> Option<(&[u8], &[u8])>
     ensures { halves result ≡ quoted_of text.now }
@@ -36,7 +38,7 @@ fn quoted_of(text: &[u8]) -> Option<(&[u8], &[u8])>
     split_once(rest, QUOTE)
 }
 
-/// Two quoted texts joined by a slash.
+// Two quoted texts joined by a slash.
 #[tactic(auto, unfolding(crate::specs::Address::quoted_pair))]
 fn quoted_pair(text: &[u8]) -> Option<(&[u8], &[u8])>
     ensures { halves result ≡ quoted_pair text.now }
@@ -84,5 +86,47 @@ impl Address<'_> {
         let rtp = Address::read(rtp)?;
         let rtcp = Address::read(rtcp)?;
         Some((rtp, rtcp))
+    }
+}
+
+// The text after this front.
+#[tactic(auto, unfolding(crate::specs::Peer::after_text))]
+fn after_text<'a>(text: &'a [u8], front: &[u8]) -> Option<&'a [u8]>
+    ensures { held result ≡ after_text front.now text.now }
+{
+    if !text.starts_with(front) {
+        return None;
+    }
+    let (_, rest) = text.split_at(front.len());
+    Some(rest)
+}
+
+fn after_number(text: &[u8], n: u32) -> Option<&[u8]>
+    ensures { held result ≡ after_text (decimal n) text.now }
+{
+    let mut buffer = Buffer::new();
+    after_text(text, buffer.format(n).as_bytes())
+}
+
+#[tactic(auto, unfolding(crate::specs::Peer::after_peer))]
+fn after_peer(text: &[u8], peer: u32) -> Option<&[u8]>
+    ensures { held result ≡ after_peer peer text.now }
+{
+    let rest = after_number(text, peer / 0x0100_0000)?;
+    let rest = after(rest, b'.')?;
+    let rest = after_number(rest, peer / 0x0001_0000 % 256)?;
+    let rest = after(rest, b'.')?;
+    let rest = after_number(rest, peer / 0x0000_0100 % 256)?;
+    let rest = after(rest, b'.')?;
+    after_number(rest, peer % 256)
+}
+
+/// The text is the address's, as four decimal numbers with dots between them.
+pub fn is_peer(text: &[u8], peer: u32) -> bool
+    ensures { result ≡ is_peer peer text.now }
+{
+    match after_peer(text, peer) {
+        Some(rest) => rest.is_empty(),
+        None => false,
     }
 }

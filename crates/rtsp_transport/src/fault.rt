@@ -9,10 +9,10 @@ use thiserror::Error;
 /// Why a header's value could not be read.
 #[derive(Clone, Copy, Debug, PartialEq, Eq, Error)]
 pub enum TextFault {
-    /// The grammar has no such text.
+    /// The text is not one that the header's grammar has.
     #[error("malformed header value")]
     Malformed,
-    /// A growth of memory was refused. The text may be well formed or not.
+    /// An allocation was refused. The text may be well formed or not.
     #[error("out of memory")]
     OutOfMemory,
 }

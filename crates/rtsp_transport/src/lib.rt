@@ -1,37 +1,30 @@
-//! The header values of RTSP 2.0 for transports, sessions, startup numbers and option tags.
+//! The header values of RTSP 2.0 for transports, sessions, numbers of requests and option tags.
 #![tactic(auto)]
 
 mod address;
-mod bytes;
-mod choice;
+mod channels;
 mod fault;
-mod granted;
-mod hex;
-mod names;
-mod number;
-mod parameters;
-mod peer;
-mod picking;
-mod reading;
+mod laws;
+mod numbers;
+mod picks;
 mod session;
 mod spec;
 mod split;
-mod startup;
 mod tags;
-mod text;
 mod transports;
-mod wish;
+mod write;
 
-pub use choice::Pick;
+pub use channels::ChannelPair;
 pub use fault::TextFault;
-pub use granted::{Granted, write_ssrc, write_transport};
-pub use picking::pick;
+pub use laws::law_header_grammar;
+pub use numbers::{read_cseq, read_startup};
+pub use picks::Pick;
+pub use rtsp_text::Text;
 pub use session::{read_session, session_id, write_session_id};
-pub use spec::{Parameter, Parameters, Spec};
-pub use startup::{read_cseq, read_startup};
+pub use spec::{Parameter, Spec};
 pub use tags::{is_known, read_tags};
-pub use text::Text;
-pub use transports::read_transports;
+pub use transports::{pick, read_transports};
+pub use write::{Granted, write_ssrc, write_transport};
 
 #[cfg(test)]
 mod tests;

@@ -1,10 +1,15 @@
-//! Transport specifications as plain trees.
+//! Transport specifications as plain trees (RFC 7826 section 18.54).
 
-ghost use Rattle.std.specs.Prelude.{◌≡◌, [], ◌∷◌, ◌++◌, OnOk};
+ghost use Rattle.std.specs.Prelude.{◌≡◌};
+ghost use Rattle.rtsp_text.specs.Results.{Gives, GivesBy};
+ghost use Rattle.rtsp_text.specs.Slices.{texts};
+ghost use Rattle.rtsp_transport.specs.Names.{is_named};
+ghost use Rattle.rtsp_transport.specs.declared.fault.TextFault.TheVariants.{OutOfMemory};
 
-use crate::text::Text;
-use std::alloc::{AllocError, Global};
-use std::marker::Model;
+use crate::fault::TextFault;
+use crate::split::split;
+use rtsp_text::{List, Text, split_once, trimmed};
+use std::alloc::Global;
 
 /// One parameter of a specification: `name` or `name=value`.
 #[derive(Debug, Drop)]
@@ -13,50 +18,167 @@ pub struct Parameter {
     pub value: Option<Text>,
 }
 
-/// The parameters of a specification, in order.
-#[derive(Debug, Drop)]
-pub struct Parameters {
-    items: Vec<Parameter>,
-}
-
-impl Model for Parameters {
-    ghost use Rattle.std.specs.Prelude.{List};
-    ghost use Rattle.rtsp_transport.specs.declared.spec.Parameter.{Parameter};
-
-    ghost Value = { List Parameter };
-
-    ghost view = { λ p. p.items.items };
-}
-
-impl Parameters {
-    /// No parameters.
-    pub fn new(alloc: Global) -> Parameters
-        ensures { result ≡ [] }
-    {
-        Parameters {
-            items: Vec::new(alloc),
-        }
-    }
-
-    /// Adds a parameter at the end.
-    pub fn push(&mut self, parameter: Parameter) -> Result<(), AllocError>
-        ensures { OnOk result (self.new ≡ self.old ++ parameter ∷ []) }
-    {
-        self.items.push(parameter)?;
-        Ok(())
-    }
-
-    /// The parameters.
-    pub fn as_slice(&self) -> &[Parameter]
-        ensures { result.now ≡ self.now }
-    {
-        self.items.as_slice()
-    }
-}
-
-/// One transport specification: a protocol and its parameters (RFC 7826 section 18.54).
+/// One transport specification: a protocol and its parameters, in order.
 #[derive(Debug, Drop)]
 pub struct Spec {
     pub protocol: Text,
-    pub parameters: Parameters,
+    pub parameters: List<Parameter>,
+}
+
+// The names are one but for the case of their ASCII letters.
+pub(crate) fn is_named(name: &[u8], other: &[u8]) -> bool
+    ensures { result ≡ is_named name.now other.now }
+{
+    name.eq_ignore_ascii_case(other)
+}
+
+impl Parameter {
+    ghost use Rattle.std.specs.Prelude.{is_some};
+    ghost use Rattle.std.specs.List.{list_any};
+    ghost use Rattle.std.specs.Option.{option_copied};
+    ghost use Rattle.rtsp_text.specs.Slices.{held};
+    ghost use Rattle.rtsp_transport.specs.Names.{is_unserved};
+    ghost use Rattle.rtsp_transport.specs.Parameters.{asks_more, is_play, first_named, first_value};
+    ghost use Rattle.rtsp_transport.specs.TransportReading.{parameter_of, parameters_of};
+
+    #[tactic(auto, unfolding(crate::specs::TransportReading::parameter_of))]
+    fn read(alloc: Global, part: &[u8]) -> Result<Parameter, TextFault>
+        ensures { Gives OutOfMemory result (parameter_of part.now) }
+    {
+        let text = trimmed(part);
+        if text.is_empty() {
+            return Err(TextFault::Malformed);
+        }
+        match split_once(text, b'=') {
+            Some((name, value)) => Ok(Parameter {
+                name: Text::from_slice(alloc, name)?,
+                value: Some(Text::from_slice(alloc, value)?),
+            }),
+            None => Ok(Parameter {
+                name: Text::from_slice(alloc, text)?,
+                value: None,
+            }),
+        }
+    }
+
+    fn read_each(alloc: Global, parts: &[&[u8]]) -> Result<List<Parameter>, TextFault>
+        ensures { Gives OutOfMemory result (parameters_of (texts parts.now)) }
+    {
+        let mut parameters = List::new(alloc);
+        for part in parts {
+            parameters.push(Parameter::read(alloc, part)?)?;
+        }
+        Ok(parameters)
+    }
+
+    // The mode is PLAY, in quotes or not.
+    fn is_play(&self) -> bool
+        ensures { result ≡ is_play self.now.value }
+    {
+        match &self.value {
+            Some(mode) => is_named(mode.as_bytes(), b"PLAY")
+                || is_named(mode.as_bytes(), b"\"PLAY\""),
+            None => false,
+        }
+    }
+
+    // The name is of a parameter that this server doesn't serve.
+    #[tactic(auto, unfolding(crate::specs::Names::is_unserved))]
+    fn is_unserved(name: &[u8]) -> bool
+        ensures { result ≡ is_unserved name.now }
+    {
+        is_named(name, b"multicast")
+            || is_named(name, b"ttl")
+            || is_named(name, b"layers")
+            || is_named(name, b"setup")
+            || is_named(name, b"connection")
+            || is_named(name, b"MIKEY")
+            || is_named(name, b"RTCP-mux")
+    }
+
+    // The parameter asks for more than this server serves.
+    #[tactic(auto, unfolding(crate::specs::Parameters::asks_more))]
+    fn asks_more(&self) -> bool
+        ensures { result ≡ asks_more self.now }
+    {
+        let name = self.name.as_bytes();
+        Parameter::is_unserved(name) || (is_named(name, b"mode") && !self.is_play())
+    }
+
+    /// Whether one of the parameters asks for more than this server serves.
+    pub fn any_asks_more(parameters: &[Parameter]) -> bool
+        ensures { result ≡ list_any asks_more parameters.now }
+    {
+        parameters.iter().any(|p| p.asks_more())
+    }
+
+    // The first parameter of a name.
+    fn first_named<'a>(parameters: &'a [Parameter], name: &[u8]) -> Option<&'a Parameter>
+        ensures { option_copied result ≡ first_named name.now parameters.now }
+    {
+        parameters
+            .iter()
+            .find(|p| is_named(p.name.as_bytes(), name))
+    }
+
+    /// Whether a parameter has this name.
+    pub fn any_named(parameters: &[Parameter], name: &[u8]) -> bool
+        ensures { result ≡ is_some (first_named name.now parameters.now) }
+    {
+        Parameter::first_named(parameters, name).is_some()
+    }
+
+    /// The value of the first parameter of a name.
+    pub fn first_value<'a>(parameters: &'a [Parameter], name: &[u8]) -> Option<&'a [u8]>
+        ensures { held result ≡ first_value name.now parameters.now }
+    {
+        match Parameter::first_named(parameters, name) {
+            Some(parameter) => match &parameter.value {
+                Some(value) => Some(value.as_bytes()),
+                None => None,
+            },
+            None => None,
+        }
+    }
+}
+
+impl Spec {
+    ghost use Rattle.rtsp_transport.specs.TransportReading.{protocol_of, spec_of, specs_of};
+
+    #[tactic(auto, unfolding(crate::specs::TransportReading::protocol_of))]
+    fn read_protocol(alloc: Global, part: &[u8]) -> Result<Text, TextFault>
+        ensures { Gives OutOfMemory result (protocol_of part.now) }
+    {
+        let protocol = trimmed(part);
+        if protocol.is_empty() {
+            return Err(TextFault::Malformed);
+        }
+        Ok(Text::from_slice(alloc, protocol)?)
+    }
+
+    #[tactic(auto, unfolding(crate::specs::TransportReading::spec_of))]
+    fn read(alloc: Global, text: &[u8]) -> Result<Spec, TextFault>
+        ensures { Gives OutOfMemory result (spec_of text.now) }
+    {
+        let parts = split(alloc, text, b';')?;
+        let Some((first, others)) = parts.split_first() else {
+            return Err(TextFault::Malformed);
+        };
+        let protocol = Spec::read_protocol(alloc, first)?;
+        let parameters = Parameter::read_each(alloc, others)?;
+        Ok(Spec {
+            protocol,
+            parameters,
+        })
+    }
+
+    pub fn read_each(alloc: Global, parts: &[&[u8]]) -> Result<Vec<Spec>, TextFault>
+        ensures { GivesBy OutOfMemory (λ v. v.items) result (specs_of (texts parts.now)) }
+    {
+        let mut specs = Vec::new(alloc);
+        for part in parts {
+            specs.push(Spec::read(alloc, part)?)?;
+        }
+        Ok(specs)
+    }
 }

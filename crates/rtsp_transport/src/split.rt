@@ -1,13 +1,14 @@
 //! A text split at the separators outside its quotes.
 
 ghost use Rattle.std.specs.Prelude.{◌≡◌, false, IfOk};
-ghost use Rattle.rtsp_transport.specs.Split.{is_closed, split, texts};
+ghost use Rattle.rtsp_text.specs.Slices.{texts};
+ghost use Rattle.rtsp_transport.specs.Split.{is_closed, split};
 
 use std::alloc::{AllocError, Global};
 
 const QUOTE: u8 = b'"';
 
-/// The quotes of the text are in pairs.
+// The quotes of the text are in pairs.
 pub fn is_closed(text: &[u8]) -> bool
     ensures { result ≡ is_closed false text.now }
 {
@@ -20,7 +21,7 @@ pub fn is_closed(text: &[u8]) -> bool
     !inside
 }
 
-/// The parts round the separators outside quotes.
+// The parts round the separators outside quotes.
 pub fn split(alloc: Global, text: &[u8], separator: u8) -> Result<Vec<&[u8]>, AllocError>
     ensures { IfOk result (λ parts. texts parts.items ≡ split false separator text.now) }
 {

@@ -1,26 +1,20 @@
 //! The option tags of a Require header.
 
 ghost use Rattle.std.specs.Prelude.{◌≡◌, ℕ, List, IfOk, IfErr};
-ghost use Rattle.rtsp_transport.specs.Gives.{Gives, GivesBy};
+ghost use Rattle.rtsp_text.specs.Results.{Gives, GivesBy};
+ghost use Rattle.rtsp_text.specs.Slices.{texts};
 ghost use Rattle.rtsp_transport.specs.Reads.{Refuses, Answers};
-ghost use Rattle.rtsp_transport.specs.Split.{texts};
-ghost use Rattle.rtsp_transport.specs.Tags.{SpellsTags, is_known, is_token, tag_of, tags_in, tags_of};
+ghost use Rattle.rtsp_transport.specs.Tags.{SpellsTags, is_known, tag_of, tags_in, tags_of};
+ghost use Rattle.rtsp_transport.specs.declared.fault.TextFault.TheVariants.{OutOfMemory};
 
-use crate::bytes::{are_token_bytes, trimmed};
 use crate::fault::TextFault;
 use crate::split::{is_closed, split};
-use crate::text::Text;
+use rtsp_text::{Text, is_token, trimmed};
 use std::alloc::Global;
-
-fn is_token(text: &[u8]) -> bool
-    ensures { result ≡ is_token text.now }
-{
-    !text.is_empty() && are_token_bytes(text)
-}
 
 #[tactic(auto, unfolding(crate::specs::Tags::tag_of))]
 fn tag_of(alloc: Global, part: &[u8]) -> Result<Text, TextFault>
-    ensures { Gives result (tag_of part.now) }
+    ensures { Gives OutOfMemory result (tag_of part.now) }
 {
     let tag = trimmed(part);
     if !is_token(tag) {
@@ -30,7 +24,7 @@ fn tag_of(alloc: Global, part: &[u8]) -> Result<Text, TextFault>
 }
 
 fn tags_in(alloc: Global, parts: &[&[u8]]) -> Result<Vec<Text>, TextFault>
-    ensures { GivesBy (λ v. v.items) result (tags_in (texts parts.now)) }
+    ensures { GivesBy OutOfMemory (λ v. v.items) result (tags_in (texts parts.now)) }
 {
     let mut tags = Vec::new(alloc);
     for part in parts {
@@ -41,9 +35,9 @@ fn tags_in(alloc: Global, parts: &[&[u8]]) -> Result<Vec<Text>, TextFault>
 
 #[tactic(auto, unfolding(crate::specs::Tags::tags_of))]
 fn tags_of(alloc: Global, text: &[u8]) -> Result<Vec<Text>, TextFault>
-    ensures { GivesBy (λ v. v.items) result (tags_of text.now) }
+    ensures { GivesBy OutOfMemory (λ v. v.items) result (tags_of text.now) }
 {
-    // No tag has a quote, so a quote that is open is a malformed tag.
+    // A tag has no quote, so an open one is a malformed tag.
     if !is_closed(text) {
         return Err(TextFault::Malformed);
     }
@@ -51,20 +45,21 @@ fn tags_of(alloc: Global, text: &[u8]) -> Result<Vec<Text>, TextFault>
     tags_in(alloc, &parts)
 }
 
-/// Reads the option tags of a Require header: tokens with commas between them. Several such headers are
-/// one, joined by commas (RFC 7826 section 18.43).
+/// Reads the option tags of a Require header: tokens with commas between them. Several such headers
+/// are one, joined by commas (RFC 7826 section 18.43).
 pub fn read_tags(alloc: Global, text: &[u8]) -> Result<Vec<Text>, TextFault>
     // What is read is spelled so.
     ensures found { IfOk result (λ v. SpellsTags text.now v.items) }
     // What is spelled so is read, unless memory runs out.
-    ensures only { (tags : List (List ℕ)) → SpellsTags text.now tags → Answers (λ v. v.items) result tags }
+    ensures only { (tags : List (List ℕ)) → SpellsTags text.now tags
+        → Answers (λ v. v.items) result tags }
     // Which fault it is.
     ensures fault { IfErr result (Refuses (SpellsTags text.now)) }
 {
     tags_of(alloc, text)
 }
 
-/// The tag names what this server can do. Tags are compared with regard to case.
+/// The tag names something that this server can do. Tags are compared with regard to case.
 pub fn is_known(tag: &[u8]) -> bool
     ensures { result ≡ is_known tag.now }
 {

@@ -1,6 +1,6 @@
 use crate::{
-    Granted, Pick, TextFault, is_known, pick, read_cseq, read_session, read_startup, read_tags,
-    read_transports, session_id, write_session_id, write_ssrc, write_transport,
+    ChannelPair, Granted, Pick, TextFault, is_known, pick, read_cseq, read_session, read_startup,
+    read_tags, read_transports, session_id, write_session_id, write_ssrc, write_transport,
 };
 use std::test::Fail;
 
@@ -13,7 +13,9 @@ fn picked(rt: &HostRuntime, text: &[u8]) -> Result<Pick, TextFault> {
 #[test]
 fn first_usable_transport(rt: HostRuntime) -> Result<(), Fail> {
     let two = b"RTP/SAVP;unicast, RTP/AVP/TCP;interleaved=2-3";
-    assert_eq!(rt; picked(&rt, two)?, Pick::Inter { wish: Some(2) });
+    let wish = ChannelPair::new(2);
+    assert_eq!(rt; picked(&rt, two)?, Pick::Inter { wish });
+    assert!(rt; matches!(wish, Some(pair) if pair.rtp() == 2) && ChannelPair::new(3).is_none());
     assert_eq!(rt;
         picked(&rt, b"RTP/AVP/TCP;interleaved=1-2")?,
         Pick::Inter { wish: None }

@@ -2,8 +2,10 @@ pub mod Admissions
 pub mod Exchange
 pub mod Journals
 pub mod Ended
+pub mod Steps
 pub mod Fitting
 pub mod Replaying
 pub mod Comparing
 pub mod Pools
+pub mod Counting
 pub mod Walks

@@ -4,41 +4,33 @@ use Rattle.std.specs.List.{flat_map}
 use Rattle.std.specs.FinMap.{entries}
 use Rattle.rtsp_record.specs.declared.holdings.Admission.{Admission}
 use Rattle.rtsp_record.specs.declared.holdings.Thing.{Thing}
-use Rattle.rtsp_record.specs.declared.holdings.Thing.TheVariants.{Rate}
 use Rattle.rtsp_record.specs.declared.holdings.Whole.{Whole}
 use Rattle.rtsp_record.specs.declared.streams.Stream.{Stream}
 use Rattle.rtsp_record.specs.Books.{Session, Book}
+use Rattle.rtsp_record.specs.Records.{holds, binds}
+use Rattle.rtsp_record.specs.Rules.{as_rate}
 use Rattle.rtsp_record.specs.Sums.{amount, held_rate}
-use Rattle.rtsp_record.specs.JournalText.{hex_digits, line_text, phase_text, stream_fields, thing_fields}
+use Rattle.rtsp_record.specs.JournalText.{hex_digits, line_text, phase_text, setup_fields, record_line}
 use Rattle.rtsp_undo.specs.Pools.{pairs, free_pairs}
 
--- the line of a thing that a session holds under an admission
-abbrev pub hold_line : ℕ → ℕ → Thing → List ℕ
-hold_line s a x = line_text (codes "hold" ∷ decimal s ∷ decimal a ∷ thing_fields x)
-
--- the line of the rate, where there is one
-abbrev pub rate_lines : ℕ → ℕ → Option ℕ → List ℕ
-rate_lines s a None = []
-rate_lines s a (Some bits) = hold_line s a (Rate bits)
-
--- the line of the pair of ports or of the channels, where there are such
-abbrev pub address_lines : ℕ → ℕ → Option Thing → List ℕ
-address_lines s a None = []
-address_lines s a (Some x) = hold_line s a x
+-- the line of the thing that a session holds under an admission, where there is one
+abbrev pub hold_lines : ℕ → ℕ → Option Thing → List ℕ
+hold_lines s a None = []
+hold_lines s a (Some x) = record_line (holds s a x)
 
 -- the line of the stream, where there is one
 abbrev pub stream_lines : ℕ → ℕ → Option Stream → List ℕ
 stream_lines s a None = []
-stream_lines s a (Some v) = line_text (codes "stream" ∷ decimal s ∷ decimal a ∷ stream_fields v)
+stream_lines s a (Some v) = line_text (codes "stream" ∷ setup_fields (record { session = s; admission = a; stream = v }))
 
--- the lines of an admission of a session
+-- the lines of an admission of a session: its rate, its address and its stream
 abbrev pub admission_text : ℕ → ℕ × Admission → List ℕ
-admission_text s e = rate_lines s e.0 e.1.rate ++ (address_lines s e.0 e.1.address ++ stream_lines s e.0 e.1.stream)
+admission_text s e = hold_lines s e.0 (as_rate e.1.rate) ++ (hold_lines s e.0 e.1.address ++ stream_lines s e.0 e.1.stream)
 
 -- the line of the binding, where there is one
 abbrev pub binding_lines : ℕ → Option (ℕ × ℕ) → List ℕ
 binding_lines s None = []
-binding_lines s (Some k) = line_text (codes "bind" ∷ decimal s ∷ decimal k.0 ∷ decimal k.1 ∷ [])
+binding_lines s (Some k) = record_line (binds s k.0 k.1)
 
 -- the first line of a session: its number, id, connection, expiry and phase
 abbrev pub session_line : ℕ → Session → List ℕ

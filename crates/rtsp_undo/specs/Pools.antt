@@ -1,13 +1,13 @@
--- Pairs of ports that are held, and pairs that are free, counted.
-use Rattle.std.specs.Prelude.{◌≡◌, ℕ, ◌+◌, zero, suc, Bool, true, false, List}
+-- What is held and what is free, counted by ports and by pairs.
+use Rattle.std.specs.Prelude.{◌≡◌, ℕ, ◌+◌, ◌*◌, zero, suc, Bool, true, false, List}
 use Rattle.rtsp_record.specs.declared.holdings.Thing.{Thing}
 use Rattle.rtsp_record.specs.declared.holdings.Thing.TheVariants.{Pair, Chan, Rate}
 use Rattle.rtsp_record.specs.declared.holdings.Whole.{Whole}
 use Rattle.rtsp_record.specs.declared.changes.Entry.{Entry}
 use Rattle.rtsp_record.specs.Books.{Book, book_of}
-use Rattle.rtsp_record.specs.Sums.{Measure, nothing, one_if, amount}
+use Rattle.rtsp_record.specs.Sums.{Measure, nothing, one_if, amount, UdpPort}
 use Rattle.rtsp_record.specs.Rules.{IsLegal}
-use Rattle.rtsp_book.specs.Choices.{is_pair_free}
+use Rattle.rtsp_record.specs.Choices.{is_free, is_pair_free}
 
 -- a pair of ports
 abbrev pub is_pair : Thing → Bool
@@ -19,15 +19,29 @@ is_pair (Rate n) = false
 abbrev pub pairs : Measure
 pairs = record nothing { thing = λ x. one_if (is_pair x) }
 
--- how many of the n pairs from port p on are free
-unfoldable pub free_pairs_of : Book → ℕ → ℕ → ℕ
-free_pairs_of b p zero = 0
-free_pairs_of b p (suc n) = one_if (is_pair_free b p) + free_pairs_of b (p + 2) n
+-- how many ports a thing covers
+abbrev pub ports_of : Thing → ℕ
+ports_of (Pair p) = 2
+ports_of (Chan c k) = 0
+ports_of (Rate n) = 0
+
+-- ports that held things cover
+abbrev pub ports : Measure
+ports = record nothing { thing = ports_of }
+
+-- how many of the n numbers p, p + step, p + 2 step and so on the test takes
+unfoldable pub count_of : ℕ → (ℕ → Bool) → ℕ → ℕ → ℕ
+count_of step takes p zero = 0
+count_of step takes p (suc n) = one_if (takes p) + count_of step takes (p + step) n
 
 -- how many pairs of the whole are free
 abbrev pub free_pairs : Whole → Book → ℕ
-free_pairs w b = free_pairs_of b w.first_port w.pairs
+free_pairs w b = count_of 2 (is_pair_free b) w.first_port w.pairs
 
--- after a legal journal the held pairs and the free ones are all pairs of the whole
-abbrev pub AllPairs : Whole → List Entry → Type 0
-AllPairs w j = IsLegal w j → amount pairs (book_of j) + free_pairs w (book_of j) ≡ w.pairs
+-- how many ports of the whole are free
+abbrev pub free_ports : Whole → Book → ℕ
+free_ports w b = count_of 1 (λ q. is_free b (UdpPort q)) w.first_port (2 * w.pairs)
+
+-- after a legal journal the ports that are covered and those that are free are together all ports of the whole
+abbrev pub AllPorts : Whole → List Entry → Type 0
+AllPorts w j = IsLegal w j → amount ports (book_of j) + free_ports w (book_of j) ≡ 2 * w.pairs

@@ -1,9 +1,9 @@
-//! Journals replayed, taken back and with entries left out, the book printed, and the laws over whole journals.
+//! Journals replayed, undone and with entries left out, the book printed, and the laws over whole journals.
 //!
 //! The definitions of `specs/` read in this order: Laws (what holds of every legal journal), Pools (what is held and
-//! what is free, counted), Replays (why a journal is refused, and what is left of one that is taken back), Strands
+//! what is free, counted), Replays (why a journal is refused, and what is left of one that is undone), Strands
 //! (journals compared session by session), BookText (the book as it is printed). What a journal is, when it is legal and
-//! what is left without some entries is said in rtsp_record.
+//! what is left without some entries is defined in rtsp_record.
 #![tactic(auto)]
 
 mod laws;
@@ -14,9 +14,9 @@ mod strands;
 mod text;
 
 pub use laws::{
-    law_admission_fits, law_back, law_ended, law_exchange, law_less_admission, law_less_gone,
-    law_less_session, law_one_back, law_pairs, law_returning, law_session_fits, law_strands,
-    law_whole,
+    law_admission_fits, law_back, law_ended, law_ending_step, law_exchange, law_less_admission,
+    law_less_gone, law_less_session, law_one_back, law_one_session, law_ports, law_returning,
+    law_session_fits, law_strands, law_whole,
 };
 pub use omissions::{without_admission, without_session};
 pub use replays::{AuditFault, replay, replay_without_admission, replay_without_session};

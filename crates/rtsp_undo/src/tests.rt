@@ -1,8 +1,10 @@
-ghost use Rattle.rtsp_book.specs.Choices.{HasPorts};
+ghost use Rattle.rtsp_record.specs.Choices.{HasPorts};
 
 use crate::*;
-use rtsp_book::{BookRep, Kept, NumbersSpent, PlainBook};
-use rtsp_record::{Admission, Entry, Phase, Record, Stream, Thing, Whole};
+use rtsp_book::{BookRep, Kept, NumbersSpent, PlainBook, Step};
+use rtsp_record::{
+    Admission, Binding, Entry, Holding, Id, Life, Phase, Record, Setup, Stream, Thing, Whole,
+};
 use std::test::Fail;
 
 const WHOLE: Whole = Whole {
@@ -29,28 +31,28 @@ fn by(actor: u64, change: Record) -> Entry {
 }
 
 fn open(session: u64, id: u128, conn: u64) -> Record {
-    Record::Open {
+    Record::Open(Life {
         session,
-        id,
+        id: Id::new(id),
         conn,
         expires: 60_000,
-    }
+    })
 }
 
 fn hold(session: u64, admission: u64, thing: Thing) -> Record {
-    Record::Hold {
+    Record::Hold(Holding {
         session,
         admission,
         thing,
-    }
+    })
 }
 
 fn free(session: u64, admission: u64, thing: Thing) -> Record {
-    Record::Free {
+    Record::Free(Holding {
         session,
         admission,
         thing,
-    }
+    })
 }
 
 // Two sessions side by side, of which the second gives all back and ends.
@@ -64,23 +66,15 @@ fn two_sessions() -> [Entry; 10] {
         by(2, hold(11, 13, Thing::Pair(5002))),
         by(
             1,
-            Record::Add {
+            Record::Add(Setup {
                 session: 10,
                 admission: 12,
                 stream: STREAM,
-            },
+            }),
         ),
         by(2, free(11, 13, Thing::Pair(5002))),
         by(2, free(11, 13, Thing::Rate(80_000))),
-        by(
-            2,
-            Record::Close {
-                session: 11,
-                id: 11,
-                conn: 4,
-                expires: 60_000,
-            },
-        ),
+        by(2, open(11, 11, 4).inverse()),
     ]
 }
 
@@ -236,19 +230,19 @@ fn a_book_is_printed(rt: HostRuntime) -> Result<(), Fail> {
         by(0, hold(2, 3, Thing::Chan(1, 0))),
         by(
             0,
-            Record::Add {
+            Record::Add(Setup {
                 session: 2,
                 admission: 3,
                 stream,
-            },
+            }),
         ),
         by(
             0,
-            Record::Bind {
+            Record::Bind(Binding {
                 session: 2,
                 conn: 1,
                 number: 7,
-            },
+            }),
         ),
     ];
     let lines =
@@ -292,10 +286,12 @@ fn laws_are_called() {
     law_back(&WHOLE, &journal, 0);
     law_one_back(&WHOLE, before, last, 0);
     law_whole(&WHOLE, &journal);
-    law_pairs(&WHOLE, &journal);
+    law_ports(&WHOLE, &journal);
     law_less_session(&WHOLE, &journal, 11);
     law_less_gone(&WHOLE, &journal, 11);
     law_ended(&WHOLE, &journal, 11);
+    law_one_session(&WHOLE, before, &Step::End { session: 10 });
+    law_ending_step(&WHOLE, before, &Step::End { session: 10 }, 10);
     law_less_admission(&WHOLE, &journal, 13);
     law_strands(&journal, &journal);
     law_exchange(&WHOLE, &journal[..8], &journal[8], last);

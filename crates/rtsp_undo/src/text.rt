@@ -1,18 +1,19 @@
 //! The text of a book.
+
 ghost use Rattle.std.specs.Prelude.{◌≡◌, ◌++◌, ◌≤◌, OnOk, OnErr};
 ghost use Rattle.std.specs.List.{AllByRecursion};
 ghost use Rattle.rtsp_record.specs.Records.{session_of};
 ghost use Rattle.rtsp_record.specs.Books.{book_of};
+ghost use Rattle.rtsp_record.specs.Choices.{HasPorts};
 ghost use Rattle.rtsp_record.specs.JournalWriting.{Appends};
+ghost use Rattle.rtsp_undo.specs.Pools.{free_pairs};
 ghost use Rattle.rtsp_undo.specs.BookText.{book_text};
 
 mod lines;
 mod sessions;
 
-use crate::omissions::session_of;
 use rtsp_book::{BookRep, Kept};
-use rtsp_record::Entry;
-use rtsp_record::fields::{Field, write_line};
+use rtsp_record::{Entry, Field, write_line};
 use sessions::write_sessions;
 use std::alloc::AllocError;
 
@@ -30,7 +31,20 @@ pub fn book_text<B: BookRep>(out: &mut Vec<u8>, kept: &Kept<B>) -> Result<(), Al
     written
 }
 
-// Each pair of the whole is held or free, so the free ones need no count of their own.
+// How many pairs of ports are free, counted from the least on.
+fn free_pairs<B: BookRep>(book: &B) -> u16
+    requires { HasPorts (B.whole_of book.now) }
+    ensures { result ≡ free_pairs (B.whole_of book.now) (B.contents book.now) }
+{
+    let mut free = 0;
+    let mut from = 0;
+    while let Some(port) = book.least_pair(from) {
+        free += 1;
+        from = u32::from(port) + 1;
+    }
+    free
+}
+
 fn write_book<B: BookRep>(out: &mut Vec<u8>, kept: &Kept<B>) -> Result<(), AllocError>
     ensures { Appends result out.old.items out.new.items (book_text kept.now.whole (book_of kept.now.journal)) }
 {
@@ -51,7 +65,7 @@ fn write_book<B: BookRep>(out: &mut Vec<u8>, kept: &Kept<B>) -> Result<(), Alloc
         &[
             Field::Word(b"pairs"),
             Field::Number(u64::from(pairs)),
-            Field::Number(u64::from(whole.pairs - pairs)),
+            Field::Number(u64::from(free_pairs(book))),
         ],
     )
 }
@@ -62,7 +76,7 @@ fn last_session(journal: &[Entry]) -> u64
 {
     let mut last = 0;
     for entry in journal {
-        last = last.max(session_of(&entry.change));
+        last = last.max(entry.change.session());
     }
     last
 }

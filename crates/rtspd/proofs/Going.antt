@@ -8,9 +8,9 @@ use Rattle.rtsp_grammar.specs.Answer.{Decides, IsUndecided, HasFault}
 use Rattle.rtsp_grammar.specs.declared.fault.MessageFault.{MessageFault}
 use Rattle.rtsp_grammar.specs.declared.fault.MessageFault.TheVariants.{OutOfMemory}
 use Rattle.rtsp_grammar.specs.declared.message.Item.{Item}
-use Rattle.rtspd.specs.Complaints.{complaint}
+use Rattle.rtspd.specs.FaultResponses.{fault_response}
 use Rattle.rtspd.specs.Streams.{WritesPart}
-use Rattle.rtspd.specs.Served.{Served, Answered, Progress, LostOrNot, IsLost, Faulted, EndsFrom, EndsHere, Stops, Told, Follows}
+use Rattle.rtspd.specs.Served.{Served, Answered, Progress, Faulted, EndsFrom, EndsHere, Stops, Told, Follows}
 use Rattle.rtspd.specs.declared.serving.ServeEnd.{ServeEnd}
 use Rattle.rtspd.specs.declared.serving.ServeEnd.TheVariants.{Closed, ReadFault, WriteFault, Fault, TurnsSpent}
 use Rattle.rtspd.specs.declared.serving.Next.{Next}
@@ -131,14 +131,14 @@ module _ {S : Type 0} (R : S → Item → List ℕ → S → Type 0) (L : S → 
 
   -- where a fault was told
   pub stopped_fault : (stop : Stop) (fault : MessageFault) (bytes slice : List ℕ) (at : ℕ) (a b c : Option (List ℕ)) (s u : S) → slice ≡ bytes → stop ≡ stops.Fault fault
-      → Stops R L stop (take at slice) (drop at slice) a b s u → Appends b c (complaint fault) → EndsHere R L bytes (Fault fault) a c s u
+      → Stops R L stop (take at slice) (drop at slice) a b s u → Appends b c (fault_response fault) → EndsHere R L bytes (Fault fault) a c s u
   stopped_fault stop fault bytes slice at a b c s u same is h writes =
       let k = subst (λ z. Stops R L (stops.Fault fault) (take at z) (drop at z) a b s u) same (subst (λ z. Stops R L z (take at slice) (drop at slice) a b s u) is h) in
       (drop at bytes, k.0, b, answered_front bytes at a b s k.0 k.1, k.2, writes)
 
   -- where a fault could not be told
   pub stopped_mute : (stop : Stop) (fault : MessageFault) (bytes slice : List ℕ) (at : ℕ) (a b c : Option (List ℕ)) (s u : S) → slice ≡ bytes → stop ≡ stops.Fault fault
-      → Stops R L stop (take at slice) (drop at slice) a b s u → WritesPart b c (complaint fault) → EndsHere R L bytes WriteFault a c s u
+      → Stops R L stop (take at slice) (drop at slice) a b s u → WritesPart b c (fault_response fault) → EndsHere R L bytes WriteFault a c s u
   stopped_mute stop fault bytes slice at a b c s u same is h writes =
       let k = subst (λ z. Stops R L (stops.Fault fault) (take at z) (drop at z) a b s u) same (subst (λ z. Stops R L z (take at slice) (drop at slice) a b s u) is h) in
       (drop at bytes, k.0, b, answered_front bytes at a b s k.0 k.1, inr (fault, k.2, writes))
@@ -152,11 +152,7 @@ module _ {S : Type 0} (R : S → Item → List ℕ → S → Type 0) (L : S → 
   told_follows (nexts.Took took) bytes item size a b s t stands h = (item, h.1.0, subst (λ n. Decides bytes (Ok (item, n))) (sym h.0) stands, h.1.1, h.1.2)
   told_follows nexts.More bytes item size a b s t stands h = absurd h
   told_follows nexts.WriteFault bytes item size a b s t stands h = record { item = item; size = size; stands = stands; answer = h.0; done = h.1; written = h.2 }
-  told_follows (nexts.Fault fault) bytes item size a b s t stands h = (inr (h.0, lost h.1), h.2)
-    where
-      lost : LostOrNot R L s item t → (t ≡ s) ⊎ IsLost R L bytes s t
-      lost (inl same) = inl same
-      lost (inr made) = inr (record { item = item; size = size; stands = stands; lost = made })
+  told_follows (nexts.Fault fault) bytes item size a b s t stands h = (inr (h.0, inr (record { item = item; size = size; stands = stands; left = h.1 })), h.2)
 
   -- where an item has a fault after what is done
   pub fault_stop : (fault : MessageFault) (bytes rest : List ℕ) (at : ℕ) (a b c : Option (List ℕ)) (s t u : S) → rest ≡ drop at bytes
@@ -182,9 +178,9 @@ module _ {S : Type 0} (R : S → Item → List ℕ → S → Type 0) (L : S → 
       (answered_front bytes at a c s u k.0, k.1)
 
   -- memory ran out after a read
-  pub ran_out : (start bytes : List ℕ) (n m a c : Option (List ℕ)) (s : S) → Consumes n m bytes → Appends a c (complaint OutOfMemory) → EndsFrom R L start (Fault OutOfMemory) n m a c s s
+  pub ran_out : (start bytes : List ℕ) (n m a c : Option (List ℕ)) (s : S) → Consumes n m bytes → Appends a c (fault_response OutOfMemory) → EndsFrom R L start (Fault OutOfMemory) n m a c s s
   ran_out start bytes n m a c s h writes = (start ++ bytes, s, a, progress_read start bytes n m a s h, inr (refl, inl refl), writes)
 
   -- the same, where it could not be told
-  pub ran_out_mute : (start bytes : List ℕ) (n m a c : Option (List ℕ)) (s : S) → Consumes n m bytes → WritesPart a c (complaint OutOfMemory) → EndsFrom R L start WriteFault n m a c s s
+  pub ran_out_mute : (start bytes : List ℕ) (n m a c : Option (List ℕ)) (s : S) → Consumes n m bytes → WritesPart a c (fault_response OutOfMemory) → EndsFrom R L start WriteFault n m a c s s
   ran_out_mute start bytes n m a c s h writes = (start ++ bytes, s, a, progress_read start bytes n m a s h, inr (OutOfMemory, inr (refl, inl refl), writes))

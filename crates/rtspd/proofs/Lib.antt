@@ -3,4 +3,3 @@ pub mod Going
 pub mod Sizes
 pub mod HoldLemmas
 pub mod Numbers
-pub mod Conducting

@@ -6,7 +6,7 @@ use Rattle.clap.specs.ValueTests.{accepts}
 use Rattle.clap.specs.declared.parser.matches.Found.{Found}
 use Rattle.clap.proofs.ValueTestLemmas.{accepts-Accepts, Accepts-accepts}
 use Rattle.clap.proofs.WalkLemmas.{one_text-rows}
-use Rattle.rtspd.specs.Words.{any_number, number_of, number_in}
+use Rattle.rtspd.specs.CommandLine.{any_number, number_of, number_in}
 
 -- a text that `u64` reads has the number, and no other has one
 pub text_number : (E : Type 0) (gives : List ℕ → Result ℕ E → Type 0) → ((t : List ℕ) (x : Result ℕ E) → gives t x → ParsesUnsigned 64 10 t x)

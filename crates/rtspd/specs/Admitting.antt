@@ -10,43 +10,34 @@ use Rattle.rtsp_book.specs.declared.asks.Opening.{Opening}
 use Rattle.rtsp_book.specs.declared.asks.Wanted.{Wanted}
 use Rattle.rtsp_book.specs.declared.asks.Wanted.TheVariants as wanted
 use Rattle.rtsp_book.specs.declared.refusals.Refusal.{Refusal}
-use Rattle.rtsp_book.specs.declared.refusals.Refusal.TheVariants.{OutOfMemory}
 use Rattle.rtsp_book.specs.declared.steps.Chain.{Chain}
 use Rattle.rtsp_book.specs.declared.steps.Step.{Step}
 use Rattle.rtsp_book.specs.declared.steps.Step.TheVariants as step
-use Rattle.rtsp_book.specs.Replies.{reply, is_growing, IsWish, AreDifferent}
-use Rattle.rtsp_book.specs.Kept.{History, extended, MakesRecords}
+use Rattle.rtsp_book.specs.Replies.{reply, AreDifferent}
+use Rattle.rtsp_book.specs.Kept.{History}
+use Rattle.rtsp_book.specs.Answers.{Answers, noted_by}
+use Rattle.rtsp_record.specs.Records.{holds}
 
 -- One step.
 
--- the answer is the reply, or want of memory for a growing step that would have been recorded
-abbrev pub IsAnswer : History → Step → Result (List Record) Refusal → Type 0
-IsAnswer h s (Ok rs) = reply h.whole h.journal s ≡ Ok rs
-IsAnswer h s (Err r) = (reply h.whole h.journal s ≡ Err r) ⊎ ((r ≡ OutOfMemory) × IsTrue (is_growing s) × MakesRecords (reply h.whole h.journal s))
-
--- what is accepted stands in the journal under the actor, and what is refused changes nothing
-abbrev pub noted : ℕ → History → Result (List Record) Refusal → History
-noted by h (Ok rs) = extended h by rs
-noted by h (Err r) = h
-
 -- a step is answered, and leads from a history to the next
 abbrev pub Acts : ℕ → History → Step → Result (List Record) Refusal → History → Type 0
-Acts by old s answer new = IsAnswer old s answer × (new ≡ noted by old answer)
+Acts by old s answer new = Answers old.whole old.journal s answer × (new ≡ noted_by by old answer)
 
 -- The chain of an admission: Open where a session is to be opened, the rate, the address, the stream.
 
 abbrev pub open_step : Ask → Opening → Step
-open_step ask o = step.Open ask.session o.id o.conn o.expires
+open_step ask o = step.Open (record { session = ask.session; id = o.id; conn = o.conn; expires = o.expires })
 
 abbrev pub rate_step : Ask → Step
 rate_step ask = step.HoldRate ask.session ask.admission ask.rate
 
 abbrev pub address_step : Ask → Wanted → Step
 address_step ask wanted.Pair = step.HoldPair ask.session ask.admission 0
-address_step ask (wanted.Channels conn wish) = step.HoldChan ask.session ask.admission conn wish
+address_step ask (wanted.Channels conn wish) = step.HoldChan (record { session = ask.session; admission = ask.admission; conn = conn; wish = wish })
 
 abbrev pub commit_step : Ask → Step
-commit_step ask = step.Commit ask.session ask.admission ask.stream ask.startup
+commit_step ask = step.Commit (record { session = ask.session; admission = ask.admission; stream = ask.stream; startup = ask.startup })
 
 -- the chain so far: whether the session was opened, and what is held
 abbrev pub chain_of : Ask → Bool → Option Thing → Option Thing → Chain
@@ -61,7 +52,7 @@ Opens by old ask (Some o) (Some refusal) new = Acts by old (open_step ask o) (Er
 
 -- what a record holds
 abbrev pub held_by : Option Record → Option Thing
-held_by (Some (change.Hold s a x)) = Some x
+held_by (Some (change.Hold held)) = Some held.thing
 held_by o = None
 
 -- what the first of some records holds
@@ -70,7 +61,7 @@ held_in rs = held_by (slice_get rs 0)
 
 -- a thing is held by a step
 abbrev pub Holds : ℕ → History → Ask → Step → Thing → History → Type 0
-Holds by old ask s x new = Acts by old s (Ok (change.Hold ask.session ask.admission x ∷ [])) new
+Holds by old ask s x new = Acts by old s (Ok (holds ask.session ask.admission x ∷ [])) new
 
 -- all steps were accepted, and this is the address that is held
 abbrev pub LinksAll : ℕ → History → Ask → Thing → History → Type 0
@@ -111,18 +102,13 @@ BreaksAt by old ask refusal chain new =
 -- the first refusal is followed by Unwind of the chain, and nothing else
 abbrev pub Breaks : ℕ → History → Ask → Refusal → History → Type 0
 Breaks by old ask refusal new =
-    (mid : History) × (chain : Chain) × BreaksAt by old ask refusal chain mid × (new ≡ noted by mid (reply mid.whole mid.journal (step.Unwind chain)))
+    (mid : History) × (chain : Chain) × BreaksAt by old ask refusal chain mid × (new ≡ noted_by by mid (reply mid.whole mid.journal (step.Unwind chain)))
 
 -- what an admission does
 abbrev pub Admits : ℕ → History → Ask → Result Admitted Refusal → History → Type 0
 Admits by old ask (Ok made) new =
     LinksAll by old ask made.address new × (made ≡ record { session = ask.session; admission = ask.admission; address = made.address; stream = ask.stream })
 Admits by old ask (Err refusal) new = Breaks by old ask refusal new
-
--- a wish for channels is even and at most 254
-abbrev pub WishesWell : Wanted → Type 0
-WishesWell wanted.Pair = Unit {0}
-WishesWell (wanted.Channels conn wish) = IsWish wish
 
 -- what is held of a chain differs
 abbrev pub HoldsApart : Chain → Type 0

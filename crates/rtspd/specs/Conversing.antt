@@ -1,55 +1,74 @@
--- How one item is answered, from the book and the words given out before it.
-use Rattle.std.specs.Prelude.{◌≡◌, ◌==◌, ◌⊎◌, ℕ, ◌+◌, ◌-◌, ◌^◌, ◌%◌, Bool, true, false, ◌&&◌, nat_le, nat_lt, if◌then◌else◌, List, [], is_some, option_and_then, Option, Some, None, Result, Ok, Err}
+-- How one item is answered, from the book and the ids given out before it.
+use Rattle.std.specs.Prelude.{◌≡◌, ◌==◌, ◌⊎◌, ℕ, ◌+◌, ◌-◌, ◌^◌, Bool, true, false, if◌then◌else◌, List, ◌++◌, Option, Some, None, Result, Ok, Err}
 use Rattle.std.specs.FinMap.{entries}
 use Rattle.rtsp_grammar.specs.declared.message.Item.{Item}
 use Rattle.rtsp_grammar.specs.declared.message.Item.TheVariants as items
-use Rattle.rtsp_grammar.specs.declared.message.Request.{Request}
 use Rattle.rtsp_grammar.specs.declared.message.Response.{Response}
 use Rattle.rtsp_grammar.specs.Writing.{response_text}
 use Rattle.rtsp_content.specs.TableValue.{TableValue}
 use Rattle.rtsp_record.specs.declared.changes.Record.{Record}
-use Rattle.rtsp_record.specs.declared.streams.Stream.{Stream}
 use Rattle.rtsp_record.specs.Books.{Session, Book, book_of}
 use Rattle.rtsp_book.specs.declared.asks.Admitted.{Admitted}
-use Rattle.rtsp_book.specs.declared.asks.Ask.{Ask}
-use Rattle.rtsp_book.specs.declared.asks.Opening.{Opening}
-use Rattle.rtsp_book.specs.declared.asks.Wanted.{Wanted}
-use Rattle.rtsp_book.specs.declared.asks.Wanted.TheVariants as wanted
 use Rattle.rtsp_book.specs.declared.refusals.Refusal.{Refusal}
-use Rattle.rtsp_book.specs.declared.refusals.Refusal.TheVariants.{NumbersSpent, OutOfMemory}
-use Rattle.rtsp_book.specs.declared.steps.Startup.{Startup}
+use Rattle.rtsp_book.specs.declared.refusals.Refusal.TheVariants.{NumbersSpent}
 use Rattle.rtsp_book.specs.declared.steps.Step.{Step}
 use Rattle.rtsp_book.specs.declared.steps.Step.TheVariants as step
 use Rattle.rtsp_book.specs.Kept.{History}
-use Rattle.rtsp_book.specs.Lookups.{session_at, with_id_in, with_startup_in}
-use Rattle.rtsp_state.specs.declared.asked.Name.{Name}
-use Rattle.rtsp_state.specs.declared.asked.Name.TheVariants.{Id, Startup as Numbered}
-use Rattle.rtsp_state.specs.declared.fault.Fault.TheVariants as faults
-use Rattle.rtsp_state.specs.declared.plan.Admission.{Admission}
-use Rattle.rtsp_state.specs.declared.plan.Outcome.{Outcome}
-use Rattle.rtsp_state.specs.declared.plan.Outcome.TheVariants as outcomes
+use Rattle.rtsp_sessions.specs.Lookups.{session_at, with_id_in, with_startup_in}
+use Rattle.rtsp_state.specs.declared.fault.Fault.TheVariants.{Refused}
 use Rattle.rtsp_state.specs.declared.plan.Plan.{Plan}
 use Rattle.rtsp_state.specs.declared.plan.Plan.TheVariants as plans
-use Rattle.rtsp_state.specs.declared.plan.Screen.{Screen}
-use Rattle.rtsp_state.specs.declared.plan.Screen.TheVariants.{Answered, Asks}
-use Rattle.rtsp_state.specs.declared.status.Status.TheVariants.{UnsupportedTransport}
-use Rattle.rtsp_state.specs.Answer.{answer}
-use Rattle.rtsp_state.specs.Decide.{decide, renewal, renewal_refused}
+use Rattle.rtsp_state.specs.declared.plan.StepPlan.{StepPlan}
+use Rattle.rtsp_state.specs.declared.request.Name.{Name}
+use Rattle.rtsp_state.specs.declared.request.Name.TheVariants.{Id, Startup}
+use Rattle.rtsp_state.specs.declared.request.Screen.{Screen}
+use Rattle.rtsp_state.specs.declared.request.Screen.TheVariants.{Answered, Asks}
+use Rattle.rtsp_state.specs.declared.setup_plan.Delivery.{Delivery}
+use Rattle.rtsp_state.specs.declared.setup_plan.Delivery.TheVariants.{Udp, Interleaved}
+use Rattle.rtsp_state.specs.declared.setup_plan.Drawn.{Drawn}
+use Rattle.rtsp_state.specs.declared.setup_plan.SetupPlan.{SetupPlan}
+use Rattle.rtsp_state.specs.declared.setup_plan.SetupSession.{SetupSession}
+use Rattle.rtsp_state.specs.declared.setup_plan.SetupSession.TheVariants.{New, Living}
+use Rattle.rtsp_state.specs.declared.status.Status.TheVariants.{UnsupportedTransport, ServerError}
+use Rattle.rtsp_state.specs.Answer.{step_answer, setup_answer}
+use Rattle.rtsp_state.specs.ParsedRequest.{ParsedValue}
+use Rattle.rtsp_state.specs.Renewal.{renewal, renewal_refused}
 use Rattle.rtsp_state.specs.Response.{refused}
+use Rattle.rtsp_state.specs.Room.{RoomText}
 use Rattle.rtsp_state.specs.Screen.{screen}
+use Rattle.rtsp_state.specs.SetupPlan.{setup_start, ask_of}
+use Rattle.rtsp_state.specs.StateTable.{decide}
+use Rattle.rtsp_state.specs.Status.{status_of}
 use Rattle.rtspd.specs.Admitting.{Acts, Admits}
 use Rattle.rtspd.specs.declared.conversing.Asker.{Asker}
-use Rattle.rtspd.specs.declared.words_given.Words.{Words}
+use Rattle.rtspd.specs.declared.conducting.Numbers.{Numbers}
+use Rattle.rtspd.specs.declared.given_ids.GivenIds.{GivenIds}
 
--- what stands between two items: the book with its journal, and the words that were given out
+-- what is before and after an item: the book with its journal, the ids that were given out, and what is written
 pub record Standing : Type 0 where
   pub history : History
-  pub words : Words
+  pub given : GivenIds
+  pub text : List ℕ
 
-abbrev pub standing : History → Words → Standing
-standing h w = record { history = h; words = w }
+abbrev pub standing : History → GivenIds → List ℕ → Standing
+standing h given text = record { history = h; given = given; text = text }
 
--- The session that a request names.
+abbrev pub at : History → GivenIds → RoomText → Standing
+at h given room = standing h given room.text
+
+-- a response is written, and nothing else is done
+abbrev pub JustWrites : Response → Standing → Standing → Type 0
+JustWrites response old new = new ≡ standing old.history old.given (old.text ++ response_text response)
+
+-- what is served, and to whom
+pub record Service : Type 0 where
+  pub table : TableValue
+  pub asker : Asker
+
+abbrev pub service : TableValue → Asker → Service
+service table asker = record { table = table; asker = asker }
+
+-- ---- the session that a request names
 
 abbrev pub living_at : Book → Option ℕ → Option (ℕ × Session)
 living_at b None = None
@@ -59,17 +78,20 @@ living_at b (Some s) = session_at b s
 abbrev pub named : Book → ℕ → Option Name → Option (ℕ × Session)
 named b conn None = None
 named b conn (Some (Id i)) = living_at b (with_id_in i (entries b))
-named b conn (Some (Numbered n)) = living_at b (with_startup_in conn n (entries b))
+named b conn (Some (Startup n)) = living_at b (with_startup_in conn n (entries b))
 
--- The words of an admission.
+-- ---- ids and numbers of an admission
 
--- one more of each word that is wanted, none where they are spent: an id where a session is opened, and an SSRC
-abbrev pub words_after : Bool → Words → Option Words
-words_after opens w =
-    if (if opens then w.ids == 2 ^ 128 - 1 else false) then None
-    else (if w.ssrcs == 2 ^ 32 - 1 then None else Some (record { ids = if opens then w.ids + 1 else w.ids; ssrcs = w.ssrcs + 1 }))
+-- one more SSRC, and one more id where a session is opened; none where they are spent
+abbrev pub ids_after : Bool → GivenIds → Option GivenIds
+ids_after opens given =
+    if (if opens then given.ids == 2 ^ 128 - 1 else false) then None
+    else (if given.ssrcs == 2 ^ 32 - 1 then None else Some (record { ids = if opens then given.ids + 1 else given.ids; ssrcs = given.ssrcs + 1 }))
 
--- The numbers of an admission.
+-- a session is opened
+abbrev pub opens : SetupSession → Bool
+opens (New expires startup) = true
+opens (Living key) = false
 
 -- no number is left
 abbrev pub is_spent : History → Bool
@@ -78,140 +100,156 @@ is_spent h = h.next == 2 ^ 64 - 1
 abbrev pub bumped : History → History
 bumped h = record h { next = h.next + 1 }
 
--- the session's number where one is opened, then the admission's, and what stands after the draws
-abbrev pub numbers_of : Bool → ℕ → History → Option (ℕ × ℕ) × History
-numbers_of true s h = if is_spent h then (None, h) else (if is_spent (bumped h) then (None, bumped h) else (Some (h.next, h.next + 1), bumped (bumped h)))
-numbers_of false s h = if is_spent h then (None, h) else (Some (s, h.next), bumped h)
+-- what the drawing of numbers comes to
+pub record Draw : Type 0 where
+  pub numbers : Option Numbers
+  pub left : History
 
--- The ask with its connection, its words and its numbers.
+abbrev pub draw : Option Numbers → History → Draw
+draw numbers left = record { numbers = numbers; left = left }
 
-abbrev pub opening_on : ℕ → ℕ → Option Opening → Option Opening
-opening_on conn id None = None
-opening_on conn id (Some o) = Some (record { id = id; conn = conn; expires = o.expires })
+abbrev pub numbers : ℕ → ℕ → ℕ → Numbers
+numbers session id admission = record { key = record { session = session; id = id }; admission = admission }
 
--- a wish is for an even channel that has another after it
-abbrev pub wish_on : Option ℕ → Option ℕ
-wish_on None = None
-wish_on (Some k) = if (k % 2 == 0) && nat_le k 254 then Some k else None
+-- the number of a session that is opened, then the admission's; a living session keeps its key
+abbrev pub draw_of : SetupSession → ℕ → History → Draw
+draw_of (New expires startup) id h =
+    if is_spent h then draw None h
+    else (if is_spent (bumped h) then draw None (bumped h) else draw (Some (numbers h.next id (h.next + 1))) (bumped (bumped h)))
+draw_of (Living key) id h = if is_spent h then draw None h else draw (Some (numbers key.session key.id h.next)) (bumped h)
 
-abbrev pub wanted_on : ℕ → Wanted → Wanted
-wanted_on conn wanted.Pair = wanted.Pair
-wanted_on conn (wanted.Channels old wish) = wanted.Channels conn (wish_on wish)
+abbrev pub drawn_with : ℕ → GivenIds → Numbers → Drawn
+drawn_with conn given n = record {
+  conn = conn;
+  key = n.key;
+  admission = n.admission;
+  ssrc = given.ssrcs;
+  seq = 0;
+  rtptime = 0;
+}
 
-abbrev pub startup_on : ℕ → Option Startup → Option Startup
-startup_on conn None = None
-startup_on conn (Some u) = Some (record { conn = conn; number = u.number })
+-- ---- how a plan is conducted
 
-abbrev pub stream_with : ℕ → Stream → Stream
-stream_with ssrc v = record v { ssrc = ssrc; seq = 0; rtptime = 0 }
+-- a step is acted by the first actor, and what came of it is answered
+abbrev pub ConductsStep : StepPlan → Standing → Standing → Type 0
+ConductsStep plan old new =
+    (made : Result (List Record) Refusal) × Acts 0 old.history plan.step made new.history
+    × (new.given ≡ old.given) × (new.text ≡ old.text ++ response_text (step_answer plan made))
 
-abbrev pub filled : Ask → ℕ → Words → ℕ × ℕ → Ask
-filled ask conn w numbers =
-    record {
-      session = numbers.0;
-      admission = numbers.1;
-      opening = opening_on conn w.ids ask.opening;
-      rate = ask.rate;
-      wanted = wanted_on conn ask.wanted;
-      stream = stream_with w.ssrcs ask.stream;
-      startup = startup_on conn ask.startup;
-    }
+-- a track isn't set up, for this refusal
+abbrev pub Declines : SetupPlan → Refusal → Standing → Standing → Type 0
+Declines plan refusal old new = JustWrites (refused (setup_start plan) (Refused (status_of refusal))) old new
 
--- How a plan is conducted.
+-- the admission is made with the numbers that were drawn; spent ones are answered as such
+abbrev pub ConductsWith : ℕ → SetupPlan → Option Numbers → Standing → Standing → Type 0
+ConductsWith conn plan None old new = Declines plan NumbersSpent old new
+ConductsWith conn plan (Some n) old new =
+    (made : Result Admitted Refusal) × Admits 0 old.history (ask_of plan (drawn_with conn old.given n)) made new.history
+    × (new.given ≡ old.given) × (new.text ≡ old.text ++ response_text (setup_answer plan n.key made))
 
-abbrev pub step_outcome : Result (List Record) Refusal → Outcome
-step_outcome (Ok rs) = outcomes.Done rs
-step_outcome (Err r) = outcomes.Refused r
+abbrev pub ConductsDrawn : ℕ → SetupPlan → Draw → GivenIds → List ℕ → Standing → Type 0
+ConductsDrawn conn plan drawn given text new = ConductsWith conn plan drawn.numbers (standing drawn.left given text) new
 
-abbrev pub ask_outcome : Result Admitted Refusal → Outcome
-ask_outcome (Ok made) = outcomes.Admitted made
-ask_outcome (Err r) = outcomes.Refused r
+-- spent ids are answered 500, before a number is drawn
+abbrev pub ConductsGiven : ℕ → SetupPlan → Option GivenIds → Standing → Standing → Type 0
+ConductsGiven conn plan None old new = JustWrites (refused (setup_start plan) (Refused ServerError)) old new
+ConductsGiven conn plan (Some given) old new = ConductsDrawn conn plan (draw_of plan.session given.ids old.history) given old.text new
 
--- milliseconds that a unit may last
-abbrev pub is_unit : ℕ → Bool
-is_unit unit_ms = nat_lt 0 unit_ms && nat_le unit_ms 1000
+-- a pair of ports is not given out by this program: 461, before an id or a number is drawn
+abbrev pub ConductsBy : ℕ → SetupPlan → Delivery → Standing → Standing → Type 0
+ConductsBy conn plan (Udp rtp rtcp) old new = JustWrites (refused (setup_start plan) (Refused UnsupportedTransport)) old new
+ConductsBy conn plan (Interleaved wish) old new = ConductsGiven conn plan (ids_after (opens plan.session) old.given) old new
 
--- the steps of plans, within the bounds of the content
-abbrev pub is_conducted : Step → Bool
-is_conducted (step.End s) = true
-is_conducted (step.DropTrack s t) = true
-is_conducted (step.Play s from stop unit_ms now) = is_unit unit_ms && nat_le stop 10000000
-is_conducted (step.Pause s unit_ms now) = is_unit unit_ms
-is_conducted other = false
+abbrev pub ConductsSetup : ℕ → SetupPlan → Standing → Standing → Type 0
+ConductsSetup conn plan old new = ConductsBy conn plan plan.delivery old new
 
--- a step is acted by the first actor, and its outcome is answered
-abbrev pub ConductsStep : Bool → Plan → Step → History → Response → History → Type 0
-ConductsStep true plan s old response new =
-    (made : Result (List Record) Refusal) × Acts 0 old s made new × (response ≡ answer plan (step_outcome made))
-ConductsStep false plan s old response new = (response ≡ answer plan (outcomes.Refused OutOfMemory)) × (new ≡ old)
+abbrev pub Conducts : ℕ → Plan → Standing → Standing → Type 0
+Conducts conn (plans.Answer given) old new = JustWrites given old new
+Conducts conn (plans.Step plan) old new = ConductsStep plan old new
+Conducts conn (plans.Admit plan) old new = ConductsSetup conn plan old new
 
--- the admission is made with these numbers; spent ones are answered as such
-abbrev pub ConductsWith : ℕ → Admission → Words → Option (ℕ × ℕ) × History → Response → History → Type 0
-ConductsWith conn a w (None, h) response new = (response ≡ answer (plans.Admit a) (outcomes.Refused NumbersSpent)) × (new ≡ h)
-ConductsWith conn a w (Some numbers, h) response new =
-    (made : Result Admitted Refusal) × Admits 0 h (filled a.ask conn w numbers) made new
-    × (response ≡ answer (plans.Admit (record { front = a.front; timeout = a.timeout; ask = filled a.ask conn w numbers; timing = a.timing })) (ask_outcome made))
+-- ---- how a request is answered
 
--- spent words are answered 500 before a number is drawn
-abbrev pub ConductsAsk : ℕ → Admission → Option Words → Standing → Response → Standing → Type 0
-ConductsAsk conn a None old response new = (response ≡ answer (plans.Admit a) (outcomes.Refused OutOfMemory)) × (new ≡ old)
-ConductsAsk conn a (Some w) old response new = ConductsWith conn a w (numbers_of (is_some a.ask.opening) a.ask.session old.history) response new.history × (new.words ≡ w)
+-- the living session that the request names, by a journal
+abbrev pub view_at : Service → ParsedValue → History → Option (ℕ × Session)
+view_at s request h = named (book_of h.journal) s.asker.conn request.name
 
--- a pair of ports is not given out by this program: 461, before a word or a number is drawn
-abbrev pub ConductsWanted : ℕ → Admission → Wanted → Standing → Response → Standing → Type 0
-ConductsWanted conn a wanted.Pair old response new = (response ≡ refused a.front (faults.Refused UnsupportedTransport)) × (new ≡ old)
-ConductsWanted conn a (wanted.Channels was wish) old response new = ConductsAsk conn a (words_after (is_some a.ask.opening) old.words) old response new
+abbrev pub plan_at : Service → ParsedValue → History → Plan
+plan_at s request h = decide s.table request (view_at s request h) s.asker.peer s.asker.moment
 
-abbrev pub Conducts : ℕ → Plan → Standing → Response → Standing → Type 0
-Conducts conn (plans.Answer given) old response new = (response ≡ given) × (new ≡ old)
-Conducts conn (plans.Step s) old response new = ConductsStep (is_conducted s.step) (plans.Step s) s.step old.history response new.history × (new.words ≡ old.words)
-Conducts conn (plans.Admit a) old response new = ConductsWanted conn a a.ask.wanted old response new
+-- the step that renews a living session to a moment
+abbrev pub renewal_step : Option (ℕ × Session) → Option ℕ → Option Step
+renewal_step (Some view) (Some until) = Some (step.Touch view.0 until)
+renewal_step (Some view) None = None
+renewal_step None until = None
 
--- How a request is answered.
+abbrev pub renewal_at : Service → ParsedValue → History → Option Step
+renewal_at s request h = renewal_step (view_at s request h) (renewal s.table request s.asker.moment)
 
--- the renewal is made, or refused; nothing is done where there is none
-abbrev pub Renews : Option Step → History → Option Refusal → History → Type 0
-Renews (Some (step.Touch s until)) old None new = (rs : List Record) × Acts 0 old (step.Touch s until) (Ok rs) new
-Renews (Some (step.Touch s until)) old (Some r) new = Acts 0 old (step.Touch s until) (Err r) new
-Renews other old None new = new ≡ old
-Renews other old (Some r) new = ⊥
+-- the renewal is made, where there is one
+abbrev pub RenewsBy : Option Step → History → History → Type 0
+RenewsBy None old new = new ≡ old
+RenewsBy (Some touch) old new = (rs : List Record) × Acts 0 old touch (Ok rs) new
 
--- the session is renewed, and the request conducted with the session as it then is; a refused renewal ends it
-abbrev pub RespondsNamed : TableValue → Asker → Option Name → Request → Option Step → Standing → Response → Standing → Type 0
-RespondsNamed t asker name request renews old response new =
-    ((mid : History) × Renews renews old.history None mid
-    × Conducts asker.conn (decide t request (named (book_of mid.journal) asker.conn name) asker.peer asker.moment) (record { history = mid; words = old.words }) response new)
-    ⊎ ((refusal : Refusal) × Renews renews old.history (Some refusal) new.history × (new.words ≡ old.words)
-    × (response ≡ renewal_refused request (named (book_of old.history.journal) asker.conn name) refusal))
+abbrev pub Renews : Service → ParsedValue → History → History → Type 0
+Renews s request old new = RenewsBy (renewal_at s request old) old new
 
--- the renewal of the session that is named
-abbrev pub renewal_named : TableValue → Request → ℕ → Option (ℕ × Session) → Option Step
-renewal_named t request moment view = option_and_then (λ v. renewal t request v moment) view
+-- the renewal is refused, and this is what the living session gets for it
+pub record RefusesRenewal (s : Service) (request : ParsedValue) (old : History) (response : Response) (new : History) : Type 0 where
+  pub view : ℕ × Session
+  pub lives : view_at s request old ≡ Some view
+  pub until : ℕ
+  pub renewal : renewal s.table request s.asker.moment ≡ Some until
+  pub refusal : Refusal
+  pub acts : Acts 0 old (step.Touch view.0 until) (Err refusal) new
+  pub answer : response ≡ renewal_refused request view refusal
 
-abbrev pub RespondsScreened : Screen → TableValue → Asker → Request → Standing → Response → Standing → Type 0
-RespondsScreened (Answered given) t asker request old response new = (response ≡ given) × (new ≡ old)
-RespondsScreened (Asks name) t asker request old response new =
-    RespondsNamed t asker name request (renewal_named t request asker.moment (named (book_of old.history.journal) asker.conn name)) old response new
+-- the request is conducted with the session as it is after its renewal
+abbrev pub Responds : Service → ParsedValue → Standing → Standing → Type 0
+Responds s request old new =
+    (mid : History) × Renews s request old.history mid
+    × Conducts s.asker.conn (plan_at s request mid) (standing mid old.given old.text) new
 
--- a request is answered by one response
-abbrev pub Responds : TableValue → Asker → Standing → Request → Response → Standing → Type 0
-Responds t asker old request response new = RespondsScreened (screen t request) t asker request old response new
+-- a refused renewal ends the request
+abbrev pub Ends : Service → ParsedValue → Standing → Standing → Type 0
+Ends s request old new =
+    (response : Response) × RefusesRenewal s request old.history response new.history
+    × (new.given ≡ old.given) × (new.text ≡ old.text ++ response_text response)
 
--- where memory ran out before a request had a response: the session that it names was renewed, and nothing else was done
-abbrev pub OnlyRenews : Option Step → Standing → Standing → Type 0
-OnlyRenews renews old new = Renews renews old.history None new.history × (new.words ≡ old.words)
+-- a request that nothing refuses before its session is looked up
+abbrev pub AnswersParsed : Service → ParsedValue → Standing → Standing → Type 0
+AnswersParsed s request old new = Responds s request old new ⊎ Ends s request old new
 
-abbrev pub GivesUpScreened : Screen → TableValue → Asker → Request → Standing → Standing → Type 0
-GivesUpScreened (Answered given) t asker request old new = new ≡ old
-GivesUpScreened (Asks name) t asker request old new = OnlyRenews (renewal_named t request asker.moment (named (book_of old.history.journal) asker.conn name)) old new
+abbrev pub AnswersScreened : Service → Screen → Standing → Standing → Type 0
+AnswersScreened s (Answered given) old new = JustWrites given old new
+AnswersScreened s (Asks request) old new = AnswersParsed s request old new
 
-abbrev pub GivesUp : TableValue → Asker → Standing → Item → Standing → Type 0
-GivesUp t asker old (items.Request request) new = GivesUpScreened (screen t request) t asker request old new
-GivesUp t asker old (items.Response response) new = new ≡ old
-GivesUp t asker old (items.Frame frame) new = new ≡ old
+-- the session is renewed, and nothing else is done
+abbrev pub OnlyRenews : Service → ParsedValue → Standing → Standing → Type 0
+OnlyRenews s request old new = Renews s request old.history new.history × (new.given ≡ old.given) × (new.text ≡ old.text)
 
--- an item is answered: a request by its response's text, a response and a frame by nothing
-abbrev pub Answers : TableValue → Asker → Standing → Item → List ℕ → Standing → Type 0
-Answers t asker old (items.Request request) bytes new = (response : Response) × Responds t asker old request response new × (bytes ≡ response_text response)
-Answers t asker old (items.Response response) bytes new = (bytes ≡ []) × (new ≡ old)
-Answers t asker old (items.Frame frame) bytes new = (bytes ≡ []) × (new ≡ old)
+-- where memory runs out there is no step but the renewal, and nothing is written
+abbrev pub GivesUpParsed : Service → ParsedValue → Standing → Standing → Type 0
+GivesUpParsed s request old new = (new ≡ old) ⊎ OnlyRenews s request old new
+
+abbrev pub RenewsScreened : Service → Screen → Standing → Standing → Type 0
+RenewsScreened s (Answered given) old new = ⊥
+RenewsScreened s (Asks request) old new = OnlyRenews s request old new
+
+abbrev pub GivesUpScreened : Service → Screen → Standing → Standing → Type 0
+GivesUpScreened s screened old new = (new ≡ old) ⊎ RenewsScreened s screened old new
+
+-- nothing was done
+abbrev pub IsUnchanged : Standing → Standing → Type 0
+IsUnchanged old new = (new.history ≡ old.history) × (new.given ≡ old.given) × (new.text ≡ old.text)
+
+-- an item is answered: a request by the text of its one response, a response and a frame by nothing
+abbrev pub Answers : Service → Item → Standing → Standing → Type 0
+Answers s (items.Request request) old new = AnswersScreened s (screen s.table request) old new
+Answers s (items.Response response) old new = IsUnchanged old new
+Answers s (items.Frame frame) old new = IsUnchanged old new
+
+abbrev pub GivesUp : Service → Item → Standing → Standing → Type 0
+GivesUp s (items.Request request) old new = GivesUpScreened s (screen s.table request) old new
+GivesUp s (items.Response response) old new = IsUnchanged old new
+GivesUp s (items.Frame frame) old new = IsUnchanged old new

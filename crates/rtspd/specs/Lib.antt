@@ -1,8 +1,9 @@
 pub mod Streams
-pub mod Complaints
+pub mod FaultResponses
 pub mod Served
 pub mod Causes
 pub mod Admitting
 pub mod Conversing
-pub mod Words
+pub mod Desk
+pub mod CommandLine
 pub mod Exits

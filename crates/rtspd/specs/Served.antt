@@ -1,6 +1,6 @@
 -- What a connection has written, from what it has read. `R old item answer new` says how one item is answered: with which
--- bytes, and what then stands in the place of what stood before. `L old item new` says what may stand where memory ran out
--- before the item had an answer.
+-- bytes, and what then takes the place of what was before. `L old item new` says what may have been done where memory ran
+-- out, and the item has no answer.
 use Rattle.std.specs.Prelude.{◌≡◌, ◌⊎◌, ℕ, List, [], ◌∷◌, ◌++◌, Option, Ok}
 use Rattle.std.specs.Io.KnownBytes.{Appends, Consumes}
 use Rattle.rtsp_grammar.specs.Answer.{Decides, IsUndecided, HasFault}
@@ -8,7 +8,7 @@ use Rattle.rtsp_grammar.specs.Item.{Spells}
 use Rattle.rtsp_grammar.specs.declared.fault.MessageFault.{MessageFault}
 use Rattle.rtsp_grammar.specs.declared.fault.MessageFault.TheVariants as faults
 use Rattle.rtsp_grammar.specs.declared.message.Item.{Item}
-use Rattle.rtspd.specs.Complaints.{complaint}
+use Rattle.rtspd.specs.FaultResponses.{fault_response}
 use Rattle.rtspd.specs.Streams.{WritesPart}
 use Rattle.rtspd.specs.declared.serving.ServeEnd.{ServeEnd}
 use Rattle.rtspd.specs.declared.serving.ServeEnd.TheVariants.{Closed, ReadFault, WriteFault, Fault, TurnsSpent}
@@ -40,10 +40,6 @@ module _ {S : Type 0} (R : S → Item → List ℕ → S → Type 0) (L : S → 
     pub read : Consumes unread left bytes
     pub answered : Answered (start ++ bytes) rest wrote writes old new
 
-  -- nothing has happened; or memory ran out before there was an answer; or the item was answered, and the answer is lost
-  abbrev pub LostOrNot : S → Item → S → Type 0
-  LostOrNot old item new = (new ≡ old) ⊎ (L old item new ⊎ ((answer : List ℕ) × R old item answer new))
-
   -- the item at the front was answered, and of its answer some bytes were written
   pub record InHand (rest : List ℕ) (wrote writes : Option (List ℕ)) (old new : S) : Type 0 where
     pub item : Item
@@ -53,21 +49,21 @@ module _ {S : Type 0} (R : S → Item → List ℕ → S → Type 0) (L : S → 
     pub done : R old item answer new
     pub written : WritesPart wrote writes answer
 
-  -- memory ran out over the item at the front, before it had an answer or when the answer could not be made
-  pub record IsLost (rest : List ℕ) (old new : S) : Type 0 where
+  -- memory ran out over the item at the front, which has no answer
+  pub record IsGivenUp (rest : List ℕ) (old new : S) : Type 0 where
     pub item : Item
     pub size : ℕ
     pub stands : Decides rest (Ok (item, size))
-    pub lost : L old item new ⊎ ((answer : List ℕ) × R old item answer new)
+    pub left : L old item new
 
-  -- what stands at the front has the fault; or memory ran out, before the item was answered or when its answer could not be made
+  -- what is at the front has the fault; or memory ran out, over the item at the front or before it was read
   abbrev pub Faulted : List ℕ → MessageFault → S → S → Type 0
-  Faulted rest fault old new = (HasFault rest fault × (new ≡ old)) ⊎ ((fault ≡ faults.OutOfMemory) × ((new ≡ old) ⊎ IsLost rest old new))
+  Faulted rest fault old new = (HasFault rest fault × (new ≡ old)) ⊎ ((fault ≡ faults.OutOfMemory) × ((new ≡ old) ⊎ IsGivenUp rest old new))
 
   -- an answer or a complaint could be written in part only
   abbrev pub BreaksOff : List ℕ → Option (List ℕ) → Option (List ℕ) → S → S → Type 0
   BreaksOff rest wrote writes old new =
-      InHand rest wrote writes old new ⊎ ((fault : MessageFault) × Faulted rest fault old new × WritesPart wrote writes (complaint fault))
+      InHand rest wrote writes old new ⊎ ((fault : MessageFault) × Faulted rest fault old new × WritesPart wrote writes (fault_response fault))
 
   -- how a connection has ended, from a held start on
   abbrev pub EndsFrom : List ℕ → ServeEnd → Option (List ℕ) → Option (List ℕ) → Option (List ℕ) → Option (List ℕ) → S → S → Type 0
@@ -80,7 +76,7 @@ module _ {S : Type 0} (R : S → Item → List ℕ → S → Type 0) (L : S → 
   EndsFrom start WriteFault unread left wrote writes old new =
       (rest : List ℕ) × (mid : S) × (between : Option (List ℕ)) × Progress start unread left rest wrote between old mid × BreaksOff rest between writes mid new
   EndsFrom start (Fault fault) unread left wrote writes old new =
-      (rest : List ℕ) × (mid : S) × (between : Option (List ℕ)) × Progress start unread left rest wrote between old mid × Faulted rest fault mid new × Appends between writes (complaint fault)
+      (rest : List ℕ) × (mid : S) × (between : Option (List ℕ)) × Progress start unread left rest wrote between old mid × Faulted rest fault mid new × Appends between writes (fault_response fault)
 
   -- Parts of the loop.
 
@@ -89,7 +85,7 @@ module _ {S : Type 0} (R : S → Item → List ℕ → S → Type 0) (L : S → 
   Told item size (nexts.Took took) wrote writes old new = (took ≡ size) × ((answer : List ℕ) × R old item answer new × Appends wrote writes answer)
   Told item size nexts.More wrote writes old new = ⊥
   Told item size nexts.WriteFault wrote writes old new = (answer : List ℕ) × R old item answer new × WritesPart wrote writes answer
-  Told item size (nexts.Fault fault) wrote writes old new = (fault ≡ faults.OutOfMemory) × LostOrNot old item new × Appends wrote writes []
+  Told item size (nexts.Fault fault) wrote writes old new = (fault ≡ faults.OutOfMemory) × L old item new × Appends wrote writes []
 
   -- what came of the front of some bytes
   abbrev pub Follows : Next → List ℕ → Option (List ℕ) → Option (List ℕ) → S → S → Type 0
@@ -112,5 +108,5 @@ module _ {S : Type 0} (R : S → Item → List ℕ → S → Type 0) (L : S → 
   EndsHere bytes WriteFault wrote writes old new =
       (rest : List ℕ) × (mid : S) × (between : Option (List ℕ)) × Answered bytes rest wrote between old mid × BreaksOff rest between writes mid new
   EndsHere bytes (Fault fault) wrote writes old new =
-      (rest : List ℕ) × (mid : S) × (between : Option (List ℕ)) × Answered bytes rest wrote between old mid × Faulted rest fault mid new × Appends between writes (complaint fault)
+      (rest : List ℕ) × (mid : S) × (between : Option (List ℕ)) × Answered bytes rest wrote between old mid × Faulted rest fault mid new × Appends between writes (fault_response fault)
   EndsHere bytes end wrote writes old new = ⊥

@@ -1,4 +1,4 @@
-//! Audits of journals, and what bad journals and bad configurations are told.
+//! Audits of journals, and how bad journals and bad configurations are refused.
 use crate::conversation_tests::example_with;
 use crate::tests::JOURNAL;
 use crate::{Exit, run_words};

@@ -1,25 +1,17 @@
-//! How one request is answered, from the book and the words given out before it.
-ghost use Rattle.std.specs.Prelude.{◌≡◌, ◌⊎◌, IfOk, IfErr, OnOk, OnErr, None, Some, IsTrue, option_map, is_some};
-ghost use Rattle.rtsp_grammar.specs.declared.message.Response.{Response};
-ghost use Rattle.rtsp_record.specs.Books.{book_of};
-ghost use Rattle.rtsp_book.specs.Replies.{IsAskable, IsWish};
-ghost use Rattle.rtsp_state.specs.declared.plan.Plan.TheVariants as plans;
+//! How one request is answered, from the book and the ids given out before it.
+ghost use Rattle.std.specs.Prelude.{◌≡◌, ◌++◌, IfOk, IfErr, OnOk, OnErr};
+ghost use Rattle.rtsp_grammar.specs.Writing.{response_text};
 ghost use Rattle.rtsp_state.specs.Screen.{screen};
-ghost use Rattle.rtspd.specs.Admitting.{WishesWell};
-ghost use Rattle.rtspd.specs.Conversing.{standing, Renews, Conducts, ConductsStep, ConductsWith, ConductsWanted, Responds, RespondsNamed, OnlyRenews, GivesUpScreened, named, living_at, numbers_of, filled, wish_on, wanted_on, opening_on, startup_on, is_unit, is_conducted, step_outcome, ask_outcome, renewal_named};
+ghost use Rattle.rtspd.specs.Conversing.{at, service, view_at, Renews, RefusesRenewal, living_at, named, AnswersParsed, GivesUpParsed, AnswersScreened, GivesUpScreened};
 
-use crate::admitting::{act, admit};
-use crate::words_given::{Words, words_after};
-use rtsp_book::{
-    Admitted, Ask, BookRep, Kept, NumbersSpent, Opening, Receipt, Refusal, SessionView, Startup,
-    Step, Wanted,
-};
+use crate::admitting::act;
+use crate::conducting::{ACTOR, conduct};
+use crate::given_ids::GivenIds;
+use rtsp_book::{BookRep, Kept, Receipt, SessionView, Step};
 use rtsp_content::Table;
-use rtsp_grammar::{Request, Response};
-use rtsp_record::Stream;
+use rtsp_grammar::Request;
 use rtsp_state::{
-    Admission, Fault, Name, Outcome, Plan, Screen, Status, Stepping, answer, decide, refused,
-    renewal, renewal_refused, screen,
+    Name, ParsedRequest, Reply, Room, Screen, decide, renewal, renewal_refused, screen,
 };
 use std::alloc::{AllocError, Global};
 
@@ -30,9 +22,6 @@ pub struct Asker {
     pub peer: u32,
     pub moment: u64,
 }
-
-// The actor of all steps.
-const ACTOR: u64 = 0;
 
 // The living session of a number.
 fn living_at<B: BookRep>(book: &B, session: Option<u64>) -> Option<SessionView>
@@ -55,304 +44,100 @@ fn named<B: BookRep>(book: &B, conn: u64, name: Option<Name>) -> Option<SessionV
     }
 }
 
-// Makes the renewal of a session, where there is one.
-fn renew<B: BookRep>(kept: &mut Kept<B>, step: Option<Step>) -> Result<(), Refusal>
-    ensures ok { OnOk result (Renews step kept.old None kept.new) }
-    ensures err { IfErr result (λ r. Renews step kept.old (Some r) kept.new) }
-{
-    let Some(Step::Touch { session, until }) = step else {
-        return Ok(());
-    };
-    match act(kept, ACTOR, &Step::Touch { session, until }) {
-        Ok(_) => Ok(()),
-        Err(refusal) => Err(refusal),
-    }
-}
-
-// Milliseconds that a unit may last.
-fn is_unit(unit_ms: u32) -> bool
-    ensures { result ≡ is_unit unit_ms }
-{
-    0 < unit_ms && unit_ms <= 1000
-}
-
-// The steps of plans, within the bounds of the content.
-fn is_conducted(step: &Step) -> bool
-    ensures value { result ≡ is_conducted step.now }
-    ensures askable { IsTrue result → IsAskable step.now }
-{
-    match *step {
-        Step::End { .. } | Step::DropTrack { .. } => true,
-        Step::Play { stop, unit_ms, .. } => is_unit(unit_ms) && stop <= 10_000_000,
-        Step::Pause { unit_ms, .. } => is_unit(unit_ms),
-        _ => false,
-    }
-}
-
-fn step_outcome(made: Result<Receipt, Refusal>) -> Outcome
-    ensures { result ≡ step_outcome made }
-{
-    match made {
-        Ok(receipt) => Outcome::Done(receipt),
-        Err(refusal) => Outcome::Refused(refusal),
-    }
-}
-
-fn ask_outcome(made: Result<Admitted, Refusal>) -> Outcome
-    ensures { result ≡ ask_outcome made }
-{
-    match made {
-        Ok(admitted) => Outcome::Admitted(admitted),
-        Err(refusal) => Outcome::Refused(refusal),
-    }
-}
-
-// Acts the step of a plan, and answers what came of it.
-fn conduct_step<B: BookRep>(
-    alloc: Global,
+// Renews the session that a request names, and gives it as it then is: it is looked up again only where the renewal
+// was recorded. A refused renewal is answered at once.
+fn renew<B: BookRep>(
     kept: &mut Kept<B>,
-    stepping: Stepping,
-) -> Result<Response, AllocError>
-    ensures ok { IfOk result (λ r. ConductsStep (is_conducted stepping.step) (plans.Step stepping) stepping.step kept.old r kept.new) }
-    ensures err { OnErr result ((r : Response) × ConductsStep (is_conducted stepping.step) (plans.Step stepping) stepping.step kept.old r kept.new) }
-{
-    if !is_conducted(&stepping.step) {
-        return answer(
-            alloc,
-            Plan::Step(stepping),
-            Outcome::Refused(Refusal::OutOfMemory),
-        );
-    }
-    let made = act(kept, ACTOR, &stepping.step);
-    answer(alloc, Plan::Step(stepping), step_outcome(made))
-}
-
-// Draws the session's number where one is opened, and the admission's.
-fn draw_numbers<B: BookRep>(
-    kept: &mut Kept<B>,
-    opens: bool,
-    session: u64,
-) -> Result<(u64, u64), NumbersSpent>
-    ensures ok { IfOk result (λ n. numbers_of opens session kept.old ≡ (Some n, kept.new)) }
-    ensures err { OnErr result (numbers_of opens session kept.old ≡ (None, kept.new)) }
-{
-    if opens {
-        let session = kept.draw()?;
-        let admission = kept.draw()?;
-        Ok((session, admission))
-    } else {
-        let admission = kept.draw()?;
-        Ok((session, admission))
-    }
-}
-
-fn wish_on(wish: Option<u8>) -> Option<u8>
-    ensures value { result ≡ wish_on wish }
-    ensures well { IsWish result }
-{
-    match wish {
-        Some(channel) => {
-            if channel % 2 == 0 && channel <= 254 {
-                Some(channel)
-            } else {
-                None
-            }
-        }
-        None => None,
-    }
-}
-
-fn wanted_on(conn: u64, wanted: Wanted) -> Wanted
-    ensures value { result ≡ wanted_on conn wanted }
-    ensures well { WishesWell result }
-{
-    match wanted {
-        Wanted::Pair => Wanted::Pair,
-        Wanted::Channels { wish, .. } => Wanted::Channels {
-            conn,
-            wish: wish_on(wish),
-        },
-    }
-}
-
-fn opening_on(conn: u64, id: u128, opening: Option<Opening>) -> Option<Opening>
-    ensures { result ≡ opening_on conn id opening }
-{
-    match opening {
-        Some(opening) => Some(Opening {
-            id,
-            conn,
-            expires: opening.expires,
-        }),
-        None => None,
-    }
-}
-
-fn startup_on(conn: u64, startup: Option<Startup>) -> Option<Startup>
-    ensures { result ≡ startup_on conn startup }
-{
-    match startup {
-        Some(startup) => Some(Startup {
-            conn,
-            number: startup.number,
-        }),
-        None => None,
-    }
-}
-
-// The ask with its connection, its words and its numbers.
-fn filled(ask: &Ask, conn: u64, words: Words, numbers: (u64, u64)) -> Ask
-    ensures value { result ≡ filled ask.now conn words numbers }
-    ensures well { WishesWell result.wanted }
-{
-    let (session, admission) = numbers;
-    Ask {
-        session,
-        admission,
-        opening: opening_on(conn, words.ids, ask.opening),
-        rate: ask.rate,
-        wanted: wanted_on(conn, ask.wanted),
-        stream: Stream {
-            ssrc: words.ssrcs,
-            seq: 0,
-            rtptime: 0,
-            ..ask.stream
-        },
-        startup: startup_on(conn, ask.startup),
-    }
-}
-
-// Draws the numbers of an admission, makes it, and answers what came of it.
-fn conduct_with<B: BookRep>(
-    alloc: Global,
-    kept: &mut Kept<B>,
-    conn: u64,
-    words: Words,
-    admission: Admission,
-) -> Result<Response, AllocError>
-    ensures ok { IfOk result (λ r. ConductsWith conn admission words (numbers_of (is_some admission.ask.opening) admission.ask.session kept.old) r kept.new) }
-    ensures err { OnErr result ((r : Response) × ConductsWith conn admission words (numbers_of (is_some admission.ask.opening) admission.ask.session kept.old) r kept.new) }
-{
-    let ask = &admission.ask;
-    let numbers = match draw_numbers(kept, ask.opening.is_some(), ask.session) {
-        Ok(numbers) => numbers,
-        Err(NumbersSpent) => {
-            let outcome = Outcome::Refused(Refusal::NumbersSpent);
-            return answer(alloc, Plan::Admit(admission), outcome);
-        }
-    };
-    let ask = filled(&admission.ask, conn, words, numbers);
-    let made = admit(kept, ACTOR, &ask);
-    let admission = Admission {
-        front: admission.front,
-        timeout: admission.timeout,
-        ask,
-        timing: admission.timing,
-    };
-    answer(alloc, Plan::Admit(admission), ask_outcome(made))
-}
-
-// Conducts an admission: its words are drawn first, then its numbers.
-fn conduct_admission<B: BookRep>(
-    alloc: Global,
-    kept: &mut Kept<B>,
-    words: &mut Words,
-    conn: u64,
-    admission: Admission,
-) -> Result<Response, AllocError>
-    ensures ok { IfOk result (λ r. ConductsWanted conn admission admission.ask.wanted (standing kept.old words.old) r (standing kept.new words.new)) }
-    ensures err { OnErr result ((r : Response) × ConductsWanted conn admission admission.ask.wanted (standing kept.old words.old) r (standing kept.new words.new)) }
-{
-    if let Wanted::Pair = admission.ask.wanted {
-        let fault = Fault::Refused(Status::UnsupportedTransport);
-        return refused(alloc, admission.front, fault);
-    }
-    let Some(after) = words_after(admission.ask.opening.is_some(), *words) else {
-        let outcome = Outcome::Refused(Refusal::OutOfMemory);
-        return answer(alloc, Plan::Admit(admission), outcome);
-    };
-    *words = after;
-    conduct_with(alloc, kept, conn, after, admission)
-}
-
-// Conducts a plan.
-fn conduct<B: BookRep>(
-    alloc: Global,
-    kept: &mut Kept<B>,
-    words: &mut Words,
-    conn: u64,
-    plan: Plan,
-) -> Result<Response, AllocError>
-    ensures ok { IfOk result (λ r. Conducts conn plan (standing kept.old words.old) r (standing kept.new words.new)) }
-    ensures err { OnErr result ((r : Response) × Conducts conn plan (standing kept.old words.old) r (standing kept.new words.new)) }
-{
-    match plan {
-        Plan::Answer(response) => Ok(response),
-        Plan::Step(stepping) => conduct_step(alloc, kept, stepping),
-        Plan::Admit(admission) => conduct_admission(alloc, kept, words, conn, admission),
-    }
-}
-
-// Answers a request that names a session, or none: the session is renewed first.
-fn respond_named<B: BookRep>(
-    alloc: Global,
-    kept: &mut Kept<B>,
-    words: &mut Words,
     table: &Table,
     asker: Asker,
-    request: &Request,
-    name: Option<Name>,
-) -> Result<Response, AllocError>
-    ensures ok { IfOk result (λ r. RespondsNamed table.now asker name request.now (renewal_named table.now request.now asker.moment (named (book_of kept.old.journal) asker.conn name)) (standing kept.old words.old) r (standing kept.new words.new)) }
-    ensures err { OnErr result (OnlyRenews (renewal_named table.now request.now asker.moment (named (book_of kept.old.journal) asker.conn name)) (standing kept.old words.old) (standing kept.new words.new) ⊎ ((r : Response) × RespondsNamed table.now asker name request.now (renewal_named table.now request.now asker.moment (named (book_of kept.old.journal) asker.conn name)) (standing kept.old words.old) r (standing kept.new words.new))) }
+    request: &ParsedRequest<'_>,
+) -> Result<Option<SessionView>, Reply>
+    ensures renewed { OnOk result (Renews (service table.now asker) request.now kept.old kept.new) }
+    ensures view { IfOk result (λ v. v ≡ view_at (service table.now asker) request.now kept.new) }
+    ensures refused { IfErr result (λ r. RefusesRenewal (service table.now asker) request.now kept.old r kept.new) }
 {
-    let view = named(kept.book(), asker.conn, name);
-    let step = renewal_named(request, view.as_ref(), table, asker.moment);
-    match renew(kept, step) {
-        Ok(()) => {}
-        Err(refusal) => return renewal_refused(alloc, request, view.as_ref(), refusal),
-    }
-    let view = named(kept.book(), asker.conn, name);
-    let (peer, moment) = (asker.peer, asker.moment);
-    match decide(alloc, request, view.as_ref(), table, peer, moment) {
-        Ok(plan) => conduct(alloc, kept, words, asker.conn, plan),
-        Err(AllocError) => Err(AllocError),
+    let name = request.session_name();
+    let Some(view) = named(kept.book(), asker.conn, name) else {
+        return Ok(None);
+    };
+    let Some(until) = renewal(request, table, asker.moment) else {
+        return Ok(Some(view));
+    };
+    let touch = Step::Touch {
+        session: view.session(),
+        until,
+    };
+    let mut made = Receipt::new();
+    match act(kept, ACTOR, &touch, &mut made) {
+        Ok(()) => {
+            if made.records().is_empty() {
+                return Ok(Some(view));
+            }
+            Ok(named(kept.book(), asker.conn, name))
+        }
+        Err(refusal) => Err(renewal_refused(request, &view, refusal)),
     }
 }
 
-// The renewal of the session that is named.
-fn renewal_named(
-    request: &Request,
-    view: Option<&SessionView>,
+// Writes a response before which nothing has to be done.
+fn reply_with(reply: &Reply, room: &mut Room) -> Result<(), AllocError>
+    ensures ok { OnOk result (room.new.text ≡ room.old.text ++ response_text reply.now) }
+    ensures err { OnErr result (room.new.text ≡ room.old.text) }
+{
+    reply.make_room(room)?;
+    reply.answer(room);
+    Ok(())
+}
+
+// Answers a request that nothing refuses before its session is looked up.
+fn respond_parsed<B: BookRep>(
+    alloc: Global,
+    kept: &mut Kept<B>,
+    given: &mut GivenIds,
     table: &Table,
-    moment: u64,
-) -> Option<Step>
-    ensures { result ≡ renewal_named table.now request.now moment (option_map (λ v. v.now) view.entry) }
+    asker: Asker,
+    request: ParsedRequest<'_>,
+    room: &mut Room,
+) -> Result<(), AllocError>
+    ensures ok { OnOk result (AnswersParsed (service table.now asker) request.entry (at kept.old given.old room.old) (at kept.new given.new room.new)) }
+    ensures err { OnErr result (GivesUpParsed (service table.now asker) request.entry (at kept.old given.old room.old) (at kept.new given.new room.new)) }
 {
-    match view {
-        Some(view) => renewal(request, view, table, moment),
-        None => None,
+    match renew(kept, table, asker, &request) {
+        Ok(view) => {
+            let (peer, moment) = (asker.peer, asker.moment);
+            let plan = decide(alloc, request, view.as_ref(), table, peer, moment)?;
+            conduct(kept, given, asker.conn, &plan, room)?;
+            Ok(())
+        }
+        Err(reply) => {
+            reply_with(&reply, room)?;
+            Ok(())
+        }
     }
 }
 
-/// Answers a request. Refused for want of memory, nothing has happened, or the session that it names was renewed and
-/// nothing else was done, or the response is lost.
+/// Answers a request: its response is written after what is in the room. Where memory runs out, nothing has happened,
+/// or the session that the request names was renewed and nothing else was done.
 pub fn respond<B: BookRep>(
     alloc: Global,
     kept: &mut Kept<B>,
-    words: &mut Words,
+    given: &mut GivenIds,
     table: &Table,
     asker: Asker,
     request: &Request,
-) -> Result<Response, AllocError>
-    ensures ok { IfOk result (λ r. Responds table.now asker (standing kept.old words.old) request.now r (standing kept.new words.new)) }
-    ensures err { OnErr result (((kept.new ≡ kept.old) × (words.new ≡ words.old)) ⊎ (GivesUpScreened (screen table.now request.now) table.now asker request.now (standing kept.old words.old) (standing kept.new words.new) ⊎ ((r : Response) × Responds table.now asker (standing kept.old words.old) request.now r (standing kept.new words.new)))) }
+    room: &mut Room,
+) -> Result<(), AllocError>
+    ensures ok { OnOk result (AnswersScreened (service table.now asker) (screen table.now request.now) (at kept.old given.old room.old) (at kept.new given.new room.new)) }
+    ensures err { OnErr result (GivesUpScreened (service table.now asker) (screen table.now request.now) (at kept.old given.old room.old) (at kept.new given.new room.new)) }
 {
-    match screen(alloc, request, table) {
-        Ok(screened) => match screened {
-            Screen::Answered(response) => Ok(response),
-            Screen::Asks(name) => respond_named(alloc, kept, words, table, asker, request, name),
-        },
-        Err(AllocError) => Err(AllocError),
+    match screen(alloc, request, table)? {
+        Screen::Answered(reply) => {
+            reply_with(&reply, room)?;
+            Ok(())
+        }
+        Screen::Asks(request) => {
+            respond_parsed(alloc, kept, given, table, asker, request, room)?;
+            Ok(())
+        }
     }
 }

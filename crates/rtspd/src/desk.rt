@@ -1,45 +1,47 @@
-//! What the items of one connection are answered from.
+//! What the answers to the items of one connection depend on.
 ghost use Rattle.std.specs.Prelude.{◌≡◌, [], IfOk, IfErr, OnOk, OnErr};
 ghost use Rattle.rtspd.specs.Served.{EndsFrom};
 ghost use Rattle.rtspd.specs.Causes.{ReadFails, WriteFails, ClosesAtEnd, SpendsTurns};
-ghost use Rattle.rtspd.specs.Conversing.{standing, Answers, GivesUp};
+ghost use Rattle.rtspd.specs.Desk.{AnswersAt, GivesUpAt};
 
 use crate::conversing::{Asker, respond};
+use crate::given_ids::GivenIds;
 use crate::serving::{Answerer, ServeEnd, TURNS, serve_turns};
 use crate::streams::{ByteIn, ByteOut};
-use crate::words_given::Words;
 use rtsp_book::{BookRep, Kept};
 use rtsp_content::Table;
-use rtsp_grammar::{Item, write_response};
+use rtsp_grammar::Item;
+use rtsp_state::Room;
 use std::alloc::{AllocError, Global};
 
-/// The book with its journal, the words that were given out, the content, and who asks.
+/// The book with its journal, the ids that were given out, the content, and who asks.
 #[derive(Drop)]
 pub struct Desk<B: BookRep> {
     pub kept: Kept<B>,
-    pub words: Words,
+    pub given: GivenIds,
     pub table: Table,
     pub asker: Asker,
 }
 
 impl<B: BookRep> Answerer for Desk<B> {
-    ghost answers = { λ old item bytes new. Answers old.table old.asker (standing old.kept old.words) item bytes (standing new.kept new.words) × (new.table ≡ old.table) × (new.asker ≡ old.asker) };
+    ghost answers = { AnswersAt };
 
-    ghost gives_up = { λ old item new. GivesUp old.table old.asker (standing old.kept old.words) item (standing new.kept new.words) × (new.table ≡ old.table) × (new.asker ≡ old.asker) };
+    ghost gives_up = { GivesUpAt };
 
-    fn answer(&mut self, alloc: Global, item: &Item, out: &mut Vec<u8>) -> Result<(), AllocError> {
+    fn answer(&mut self, alloc: Global, item: &Item, room: &mut Room) -> Result<(), AllocError> {
         match item {
             Item::Request(request) => {
                 let asker = self.asker;
-                let response = respond(
+                respond(
                     alloc,
                     &mut self.kept,
-                    &mut self.words,
+                    &mut self.given,
                     &self.table,
                     asker,
                     request,
+                    room,
                 )?;
-                write_response(out, &response)
+                Ok(())
             }
             Item::Response(_) | Item::Frame(_) => Ok(()),
         }
@@ -53,7 +55,7 @@ pub fn stdio_core<B: BookRep, R: ByteIn, W: ByteOut>(
     reader: &mut R,
     writer: &mut W,
 ) -> ServeEnd
-    ensures served { EndsFrom (λ old item bytes new. Answers old.table old.asker (standing old.kept old.words) item bytes (standing new.kept new.words) × (new.table ≡ old.table) × (new.asker ≡ old.asker)) (λ old item new. GivesUp old.table old.asker (standing old.kept old.words) item (standing new.kept new.words) × (new.table ≡ old.table) × (new.asker ≡ old.asker)) [] result (R.remaining reader.old) (R.remaining reader.new) (W.contents writer.old) (W.contents writer.new) desk.old desk.new }
+    ensures served { EndsFrom AnswersAt GivesUpAt [] result (R.remaining reader.old) (R.remaining reader.new) (W.contents writer.old) (W.contents writer.new) desk.old desk.new }
     ensures read_fault { ReadFails result (R.failures reader.old) (R.failures reader.new) }
     ensures write_fault { WriteFails result (W.failures writer.old) (W.failures writer.new) }
     ensures closed { ClosesAtEnd result (R.remaining reader.new) }

@@ -11,7 +11,7 @@ pub enum Exit {
     /// All was done.
     #[error("")]
     Done,
-    /// The words after the program's name are no command line.
+    /// The words after the program's name aren't a command line.
     #[error("rtspd: bad command line")]
     BadCommandLine,
     /// The configuration is refused.
@@ -23,7 +23,7 @@ pub enum Exit {
     /// The journal's entry of this number, counted from 1, doesn't follow from those before it.
     #[error("rtspd: entry {0}: not allowed")]
     NotAllowed(u64),
-    /// The journal has more lines than are read, or more entries than the book takes.
+    /// The journal has more lines than are read, or more entries than its limit allows.
     #[error("rtspd: journal too long")]
     JournalTooLong,
     /// A file, a socket or a standard stream couldn't be read or written.

@@ -1,14 +1,14 @@
 //! The programs that need no socket: a conversation over standard input and output, and the audit of a journal.
-ghost use Rattle.rtsp_book.specs.Choices.{HasPorts};
+ghost use Rattle.rtsp_record.specs.Choices.{HasPorts};
 
+use crate::command_line::{CommandLine, read_words};
 use crate::conversing::Asker;
 use crate::desk::{Desk, stdio_core};
 use crate::example::EXAMPLE;
 use crate::exit::Exit;
+use crate::given_ids::GivenIds;
 use crate::serving::ServeEnd;
 use crate::streams::{ByteOut, CountedReader, CountedWriter, StreamFault};
-use crate::words::{CommandLine, read_words};
-use crate::words_given::Words;
 use rtsp_book::{Kept, PlainBook};
 use rtsp_content::{Table, TableFault};
 use rtsp_grammar::MessageFault;
@@ -19,11 +19,11 @@ use std::fs;
 use std::io::{self, ErrorKind, Read, Write};
 use std::rt::Files;
 
-/// The address of the player that stands at standard input: 127.0.0.1.
+/// The address of the player at standard input: 127.0.0.1.
 const PEER: u32 = 0x7f00_0001;
 
-/// Runs the words of a command line, and tells how that ended. The words come first, then the configuration, then the
-/// journal or the conversation; the first fault met is told.
+/// Runs a command line, and returns how that ended. First the words are read, then the configuration, then the
+/// journal or the conversation; the first fault met is returned.
 pub fn run_words<R: Files + AllocGlobal, I: Read + Drop, O: Write + Drop>(
     rt: &R,
     words: &[&str],
@@ -124,7 +124,7 @@ pub(crate) fn open_desk(alloc: Global, table: Table) -> Result<Desk<PlainBook>, 
     };
     Ok(Desk {
         kept,
-        words: Words { ids: 0, ssrcs: 0 },
+        given: GivenIds { ids: 0, ssrcs: 0 },
         table,
         asker,
     })
@@ -142,7 +142,7 @@ fn run_stdio<R: Files + AllocGlobal, I: Read + Drop, O: Write + Drop>(
     let mut reader = CountedReader::new(reader);
     let mut writer = CountedWriter::new(writer);
     let served = served(&stdio_core(rt.alloc(), &mut desk, &mut reader, &mut writer));
-    // The journal is written however serving ended; the first fault is told.
+    // The journal is written however serving ended; the first fault is returned.
     let written = match journal {
         Some(path) => write_out(rt, path, desk.kept.journal()),
         None => Ok(()),

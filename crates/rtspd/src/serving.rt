@@ -1,29 +1,29 @@
 //! Serves one connection: reads its items, has each answered in its turn, and writes the answers.
 ghost use Rattle.std.specs.Prelude.{◌≡◌, ◌≤◌, ◌<◌, ℕ, List, [], Option, length, take, drop, IfSome, IfNone, OnOk, OnErr};
-ghost use Rattle.rtspd.specs.Served.{Served, Progress, Answered, EndsFrom, EndsHere, Stops, Follows, Told, LostOrNot};
+ghost use Rattle.rtspd.specs.Served.{Served, Progress, Answered, EndsFrom, EndsHere, Stops, Follows, Told};
 ghost use Rattle.rtspd.specs.Causes.{ReadFails, WriteFails, NextFails, StopFails, TurnReadFails, TurnWriteFails, ClosesAtEnd, TurnClosesAtEnd, SpendsTurns, TurnReads};
 ghost use Rattle.rtsp_grammar.specs.Answer.{IsUndecided};
 ghost use Rattle.rtsp_grammar.specs.declared.message.Item.{Item};
 
-use crate::complaints::complaint;
+use crate::fault_responses::fault_response;
 use crate::streams::{ByteIn, ByteOut, StreamFault};
 use rtsp_grammar::{Item, MessageFault, read_item};
+use rtsp_state::Room;
 use std::alloc::{AllocError, Global};
 
 /// Who answers the items of a connection.
 pub trait Answerer {
-    /// How an item is answered: with which bytes, and what then stands in the place of what stood before.
+    /// How an item is answered: with which bytes, and who then takes the answerer's place.
     ghost answers: { Self → Item → List ℕ → Self → Type 0 };
 
-    /// What may stand where memory ran out before the item had an answer.
+    /// What may have been done where memory ran out, and the item has no answer.
     ghost gives_up: { Self → Item → Self → Type 0 };
 
-    /// Answers one item into the buffer, which is empty before. At want of memory nothing has happened, or it was
-    /// given up, or the item was answered and the answer is lost.
-    fn answer(&mut self, alloc: Global, item: &Item, out: &mut Vec<u8>) -> Result<(), AllocError>
-        requires { out.old.items ≡ [] }
-        ensures ok { OnOk result (answers self.old item.now out.new.items self.new) }
-        ensures err { OnErr result (LostOrNot answers gives_up self.old item.now self.new) };
+    /// Answers one item into the room, which is empty before. Where memory runs out, the item is given up.
+    fn answer(&mut self, alloc: Global, item: &Item, room: &mut Room) -> Result<(), AllocError>
+        requires { room.old.text ≡ [] }
+        ensures ok { OnOk result (answers self.old item.now room.new.text self.new) }
+        ensures err { OnErr result (gives_up self.old item.now self.new) };
 }
 
 /// How the serving of a connection has ended.
@@ -33,9 +33,9 @@ pub enum ServeEnd {
     Closed,
     ReadFault,
     WriteFault,
-    /// A message cannot be read, or memory ran out. It was told.
+    /// A message cannot be read, or memory ran out. The client was told.
     Fault(MessageFault),
-    /// So many reads were made as may be.
+    /// The limit of reads is reached.
     TurnsSpent,
 }
 
@@ -65,15 +65,15 @@ fn answer_item<A: Answerer, W: ByteOut>(
     answerer: &mut A,
     item: &Item,
     size: usize,
-    out: &mut Vec<u8>,
+    room: &mut Room,
     writer: &mut W,
 ) -> Next
     ensures told { Told A.answers A.gives_up item.now size result (W.contents writer.old) (W.contents writer.new) answerer.old answerer.new }
     ensures cause { NextFails result (W.failures writer.old) (W.failures writer.new) }
 {
-    out.clear();
-    match answerer.answer(alloc, item, out) {
-        Ok(()) => match writer.write(out.as_slice()) {
+    room.clear();
+    match answerer.answer(alloc, item, room) {
+        Ok(()) => match writer.write(room.as_bytes()) {
             Ok(()) => Next::Took(size),
             Err(StreamFault) => Next::WriteFault,
         },
@@ -86,7 +86,7 @@ fn answer_front<A: Answerer, W: ByteOut>(
     alloc: Global,
     answerer: &mut A,
     bytes: &[u8],
-    out: &mut Vec<u8>,
+    room: &mut Room,
     writer: &mut W,
 ) -> Next
     ensures next { Follows A.answers A.gives_up result bytes.now (W.contents writer.old) (W.contents writer.new) answerer.old answerer.new }
@@ -94,7 +94,7 @@ fn answer_front<A: Answerer, W: ByteOut>(
 {
     match read_item(alloc, bytes) {
         Ok(found) => match found {
-            Some((item, size)) => answer_item(alloc, answerer, &item, size, out, writer),
+            Some((item, size)) => answer_item(alloc, answerer, &item, size, room, writer),
             None => Next::More,
         },
         Err(fault) => Next::Fault(fault),
@@ -106,7 +106,7 @@ fn answer_items<A: Answerer, W: ByteOut>(
     alloc: Global,
     answerer: &mut A,
     bytes: &[u8],
-    out: &mut Vec<u8>,
+    room: &mut Room,
     writer: &mut W,
 ) -> (usize, Stop)
     ensures within { result.0 ≤ length bytes.now }
@@ -116,7 +116,7 @@ fn answer_items<A: Answerer, W: ByteOut>(
     let mut at = 0;
     loop {
         let (_, rest) = bytes.split_at(at);
-        match answer_front(alloc, answerer, rest, out, writer) {
+        match answer_front(alloc, answerer, rest, room, writer) {
             Next::Took(size) => at += size,
             Next::More => return (at, Stop::More),
             Next::WriteFault => return (at, Stop::WriteFault),
@@ -138,7 +138,7 @@ fn after_read<A: Answerer, W: ByteOut>(
     alloc: Global,
     answerer: &mut A,
     buffer: &mut Vec<u8>,
-    out: &mut Vec<u8>,
+    room: &mut Room,
     writer: &mut W,
 ) -> Option<ServeEnd>
     ensures goes_on { IfNone result (Answered A.answers A.gives_up buffer.old.items buffer.new.items (W.contents writer.old) (W.contents writer.new) answerer.old answerer.new) }
@@ -147,14 +147,14 @@ fn after_read<A: Answerer, W: ByteOut>(
     ensures cause { TurnWriteFails result (W.failures writer.old) (W.failures writer.new) }
     ensures open { (left : Option (List ℕ)) → TurnClosesAtEnd result left }
 {
-    let (at, stop) = answer_items(alloc, answerer, buffer.as_slice(), out, writer);
+    let (at, stop) = answer_items(alloc, answerer, buffer.as_slice(), room, writer);
     match stop {
         Stop::More => {
             keep_from(buffer, at);
             None
         }
         Stop::WriteFault => Some(ServeEnd::WriteFault),
-        Stop::Fault(fault) => match writer.write(complaint(fault)) {
+        Stop::Fault(fault) => match writer.write(fault_response(fault)) {
             Ok(()) => Some(ServeEnd::Fault(fault)),
             Err(StreamFault) => Some(ServeEnd::WriteFault),
         },
@@ -167,7 +167,7 @@ fn turn<A: Answerer, R: ByteIn, W: ByteOut>(
     answerer: &mut A,
     reader: &mut R,
     buffer: &mut Vec<u8>,
-    out: &mut Vec<u8>,
+    room: &mut Room,
     writer: &mut W,
 ) -> Option<ServeEnd>
     requires { IsUndecided buffer.old.items }
@@ -184,11 +184,11 @@ fn turn<A: Answerer, R: ByteIn, W: ByteOut>(
         Err(StreamFault) => Some(ServeEnd::ReadFault),
         Ok(0) => Some(ServeEnd::Closed),
         Ok(n) => match buffer.extend_from_slice(&piece[..n]) {
-            Err(AllocError) => match writer.write(complaint(MessageFault::OutOfMemory)) {
+            Err(AllocError) => match writer.write(fault_response(MessageFault::OutOfMemory)) {
                 Ok(()) => Some(ServeEnd::Fault(MessageFault::OutOfMemory)),
                 Err(StreamFault) => Some(ServeEnd::WriteFault),
             },
-            Ok(()) => after_read(alloc, answerer, buffer, out, writer),
+            Ok(()) => after_read(alloc, answerer, buffer, room, writer),
         },
     }
 }
@@ -212,9 +212,9 @@ pub fn serve_turns<A: Answerer, R: ByteIn, W: ByteOut>(
     ensures spent { SpendsTurns result turns (R.remaining reader.old) (R.remaining reader.new) }
 {
     let mut buffer: Vec<u8> = Vec::new(alloc);
-    let mut out: Vec<u8> = Vec::new(alloc);
+    let mut room = Room::new(alloc);
     for _count in 0..turns {
-        match turn(alloc, answerer, reader, &mut buffer, &mut out, writer) {
+        match turn(alloc, answerer, reader, &mut buffer, &mut room, writer) {
             Some(end) => return end,
             None => {}
         }

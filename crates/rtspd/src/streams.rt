@@ -9,7 +9,7 @@ use std::io::{ErrorKind, Read, Write};
 #[derive(Debug, Drop)]
 pub struct StreamFault;
 
-/// A reader of bytes. Its failures are counted, so that a fault is told only where there was one.
+/// A reader of bytes. Its failures are counted, so a fault is reported only where there was one.
 pub trait ByteIn {
     /// The bytes that it will give from here on, where they are known.
     ghost remaining: { Self → Option (List ℕ) };
@@ -17,7 +17,7 @@ pub trait ByteIn {
     /// How often it has failed.
     ghost failures: { Self → ℕ };
 
-    /// Some bytes at the front of the buffer. None are the end.
+    /// Reads some bytes into the front of the buffer; none at the end of the input.
     fn read(&mut self, buf: &mut [u8]) -> Result<usize, StreamFault>
         ensures bound { IfOk result (λ n. n ≤ length buf.new) }
         ensures bytes { ReadConsumes (remaining self.old) (remaining self.new) result buf.new }
@@ -70,7 +70,7 @@ impl<R: Read> ByteIn for CountedReader<R> {
     }
 }
 
-/// A writer of std as a writer of bytes. It goes on after a write of a part.
+/// A writer of std as a writer of bytes. After a partial write it goes on with the rest.
 #[derive(Drop)]
 pub struct CountedWriter<W> {
     inner: W,

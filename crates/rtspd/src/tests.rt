@@ -54,7 +54,7 @@ fn talk(rt: &HostRuntime, input: &[&str]) -> Result<Conversation, Fail> {
     Ok(Conversation { said, desk, end })
 }
 
-// The journal of a desk as a text, and its book after so many entries are undone.
+// The journal of a desk as a text, and its book after this many entries are undone.
 fn journal_of(rt: &HostRuntime, desk: &Desk<PlainBook>) -> Result<Vec<u8>, Fail> {
     let mut text: Vec<u8> = Vec::new(rt.alloc());
     write_journal(&mut text, desk.kept.journal())?;
@@ -192,7 +192,7 @@ fn a_bare_line_feed_ends_the_conversation(rt: HostRuntime) -> Result<(), Fail> {
     Ok(())
 }
 
-// How many bytes are said, and how it ends, with so many reads.
+// How many bytes are written, and how it ends, with this many reads.
 fn served_in(rt: &HostRuntime, turns: u64) -> Result<(usize, ServeEnd), Fail> {
     let mut desk = open_desk(rt.alloc(), read_table(rt, None)?)?;
     let mut said: Vec<u8> = Vec::new(rt.alloc());

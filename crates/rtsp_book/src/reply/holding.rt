@@ -1,19 +1,17 @@
-//! The answers to what holds a thing, and to what gives one back.
-ghost use Rattle.std.specs.Prelude.{◌≡◌, ℕ, ◌+◌, ◌≤◌, is_some};
-ghost use Rattle.rtsp_record.specs.Sums.{owed, held_rate};
-ghost use Rattle.rtsp_record.specs.Rules.{alike, is_this};
-ghost use Rattle.rtsp_record.specs.Sound.{Sound};
-ghost use Rattle.rtsp_book.specs.Replies.{answer, is_wrong_hold, IsWish};
+//! The replies to HoldRate, HoldPair, HoldChan and Return.
 
-use crate::admissions::MOST;
+ghost use Rattle.std.specs.Prelude.{◌≡◌, [], is_some};
+ghost use Rattle.rtsp_record.specs.Rules.{alike, is_this};
+ghost use Rattle.rtsp_book.specs.Receipts.{filled};
+ghost use Rattle.rtsp_record.specs.Choices.{IsWish};
+ghost use Rattle.rtsp_book.specs.Replies.{answer, is_wrong_hold};
+
 use crate::receipts::Receipt;
 use crate::refusals::Refusal;
-use crate::reply::room::unless_full;
-use crate::reply::sessions::living;
-use crate::representation::BookRep;
-use crate::steps::Step;
-use crate::views::SessionView;
-use rtsp_record::{Admission, Record, Thing, Whole};
+use crate::reply::case::Case;
+use crate::steps::{ChannelHold, Step};
+use rtsp_record::{Admission, Holding, Record, Thing};
+use rtsp_sessions::{BookRep, MOST_HOLDING, SessionView};
 
 // Whether something of the thing's kind is held.
 fn has_alike(held: &Admission, thing: &Thing) -> bool
@@ -44,117 +42,108 @@ fn is_wrong(view: &SessionView, admission: u64, thing: &Thing) -> bool
     ensures { result ≡ is_wrong_hold admission thing.now view.now.1 }
 {
     let held = view.under(admission);
-    held.stream.is_some() || has_alike(&held, thing) || view.others_holding(admission) >= MOST
+    held.stream.is_some()
+        || has_alike(&held, thing)
+        || view.others_holding(admission) >= MOST_HOLDING
 }
 
-pub(crate) fn hold_rate<B: BookRep>(
-    book: &B,
-    whole: &Whole,
-    entries: usize,
-    session: u64,
-    admission: u64,
-    bits: u64,
-) -> Result<Receipt, Refusal>
-    requires whole { B.whole_of book.now ≡ whole.now }
-    requires sound { Sound whole.now (B.contents book.now) }
-    requires room { entries + owed (B.contents book.now) ≤ whole.now.journal }
-    ensures { result ≡ answer whole.now entries (B.contents book.now) (Step.HoldRate session admission bits) }
-{
-    let view = living(book, session)?;
-    if whole.uplink - book.held_rate() < bits {
-        return Err(Refusal::NoBandwidth);
+impl<'a, B: BookRep> Case<'a, B> {
+    pub(super) fn hold_rate(
+        &self,
+        session: u64,
+        admission: u64,
+        bits: u64,
+        made: &mut Receipt,
+    ) -> Result<(), Refusal>
+        requires { made.old ≡ [] }
+        ensures { filled result made.new ≡ answer self.now.whole self.now.entries self.now.book (Step.HoldRate session admission bits) }
+    {
+        let view = self.living(session)?;
+        if self.exceeds_uplink(bits) {
+            return Err(Refusal::NoBandwidth);
+        }
+        let thing = Thing::Rate(bits);
+        if is_wrong(view, admission, &thing) {
+            return Err(Refusal::WrongState);
+        }
+        made.push(Record::Hold(Holding {
+            session,
+            admission,
+            thing,
+        }));
+        self.unless_full(made)
     }
-    let thing = Thing::Rate(bits);
-    if is_wrong(&view, admission, &thing) {
-        return Err(Refusal::WrongState);
-    }
-    let change = Record::Hold {
-        session,
-        admission,
-        thing,
-    };
-    unless_full(book, whole, entries, Receipt::one(change))
-}
 
-pub(crate) fn hold_pair<B: BookRep>(
-    book: &B,
-    whole: &Whole,
-    entries: usize,
-    session: u64,
-    admission: u64,
-    from: u32,
-) -> Result<Receipt, Refusal>
-    requires whole { B.whole_of book.now ≡ whole.now }
-    requires sound { Sound whole.now (B.contents book.now) }
-    requires room { entries + owed (B.contents book.now) ≤ whole.now.journal }
-    ensures { result ≡ answer whole.now entries (B.contents book.now) (Step.HoldPair session admission from) }
-{
-    let view = living(book, session)?;
-    let Some(port) = book.least_pair(from) else {
-        return Err(Refusal::NoPair);
-    };
-    let thing = Thing::Pair(port);
-    if is_wrong(&view, admission, &thing) {
-        return Err(Refusal::WrongState);
+    pub(super) fn hold_pair(
+        &self,
+        session: u64,
+        admission: u64,
+        from: u32,
+        made: &mut Receipt,
+    ) -> Result<(), Refusal>
+        requires { made.old ≡ [] }
+        ensures { filled result made.new ≡ answer self.now.whole self.now.entries self.now.book (Step.HoldPair session admission from) }
+    {
+        let view = self.living(session)?;
+        let Some(port) = self.least_pair(from) else {
+            return Err(Refusal::NoPair);
+        };
+        let thing = Thing::Pair(port);
+        if is_wrong(view, admission, &thing) {
+            return Err(Refusal::WrongState);
+        }
+        made.push(Record::Hold(Holding {
+            session,
+            admission,
+            thing,
+        }));
+        self.unless_full(made)
     }
-    let change = Record::Hold {
-        session,
-        admission,
-        thing,
-    };
-    unless_full(book, whole, entries, Receipt::one(change))
-}
 
-pub(crate) fn hold_chan<B: BookRep>(
-    book: &B,
-    whole: &Whole,
-    entries: usize,
-    session: u64,
-    admission: u64,
-    conn: u64,
-    wish: Option<u8>,
-) -> Result<Receipt, Refusal>
-    requires whole { B.whole_of book.now ≡ whole.now }
-    requires sound { Sound whole.now (B.contents book.now) }
-    requires room { entries + owed (B.contents book.now) ≤ whole.now.journal }
-    requires wish { IsWish wish }
-    ensures { result ≡ answer whole.now entries (B.contents book.now) (Step.HoldChan session admission conn wish) }
-{
-    let view = living(book, session)?;
-    let Some(channel) = book.least_chan(conn, wish) else {
-        return Err(Refusal::NoChannel);
-    };
-    let thing = Thing::Chan(conn, channel);
-    if is_wrong(&view, admission, &thing) {
-        return Err(Refusal::WrongState);
+    pub(super) fn hold_chan(&self, hold: ChannelHold, made: &mut Receipt) -> Result<(), Refusal>
+        requires wish { IsWish hold.wish }
+        requires empty { made.old ≡ [] }
+        ensures { filled result made.new ≡ answer self.now.whole self.now.entries self.now.book (Step.HoldChan hold) }
+    {
+        let view = self.living(hold.session)?;
+        let Some(channel) = self.least_chan(hold.conn, hold.wish) else {
+            return Err(Refusal::NoChannel);
+        };
+        let thing = Thing::Chan(hold.conn, channel);
+        if is_wrong(view, hold.admission, &thing) {
+            return Err(Refusal::WrongState);
+        }
+        made.push(Record::Hold(Holding {
+            session: hold.session,
+            admission: hold.admission,
+            thing,
+        }));
+        self.unless_full(made)
     }
-    let change = Record::Hold {
-        session,
-        admission,
-        thing,
-    };
-    unless_full(book, whole, entries, Receipt::one(change))
-}
 
-pub(crate) fn return_thing<B: BookRep>(
-    book: &B,
-    session: u64,
-    admission: u64,
-    thing: Thing,
-) -> Result<Receipt, Refusal>
-    ensures { (entries : ℕ) → result ≡ answer (B.whole_of book.now) entries (B.contents book.now) (Step.Return session admission thing) }
-{
-    let view = living(book, session)?;
-    let held = view.under(admission);
-    if held.stream.is_some() {
-        return Err(Refusal::WrongState);
+    pub(super) fn return_thing(
+        &self,
+        session: u64,
+        admission: u64,
+        thing: Thing,
+        made: &mut Receipt,
+    ) -> Result<(), Refusal>
+        requires { made.old ≡ [] }
+        ensures { filled result made.new ≡ answer self.now.whole self.now.entries self.now.book (Step.Return session admission thing) }
+    {
+        let view = self.living(session)?;
+        let held = view.under(admission);
+        if held.stream.is_some() {
+            return Err(Refusal::WrongState);
+        }
+        if !has_this(&held, &thing) {
+            return Err(Refusal::NotHeld);
+        }
+        made.push(Record::Free(Holding {
+            session,
+            admission,
+            thing,
+        }));
+        Ok(())
     }
-    if !has_this(&held, &thing) {
-        return Err(Refusal::NotHeld);
-    }
-    Ok(Receipt::one(Record::Free {
-        session,
-        admission,
-        thing,
-    }))
 }

@@ -1,47 +1,37 @@
-//! The answer to an Open.
-ghost use Rattle.std.specs.Prelude.{◌≡◌, ◌+◌, ◌≤◌, ◌||◌, is_some, nat_lt};
+//! The reply to Open.
+
+ghost use Rattle.std.specs.Prelude.{◌≡◌, ◌||◌, [], is_some, nat_lt};
 ghost use Rattle.std.specs.FinMap.{get};
-ghost use Rattle.rtsp_record.specs.Sums.{amount, owed, with_id};
+ghost use Rattle.rtsp_record.specs.Sums.{amount, with_id};
+ghost use Rattle.rtsp_book.specs.Receipts.{filled};
 ghost use Rattle.rtsp_book.specs.Replies.{answer};
 
 use crate::receipts::Receipt;
 use crate::refusals::Refusal;
-use crate::reply::room::unless_full;
-use crate::representation::BookRep;
+use crate::reply::case::Case;
 use crate::steps::Step;
-use rtsp_record::{Record, Whole};
+use rtsp_record::{Life, Record};
+use rtsp_sessions::BookRep;
 
-// Whether a session lives that has the number or the id.
-fn is_taken<B: BookRep>(book: &B, session: u64, id: u128) -> bool
-    ensures { result ≡ (is_some (get (B.contents book.now) session) || nat_lt 0 (amount (with_id id) (B.contents book.now))) }
-{
-    book.session(session).is_some() || book.by_id(id).is_some()
-}
+impl<'a, B: BookRep> Case<'a, B> {
+    // Whether a session lives that has the number or the id.
+    fn is_id_taken(&self, life: &Life) -> bool
+        ensures { result ≡ (is_some (get self.now.book life.now.session) || nat_lt 0 (amount (with_id life.now.id) self.now.book)) }
+    {
+        self.lives(life.session) || self.by_id(life.id.number()).is_some()
+    }
 
-pub(crate) fn open<B: BookRep>(
-    book: &B,
-    whole: &Whole,
-    entries: usize,
-    session: u64,
-    id: u128,
-    conn: u64,
-    expires: u64,
-) -> Result<Receipt, Refusal>
-    requires whole { B.whole_of book.now ≡ whole.now }
-    requires room { entries + owed (B.contents book.now) ≤ whole.now.journal }
-    ensures { result ≡ answer whole.now entries (B.contents book.now) (Step.Open session id conn expires) }
-{
-    if book.living() >= usize::from(whole.sessions) {
-        return Err(Refusal::TooManySessions);
+    pub(super) fn open(&self, life: Life, made: &mut Receipt) -> Result<(), Refusal>
+        requires { made.old ≡ [] }
+        ensures { filled result made.new ≡ answer self.now.whole self.now.entries self.now.book (Step.Open life) }
+    {
+        if self.has_all_sessions() {
+            return Err(Refusal::TooManySessions);
+        }
+        if self.is_id_taken(&life) {
+            return Err(Refusal::IdTaken);
+        }
+        made.push(Record::Open(life));
+        self.unless_full(made)
     }
-    if is_taken(book, session, id) {
-        return Err(Refusal::IdTaken);
-    }
-    let change = Record::Open {
-        session,
-        id,
-        conn,
-        expires,
-    };
-    unless_full(book, whole, entries, Receipt::one(change))
 }

@@ -1,26 +1,27 @@
 //! The records that give back.
-ghost use Rattle.std.specs.Prelude.{◌≡◌, ◌+◌, ◌≤◌, ◌++◌, length, flat_map};
+
+ghost use Rattle.std.specs.Prelude.{◌≡◌, ◌+◌, ◌≤◌, ◌++◌, [], length, flat_map};
 ghost use Rattle.std.specs.FinMap.{entries};
-ghost use Rattle.rtsp_book.specs.Lookups.{as_binding};
+ghost use Rattle.rtsp_sessions.specs.Lookups.{as_binding};
 ghost use Rattle.rtsp_book.specs.Returns.{dropping, freeing, freeing_rate, giving_back, resetting, unbinding, ending};
 
-use crate::admissions::Admissions;
 use crate::receipts::Receipt;
 use crate::reply::sessions::is_opening;
-use crate::steps::Startup;
-use crate::views::SessionView;
-use rtsp_record::{Admission, Phase, Record, Stream, Thing};
+use rtsp_record::{
+    Admission, Binding, Holding, Id, Life, Phase, Record, Setup, Stream, Thing, Transition,
+};
+use rtsp_sessions::{Admissions, SessionView, Startup};
 
 pub(crate) fn drop_stream(made: &mut Receipt, session: u64, admission: u64, stream: Option<Stream>)
     requires { length made.old + length (dropping session admission stream) ≤ 64 }
     ensures { made.new ≡ made.old ++ dropping session admission stream }
 {
     if let Some(stream) = stream {
-        made.push(Record::Drop {
+        made.push(Record::Drop(Setup {
             session,
             admission,
             stream,
-        });
+        }));
     }
 }
 
@@ -29,11 +30,11 @@ pub(crate) fn free_address(made: &mut Receipt, session: u64, admission: u64, add
     ensures { made.new ≡ made.old ++ freeing session admission address }
 {
     if let Some(thing) = address {
-        made.push(Record::Free {
+        made.push(Record::Free(Holding {
             session,
             admission,
             thing,
-        });
+        }));
     }
 }
 
@@ -42,15 +43,15 @@ pub(crate) fn free_rate(made: &mut Receipt, session: u64, admission: u64, rate: 
     ensures { made.new ≡ made.old ++ freeing_rate session admission rate }
 {
     if let Some(bits) = rate {
-        made.push(Record::Free {
+        made.push(Record::Free(Holding {
             session,
             admission,
             thing: Thing::Rate(bits),
-        });
+        }));
     }
 }
 
-// All that stands under an admission.
+// All that an admission holds.
 pub(crate) fn give_back(made: &mut Receipt, session: u64, admission: u64, held: &Admission)
     requires { length made.old + length (giving_back session (admission, held.now)) ≤ 64 }
     ensures { made.new ≡ made.old ++ giving_back session (admission, held.now) }
@@ -60,7 +61,7 @@ pub(crate) fn give_back(made: &mut Receipt, session: u64, admission: u64, held: 
     free_rate(made, session, admission, held.rate);
 }
 
-// All that stands under these admissions.
+// All that these admissions hold.
 fn give_back_all(made: &mut Receipt, session: u64, admissions: &Admissions)
     requires { length made.old + length (flat_map (giving_back session) (entries admissions.now)) ≤ 64 }
     ensures { made.new ≡ made.old ++ flat_map (giving_back session) (entries admissions.now) }
@@ -76,11 +77,11 @@ fn reset(made: &mut Receipt, session: u64, phase: Phase)
     ensures { made.new ≡ made.old ++ resetting session phase }
 {
     if !is_opening(&phase) {
-        made.push(Record::Move {
+        made.push(Record::Move(Transition {
             session,
-            old: phase,
-            new: Phase::Ready { at: 0, sent: 0 },
-        });
+            from: phase,
+            to: Phase::Ready { at: 0, sent: 0 },
+        }));
     }
 }
 
@@ -89,29 +90,28 @@ pub(crate) fn unbind(made: &mut Receipt, session: u64, binding: Option<Startup>)
     ensures { made.new ≡ made.old ++ unbinding session (as_binding binding) }
 {
     if let Some(Startup { conn, number }) = binding {
-        made.push(Record::Unbind {
+        made.push(Record::Unbind(Binding {
             session,
             conn,
             number,
-        });
+        }));
     }
 }
 
 // The end of the session.
-pub(crate) fn ending(view: &SessionView) -> Receipt
-    requires { length (ending view.now.0 view.now.1) ≤ 64 }
-    ensures { result ≡ ending view.now.0 view.now.1 }
+pub(crate) fn end(made: &mut Receipt, view: &SessionView)
+    requires empty { made.old ≡ [] }
+    requires short { length (ending view.now.0 view.now.1) ≤ 64 }
+    ensures { made.new ≡ ending view.now.0 view.now.1 }
 {
     let session = view.session();
-    let mut made = Receipt::new();
-    reset(&mut made, session, view.phase());
-    give_back_all(&mut made, session, view.admissions());
-    unbind(&mut made, session, view.binding());
-    made.push(Record::Close {
+    reset(made, session, view.phase());
+    give_back_all(made, session, view.admissions());
+    unbind(made, session, view.binding());
+    made.push(Record::Close(Life {
         session,
-        id: view.id(),
+        id: Id::new(view.id()),
         conn: view.conn(),
         expires: view.expires(),
-    });
-    made
+    }));
 }

@@ -1,18 +1,18 @@
-//! The lines of the sessions of a book. Each function appends; after a refusal a part may stand at the end.
+//! The lines of the sessions of a book. Each function appends; after a refusal a part may be at the end.
+
 ghost use Rattle.std.specs.Prelude.{◌≡◌, ℕ, ◌≤◌, ◌<◌, ◌^◌, ◌++◌, length, take, None, IfOk, OnOk, OnErr, nat_le};
 ghost use Rattle.std.specs.List.{flat_map};
 ghost use Rattle.std.specs.FinMap.{get, entries};
 ghost use Rattle.rtsp_record.specs.Sums.{amount, of_admission, of_session};
 ghost use Rattle.rtsp_record.specs.JournalWriting.{Appends};
-ghost use Rattle.rtsp_book.specs.Lookups.{as_binding};
-ghost use Rattle.rtsp_book.specs.Sessions.{first_with};
+ghost use Rattle.rtsp_sessions.specs.Lookups.{as_binding};
+ghost use Rattle.rtsp_sessions.specs.Searches.{first_with};
 ghost use Rattle.rtsp_undo.specs.Pools.{pairs};
 ghost use Rattle.rtsp_undo.specs.BookText.{admission_text, binding_lines, session_line, session_text};
 
 use crate::text::lines::write_admission;
 use rtsp_book::{Admissions, BookRep, SessionView, Startup};
-use rtsp_record::fields::{Field, write_line};
-use rtsp_record::{Admission, Thing};
+use rtsp_record::{Admission, Binding, Field, Id, Record, Thing, write_line, write_record};
 use std::alloc::AllocError;
 
 fn write_admissions(
@@ -36,15 +36,14 @@ fn write_binding(
     ensures { Appends result out.old.items out.new.items (binding_lines session (as_binding binding)) }
 {
     match binding {
-        Some(startup) => write_line(
-            out,
-            &[
-                Field::Word(b"bind"),
-                Field::Number(session),
-                Field::Number(startup.conn),
-                Field::Number(u64::from(startup.number)),
-            ],
-        ),
+        Some(Startup { conn, number }) => {
+            let binding = Binding {
+                session,
+                conn,
+                number,
+            };
+            write_record(out, &Record::Bind(binding))
+        }
         None => Ok(()),
     }
 }
@@ -57,7 +56,7 @@ fn write_own(out: &mut Vec<u8>, view: &SessionView) -> Result<(), AllocError>
         &[
             Field::Word(b"session"),
             Field::Number(view.session()),
-            Field::Id(view.id()),
+            Field::Id(Id::new(view.id())),
             Field::Number(view.conn()),
             Field::Number(view.expires()),
             Field::Phase(view.phase()),

@@ -1,7 +1,6 @@
 use Rattle.std.proofs.Common.{[], ◌∷◌, ◌++◌, sym, ◌∙◌, ap, take, length, arith, length-append, append-nil}
 use Rattle.std.specs.List.{cons_option}
-use Rattle.rtsp_record.specs.declared.changes.Record.TheVariants.{Open}
-use Rattle.rtsp_book.specs.Receipts.{freed_pairs}
+use Rattle.rtsp_book.specs.Receipts.{freed_pair, freed_pairs}
 use Rattle.rtsp_book.proofs.Freed.{freed_next, no_value}
 use Rattle.rtsp_book.proofs.receipts.freed_in.Goals as goal
 use Rattle.rtsp_book.proofs.receipts.freed_in.Goals.{in-Some, in_default}
@@ -9,7 +8,7 @@ use Rattle.rtsp_book.proofs.receipts.freed_in.Goals.{in-Some, in_default}
 pub loop-change-preserved : goal.loop-change-preserved
 loop-change-preserved c =
     let i = c.loop-change.change-index in
-    let next = freed_next c.args.changes.now i (Open 0 0 0 0) c.freed_pair.result c.loop-change-test.true c.freed_pair.ensures in
+    let next = freed_next c.args.changes.now i c.change-item.result c.freed_pair.result c.loop-change-test.true (c.freed_pair.ensures ∙ ap freed_pair c.change-item.is) in
     let before = freed_pairs (take i c.args.changes.now) in
     elim c.match-freed_pair.branch [
       | in-Some w ↦

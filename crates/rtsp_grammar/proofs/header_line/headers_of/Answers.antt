@@ -1,18 +1,31 @@
-use Rattle.std.proofs.Common.{◌∙◌, ap, ◌≡◌, List, ℕ, subst, Ok, inr, sym}
+use Rattle.std.proofs.Common.{List, ℕ, inr, sym, ap, ◌∙◌, arith, Ok}
+use Rattle.std.proofs.lemmas.Bool.{eqb-true}
 use Rattle.std.proofs.lemmas.Result.{err_from_is_err_and}
-use Rattle.rtsp_grammar.specs.Reading.{header_of, headers_of}
-use Rattle.rtsp_grammar.proofs.HeaderLemmas.{step_on, step_ends, step_done}
+use Rattle.rtsp_grammar.proofs.FoldLemmas.{too_many}
+use Rattle.rtsp_grammar.proofs.HeaderLemmas.{nothing_folded, reading_starts, reading_goes_on, reading_breaks, reading_ends, starts_in_fold}
+use Rattle.rtsp_grammar.proofs.ItemLemmas.{not_empty}
 use Rattle.rtsp_grammar.proofs.header_line.headers_of.Goals as goal
 
-pub loop-line-preserved : goal.loop-line-preserved
-loop-line-preserved c = step_on c.args.lines.now c.loop-line.line-index c.line-item.result c.loop-line.draft.headers c.push.new.self.headers _ (headers_of c.args.lines.now) c.loop-line-test.true
-    (subst (λ (l : List ℕ). header_of l ≡ Ok (record { name = c.in_ok-header.header.name.now; value = c.in_ok-header.header.value.now })) (c.as_bytes.ensures ∙ c.line-item.is) c.in_ok-header.ensures.ok) c.in_ok-push.ensures.ok.0 c.loop-line.invariant
+pub returns-then-begins_blank : goal.returns-then-begins_blank
+returns-then-begins_blank c = λ ls a counted. inr (starts_in_fold c.args.lines.now ls a (sym c.begins_blank.ensures ∙ c.if-begins_blank.true))
 
-pub returns-in_err-header : goal.returns-in_err-header
-returns-in_err-header c =
-    let p = err_from_is_err_and c.from_residual.result c.from_residual.ensures.1 in
-    rw (p.1, p.2) (inr (step_ends c.args.lines.now c.loop-line.line-index c.line-item.result c.loop-line.draft.headers c.in_err-header.field-0.0 (headers_of c.args.lines.now) c.loop-line-test.true
-    (ap header_of (sym (c.as_bytes.ensures ∙ c.line-item.is)) ∙ c.in_err-header.ensures.err) c.loop-line.invariant))
+pub returns-then-count-gt-HEADER_LIMIT : goal.returns-then-count-gt-HEADER_LIMIT
+returns-then-count-gt-HEADER_LIMIT c = λ ls a counted. inr (too_many ls (nothing_folded c.args.lines.now ls a (sym c.begins_blank.ensures ∙ c.if-begins_blank.false)) (omega (arith, counted)))
+
+pub headers-init : goal.headers-init
+headers-init c = λ ls a. reading_starts c.args.lines.now ls c.in_ok-headers.headers.headers a (sym c.begins_blank.ensures ∙ c.if-begins_blank.false) c.in_ok-headers.ensures.0
+
+pub returns-in_err-left : goal.returns-in_err-left
+returns-in_err-left c = λ ls a counted.
+    let p = err_from_is_err_and c.from_residual-in_err-left.result c.from_residual-in_err-left.ensures.1 in
+    let plain = nothing_folded c.args.lines.now ls a (sym c.begins_blank.ensures ∙ c.if-begins_blank.false) in
+    rw (p.1, p.2) (reading_breaks ls c.headers.headers.headers c.next_header.new.headers.headers c.headers.left.now c.in_err-left.field-0.0 (c.headers.invariant ls a) (not_empty c.headers.left.now (sym c.headers-test.true ∙ c.is_empty.ensures)) c.in_err-left.ensures.reads plain (omega (arith, counted)))
+
+pub headers-preserved : goal.headers-preserved
+headers-preserved c = λ ls a.
+    reading_goes_on ls c.headers.headers.headers c.next_header.new.headers.headers c.headers.left.now c.in_ok-left.left (c.headers.invariant ls a) (not_empty c.headers.left.now (sym c.headers-test.true ∙ c.is_empty.ensures)) c.in_ok-left.ensures.reads
 
 pub returns : goal.returns
-returns c = step_done c.args.lines.now c.loop-line.line-index c.loop-line.draft.headers (headers_of c.args.lines.now) c.loop-line-test.false c.loop-line.invariant ∙ ap Ok (sym c.into_headers.ensures)
+returns c = λ ls a counted.
+    let plain = nothing_folded c.args.lines.now ls a (sym c.begins_blank.ensures ∙ c.if-begins_blank.false) in
+    reading_ends ls c.headers.headers.headers c.headers.left.now (c.headers.invariant ls a) (eqb-true _ 0 (sym c.is_empty.ensures ∙ c.headers-test.false)) plain (omega (arith, counted)) ∙ ap Ok (sym c.into_headers.ensures)

@@ -1,7 +1,10 @@
-use Rattle.std.proofs.Common.{◌≡◌, drop}
-use Rattle.rtsp_grammar.specs.Reading.{headers_of}
-use Rattle.rtsp_grammar.proofs.HeaderLemmas.{with_front}
+use Rattle.std.proofs.Common.{◌≡◌, List, ℕ, length}
+use Rattle.rtsp_grammar.specs.Lines.{AreLines}
+use Rattle.rtsp_grammar.proofs.HeaderLemmas.{IsReading}
 use Rattle.rtsp_grammar.proofs.header_line.headers_of.Given as goal
 
-abbrev pub invariant-loop-line : goal.invariant-loop-line
-invariant-loop-line l = with_front l.draft.headers (headers_of (drop l.line-index l.lines)) ≡ headers_of l.lines
+abbrev pub invariant-headers : goal.invariant-headers
+invariant-headers l = (lines : List (List ℕ)) → AreLines l.lines lines → IsReading lines l.headers.headers l.left
+
+abbrev pub decreases-headers : goal.decreases-headers
+decreases-headers l = length l.left

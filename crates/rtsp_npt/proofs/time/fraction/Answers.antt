@@ -12,4 +12,4 @@ small n k le lt =
     subst (λ (m : ℕ). n * 10 ^ (9 - k) < m) e h
 
 pub returns-clause-small : goal.returns-clause-small
-returns-clause-small c = rw c.pow.ensures (small c.in_ok-digits.digits (length c.args.text.now) c.if-text-gt9.false c.in_ok-digits.ensures.small)
+returns-clause-small c = rw c.pow.ensures (small c.in_ok-digits.digits (length c.args.text.now) c.if-text-gt-FRACTION_DIGITS.false c.in_ok-digits.ensures.small)

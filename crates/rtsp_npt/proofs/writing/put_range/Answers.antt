@@ -1,6 +1,6 @@
 use Rattle.std.specs.Prelude.{codes}
 use Rattle.rtsp_npt.specs.Printed.{time_text}
-use Rattle.rtsp_npt.proofs.PrintLemmas.{appends_four}
+use Rattle.rtsp_text.proofs.AppendLemmas.{appends_four}
 use Rattle.rtsp_npt.proofs.writing.put_range.Goals as goal
 
 pub returns-clause-text : goal.returns-clause-text

@@ -1,6 +1,6 @@
 use Rattle.std.proofs.Common.{◌≡◌, ◌++◌, take}
 use Rattle.std.specs.List.{flat_map}
-use Rattle.rtsp_transport.specs.Split.{texts}
+use Rattle.rtsp_text.specs.Slices.{texts}
 use Rattle.rtsp_state.specs.Values.{behind_comma}
 use Rattle.rtsp_state.proofs.values.put_joined.Given as goal
 

@@ -1,5 +1,5 @@
 use Rattle.std.proofs.Common.{◌≡◌, take}
-use Rattle.rtsp_transport.specs.Split.{texts}
+use Rattle.rtsp_text.specs.Slices.{texts}
 use Rattle.rtsp_state.specs.Values.{unknown_tags}
 use Rattle.rtsp_state.proofs.values.unknown_tags.Given as goal
 

@@ -1,6 +1,6 @@
 use Rattle.std.proofs.Common.{◌≡◌, take}
 use Rattle.rtsp_grammar.specs.Header.{values_of}
-use Rattle.rtsp_transport.specs.Split.{texts}
+use Rattle.rtsp_text.specs.Slices.{texts}
 use Rattle.rtsp_state.proofs.values.values_of.Given as goal
 
 abbrev pub invariant-loop-index : goal.invariant-loop-index

@@ -1,7 +1,7 @@
 use Rattle.std.specs.Global.{Vec}
 use Rattle.std.proofs.Common.{arith, false, ℕ, List, Bor, get_or, ap, ◌∙◌, refl}
 use Rattle.std.specs.Prelude.{not}
-use Rattle.rtsp_transport.specs.Split.{texts}
+use Rattle.rtsp_text.specs.Slices.{texts}
 use Rattle.rtsp_transport.proofs.SplitLemmas.{onto_nothing, on_quote, on_plain, on_separator, at_end, texts_push, kept, cleared, not_eqb, separates, in_quotes, no_separator}
 use Rattle.rtsp_transport.proofs.split.split.Goals as goal
 use Rattle.rtsp_transport.proofs.split.split.Goals.{then-b-eq-QUOTE, else-b-eq-QUOTE+then-b-separator+then-not-inside+in_ok-push, else-b-eq-QUOTE+else-b-separator, else-b-separator-via-then-b-separator+else-not-inside, else-b-separator-via-else-b-separator}

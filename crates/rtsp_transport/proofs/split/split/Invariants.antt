@@ -1,5 +1,5 @@
 use Rattle.std.proofs.Common.{◌≤◌}
-use Rattle.rtsp_transport.specs.Split.{texts}
+use Rattle.rtsp_text.specs.Slices.{texts}
 use Rattle.rtsp_transport.proofs.SplitLemmas.{Splits}
 use Rattle.rtsp_transport.proofs.split.split.Given as goal
 

@@ -1,5 +1,5 @@
 use Rattle.rtsp_transport.specs.Tags.{tag_of}
-use Rattle.rtsp_transport.proofs.EachLemmas.{ReadsOn}
+use Rattle.rtsp_text.proofs.EachLemmas.{ReadsOn}
 use Rattle.rtsp_transport.proofs.tags.tags_in.Given as goal
 
 abbrev pub invariant-loop-part : goal.invariant-loop-part

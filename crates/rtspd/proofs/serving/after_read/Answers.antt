@@ -9,4 +9,4 @@ returns-in-WriteFault-clause-ends g c = stopped_writing g.A.Answerer.answers g.A
 pub returns-in-Err-clause-ends : goal.returns-in-Err-clause-ends
 returns-in-Err-clause-ends g c =
     stopped_mute g.A.Answerer.answers g.A.Answerer.gives_up _ c.in-Fault.fault _ _ _ _ (g.W.ByteOut.contents c.answer_items-at.new.writer) _ _ _ c.as_slice.ensures.value c.in-Fault.is c.answer_items-at.ensures.stop
-    (subst (WritesPart (g.W.ByteOut.contents c.answer_items-at.new.writer) (g.W.ByteOut.contents c.write.new.self)) c.complaint.ensures c.in-Err.ensures.part)
+    (subst (WritesPart (g.W.ByteOut.contents c.answer_items-at.new.writer) (g.W.ByteOut.contents c.write.new.self)) c.fault_response.ensures c.in-Err.ensures.part)

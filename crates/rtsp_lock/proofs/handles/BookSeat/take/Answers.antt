@@ -1,7 +1,6 @@
 use Rattle.std.proofs.Common.{◌∙◌, sym, ap, ◌∷◌, List, ℕ, Option, Some}
 use Rattle.atomic_table.specs.Table.{rest}
-use Rattle.rtsp_book.specs.Kept.{History}
-use Rattle.rtsp_lock.specs.Rule.{history}
+use Rattle.rtsp_book.specs.Kept.{History, history}
 use Rattle.rtsp_lock.proofs.handles.BookSeat.take.Goals as goal
 
 pub slot_out-kept-requires-clause-out : goal.slot_out-kept-requires-clause-out

@@ -1,0 +1,250 @@
+-- The numbers under which a seat holds and adds.
+use Rattle.std.proofs.Common.{◌≡◌, ◌≢◌, ◌==◌, ℕ, zero, suc, true, false, cond, List, [], ◌∷◌, ◌++◌, refl, sym, ◌∙◌, ap, subst, arith, inl, inr, Result, Ok, Err}
+use Rattle.std.specs.Prelude.{Option, Some, None, nat_lt}
+use Rattle.std.proofs.lemmas.Bool.{cases_eq}
+use Rattle.std.proofs.lemmas.Bool.Decides.{nat_tests}
+use Rattle.std.proofs.lemmas.List.Elements.{filter-append}
+use Rattle.std.specs.FinMap.{get, entries}
+use Rattle.rtsp_record.specs.declared.holdings.Admission.{Admission}
+use Rattle.rtsp_record.specs.declared.holdings.Thing.{Thing}
+use Rattle.rtsp_record.specs.declared.holdings.Thing.TheVariants.{Pair, Chan, Rate}
+use Rattle.rtsp_record.specs.declared.holdings.Whole.{Whole}
+use Rattle.rtsp_record.specs.declared.phases.Phase.{Phase}
+use Rattle.rtsp_record.specs.declared.phases.Phase.TheVariants.{Ready, Playing, Ended}
+use Rattle.rtsp_record.specs.declared.streams.Stream.{Stream}
+use Rattle.rtsp_record.specs.declared.changes.Entry.{Entry}
+use Rattle.rtsp_record.specs.declared.changes.Record.{Record}
+use Rattle.rtsp_record.specs.declared.changes.Record.TheVariants as change
+use Rattle.rtsp_record.specs.Books.{Session, Book, book_of}
+use Rattle.rtsp_record.specs.Moments.{point, sent_with_due}
+use Rattle.rtsp_record.specs.Records.{holds, adds, moves, touches}
+use Rattle.rtsp_book.specs.declared.asks.Ask.{Ask}
+use Rattle.rtsp_book.specs.declared.asks.Opening.{Opening}
+use Rattle.rtsp_book.specs.declared.asks.Wanted.{Wanted}
+use Rattle.rtsp_book.specs.declared.asks.Wanted.TheVariants as wanted
+use Rattle.rtsp_book.specs.declared.refusals.Refusal.{Refusal}
+use Rattle.rtsp_sessions.specs.declared.startups.Startup.{Startup}
+use Rattle.rtsp_book.specs.declared.steps.Step.{Step}
+use Rattle.rtsp_book.specs.declared.steps.Step.TheVariants.{Open, HoldRate, HoldPair, HoldChan, Return, Commit, Unwind, Play, Pause, Finish, Touch, DropTrack, End, Expire, Hangup}
+use Rattle.rtsp_book.specs.Kept.{entries_by}
+use Rattle.rtsp_record.specs.Choices.{least_pair, chosen_chan}
+use Rattle.rtsp_sessions.specs.Searches.{first_with}
+use Rattle.rtsp_book.specs.Sessions.{is_ready}
+use Rattle.rtsp_sessions.specs.Searches.{is_of_track}
+use Rattle.rtsp_book.specs.Made.{hold_chosen, as_pair, as_chan, adding, binding_to, committing, playing, pausing, finishing, touching, of_living, made}
+use Rattle.rtsp_book.specs.Returns.{dropping, freeing, freeing_rate}
+use Rattle.rtsp_record.proofs.Trims.{AllFine}
+use Rattle.rtsp_book.proofs.Runs.{Giving, fine-append}
+use Rattle.rtsp_book.proofs.Ending.{giving_dropping, giving_freeing, giving_freeing_rate}
+use Rattle.rtsp_book.proofs.Giving.{made_gives}
+use Rattle.rtsp_lock.specs.declared.view.View.{View}
+use Rattle.rtsp_book.specs.Answers.{written}
+use Rattle.rtsp_lock.specs.Entries.{Has}
+use Rattle.rtsp_lock.specs.Calls.{Acted}
+use Rattle.rtsp_lock.proofs.Entries.{has_none}
+use Rattle.rtsp_admit.specs.declared.failure.Failure.{Failure}
+use Rattle.rtsp_admit.specs.declared.failure.Failure.TheVariants as failure
+use Rattle.rtsp_admit.specs.declared.failure.NoAddress.{NoAddress}
+use Rattle.rtsp_admit.specs.Binder.{Calls}
+use Rattle.rtsp_admit.specs.Steps.{chain_left, open_step, rate_step, pair_step, chan_step, return_step, commit_step}
+use Rattle.rtsp_admit.specs.Runs.{State, with_view, Opened, NotOpened, Held, Rated, PairReturned, PairRefused, Tried, Addressed, NotAddressed, Fails}
+use Rattle.rtsp_admit.specs.Refused.{is_use_of, uses}
+use Rattle.rtsp_admit.specs.Numbers.{UsesDrawn, admission_of, ActsUseDrawn, DrawsGiveUnused, AdmissionsKeepDrawn}
+use Rattle.rtsp_admit.proofs.Going.{made_is}
+
+-- no Hold or Add under this number
+abbrev pub Quiet : ℕ → List Record → Type 0
+Quiet n rs = AllFine (λ r. is_use_of n r ≡ false) rs
+
+quiet_giving : (n s : ℕ) (rs : List Record) → AllFine (Giving s) rs → Quiet n rs
+quiet_giving n s [] g = tt
+quiet_giving n s (r ∷ rs) g = (one r g.0, quiet_giving n s rs g.1)
+  where
+    one : (r : Record) → Giving s r → is_use_of n r ≡ false
+    one (change.Hold k) h = absurd h
+    one (change.Add d) h = absurd h
+    one r h = refl
+
+other : (a n : ℕ) → n ≢ a → (a == n) ≡ false
+other a n apart = elim (a == n) as (λ t. (a == n) ≡ t → t ≡ false) [ true ↦ λ on. absurd (apart (sym (is_same a n on))) | false ↦ λ _. refl ] refl
+  where
+    is_same : (a n : ℕ) → (a == n) ≡ true → a ≡ n
+    is_same a n h = grind (arith, nat_tests)
+
+quiet_pair : (n s a : ℕ) (o : Option ℕ) → n ≢ a → Quiet n (hold_chosen s a (as_pair o))
+quiet_pair n s a None apart = tt
+quiet_pair n s a (Some p) apart = (other a n apart, tt)
+
+quiet_chan : (n s a c : ℕ) (o : Option ℕ) → n ≢ a → Quiet n (hold_chosen s a (as_chan c o))
+quiet_chan n s a c None apart = tt
+quiet_chan n s a c (Some k) apart = (other a n apart, tt)
+
+quiet_binding : (n s : ℕ) (o : Option Startup) → Quiet n (binding_to s o)
+quiet_binding n s None = tt
+quiet_binding n s (Some u) = (refl, tt)
+
+quiet_adding : (n s a : ℕ) (v : Stream) (o : Option (ℕ × Admission)) → n ≢ a → Quiet n (adding s a v o)
+quiet_adding n s a v None apart = (other a n apart, tt)
+quiet_adding n s a v (Some e) apart =
+    fine-append (λ r. is_use_of n r ≡ false) (dropping s e.0 e.1.stream) (adds s a v ∷ (freeing s e.0 e.1.address ++ freeing_rate s e.0 e.1.rate)) (quiet_giving n s (dropping s e.0 e.1.stream) (giving_dropping s e.0 e.1.stream)) (
+      other a n apart,
+      fine-append (λ r. is_use_of n r ≡ false) (freeing s e.0 e.1.address) (freeing_rate s e.0 e.1.rate) (quiet_giving n s (freeing s e.0 e.1.address) (giving_freeing s e.0 e.1.address)) (quiet_giving n s (freeing_rate s e.0 e.1.rate) (giving_freeing_rate s e.0 e.1.rate)),
+    )
+
+quiet_living : (n : ℕ) (o : Option Session) (g : Session → List Record) → ((f : Session) → Quiet n (g f)) → Quiet n (of_living o g)
+quiet_living n None g h = tt
+quiet_living n (Some f) g h = h f
+
+quiet_pausing : (n s unit_ms now : ℕ) (p : Phase) → Quiet n (pausing s unit_ms now p)
+quiet_pausing n s unit_ms now p =
+    elim (is_ready p) as (λ t. Quiet n (cond t [] (moves s p (Ready (point p unit_ms now) (sent_with_due p unit_ms now)) ∷ []))) [ true ↦ tt | false ↦ (refl, tt) ]
+
+quiet_finishing : (n s unit_ms now : ℕ) (p : Phase) → Quiet n (finishing s unit_ms now p)
+quiet_finishing n s unit_ms now (Ready at sent) = tt
+quiet_finishing n s unit_ms now (Playing since from stop sent) = (refl, tt)
+quiet_finishing n s unit_ms now (Ended at sent) = tt
+
+quiet_touching : (n s expires until : ℕ) → Quiet n (touching s expires until)
+quiet_touching n s expires until = elim (nat_lt expires until) as (λ t. Quiet n (cond t (touches s expires until ∷ []) [])) [ true ↦ (refl, tt) | false ↦ tt ]
+
+-- a step takes under the admission that it names alone
+quiet_made : (n : ℕ) (w : Whole) (b : Book) (step : Step) → ((a : ℕ) → admission_of step ≡ Some a → n ≢ a) → Quiet n (made w b step)
+quiet_made n w b (Open l) apart = (refl, tt)
+quiet_made n w b (HoldRate s a bits) apart = (other a n (apart a refl), tt)
+quiet_made n w b (HoldPair s a from) apart = quiet_pair n s a (least_pair w b from) (apart a refl)
+quiet_made n w b (HoldChan h) apart = quiet_chan n h.session h.admission h.conn (chosen_chan b h.conn h.wish) (apart h.admission refl)
+quiet_made n w b (Return s a x) apart = (refl, tt)
+quiet_made n w b (Commit c) apart =
+    quiet_living n (get b c.session) (committing c) (λ f.
+    let old = first_with (is_of_track c.stream.track) (entries f.admissions) in
+    fine-append (λ r. is_use_of n r ≡ false) (adding c.session c.admission c.stream old) (binding_to c.session c.startup) (quiet_adding n c.session c.admission c.stream old (apart c.admission refl)) (quiet_binding n c.session c.startup))
+quiet_made n w b (Play d) apart = quiet_living n (get b d.session) (λ f. playing d f.phase) (λ f. (refl, tt))
+quiet_made n w b (Pause s unit_ms now) apart = quiet_living n (get b s) (λ f. pausing s unit_ms now f.phase) (λ f. quiet_pausing n s unit_ms now f.phase)
+quiet_made n w b (Finish s unit_ms now) apart = quiet_living n (get b s) (λ f. finishing s unit_ms now f.phase) (λ f. quiet_finishing n s unit_ms now f.phase)
+quiet_made n w b (Touch s until) apart = quiet_living n (get b s) (λ f. touching s f.expires until) (λ f. quiet_touching n s f.expires until)
+quiet_made n w b (Unwind ch) apart = let g = made_gives w b (Unwind ch) refl in quiet_giving n g.0 (made w b (Unwind ch)) g.1
+quiet_made n w b (DropTrack s t) apart = let g = made_gives w b (DropTrack s t) refl in quiet_giving n g.0 (made w b (DropTrack s t)) g.1
+quiet_made n w b (End s) apart = let g = made_gives w b (End s) refl in quiet_giving n g.0 (made w b (End s)) g.1
+quiet_made n w b (Expire now) apart = let g = made_gives w b (Expire now) refl in quiet_giving n g.0 (made w b (Expire now)) g.1
+quiet_made n w b (Hangup c) apart = let g = made_gives w b (Hangup c) refl in quiet_giving n g.0 (made w b (Hangup c)) g.1
+
+quiet_entries : (n by : ℕ) (rs : List Record) → Quiet n rs → uses n (entries_by by rs) ≡ []
+quiet_entries n by [] q = refl
+quiet_entries n by (r ∷ rs) q =
+    let e : Entry = record { actor = by; change = r } in
+    ap (λ v. cond v (e ∷ uses n (entries_by by rs)) (uses n (entries_by by rs))) q.0 ∙ quiet_entries n by rs q.1
+
+quiet_answer : (n : ℕ) (v u : View) (step : Step) (answer : Result (List Record) Refusal) → ((a : ℕ) → admission_of step ≡ Some a → n ≢ a) → Acted v u step answer → uses n (entries_by v.actor (written answer)) ≡ []
+quiet_answer n v u step (Err r) apart acted = refl
+quiet_answer n v u step (Ok rs) apart acted =
+    subst (λ rs. uses n (entries_by v.actor rs) ≡ []) (made_is v u step rs acted) (quiet_entries n v.actor (made v.whole (book_of acted.journal) step) (quiet_made n v.whole (book_of acted.journal) step apart))
+
+none_some : {X : Type 0} (x : X) → ◌≡◌ {A = Option X} None (Some x) → ⊥
+none_some x e = cc
+
+same_some : (x y : ℕ) → ◌≡◌ {A = Option ℕ} (Some x) (Some y) → x ≡ y
+same_some x y e = cc
+
+pub acts_use_drawn : ActsUseDrawn
+acts_use_drawn v u step answer own names acted =
+    let e = entries_by v.actor (written answer) in
+    let old : (n : ℕ) → ((a : ℕ) → admission_of step ≡ Some a → n ≢ a) → uses n u.mine ≢ [] → Has u.drawn n =
+    λ n apart some.
+    subst (λ d. Has d n) (sym acted.drawn) (own n (λ none. some (ap (uses n) acted.mine ∙ filter-append (λ (e : Entry). is_use_of n e.change) v.mine e ∙ ap (λ l. l ++ uses n e) none ∙ quiet_answer n v u step answer apart acted))) in
+    elim (admission_of step) as (λ o. admission_of step ≡ o → UsesDrawn u) [
+      | None ↦ λ is n some. old n (λ a there. absurd (none_some a (sym is ∙ there))) some
+      | Some x ↦ λ is n some. elim (cases_eq n x) [
+        | inl same ↦ subst (λ k. Has u.drawn k) (sym same) (subst (λ d. Has d x) (sym acted.drawn) (names x is))
+        | inr apart ↦ old n (λ a there same. apart (same ∙ same_some a x (sym there ∙ is))) some
+      ]
+    ] refl
+
+has_before : (xs ys : List ℕ) (x : ℕ) → Has xs x → Has (xs ++ ys) x
+has_before [] ys x h = absurd (has_none x h)
+has_before (z ∷ zs) ys x (zero, e) = (zero, e)
+has_before (z ∷ zs) ys x (suc k, e) = let more = has_before zs ys x (k, e) in (suc more.0, more.1)
+
+has_last : (xs : List ℕ) (x : ℕ) → Has (xs ++ x ∷ []) x
+has_last [] x = (zero, refl)
+has_last (z ∷ zs) x = let more = has_last zs x in (suc more.0, more.1)
+
+pub not_some : {X : Type 0} (l : List X) → (l ≢ [] → ⊥) → l ≡ []
+not_some [] none = refl
+not_some (x ∷ l) none = absurd (none (λ e. absurd cc))
+
+pub draws_give_unused : DrawsGiveUnused
+draws_give_unused v u n own looked drew = (
+  λ k some. subst (λ d. Has d k) (sym drew.drawn) (has_before v.drawn (n ∷ []) k (own k (λ none. some (ap (uses k) looked.mine ∙ none)))),
+  record {
+    drawn = subst (λ d. Has d n) (sym drew.drawn) (has_last v.drawn n);
+    unused = ap (uses n) looked.mine ∙ not_some (uses n v.mine) (λ some. drew.fresh (own n some));
+  },
+)
+
+module _ (ask : Ask) where
+  -- a seat that has drawn the number of the admission too
+  abbrev Owns : View → Type 0
+  Owns v = UsesDrawn v × Has v.drawn ask.admission
+
+  owns : (v u : View) (step : Step) (answer : Result (List Record) Refusal) → ((x : ℕ) → admission_of step ≡ Some x → x ≡ ask.admission) → Acted v u step answer → Owns v → Owns u
+  owns v u step answer of acted own =
+      (acts_use_drawn v u step answer own.0 (λ x is. subst (Has v.drawn) (sym (of x is)) own.1) acted, subst (λ d. Has d ask.admission) (sym acted.drawn) own.1)
+
+  owns_own : (v u : View) (step : Step) (answer : Result (List Record) Refusal) → admission_of step ≡ Some ask.admission → Acted v u step answer → Owns v → Owns u
+  owns_own v u step answer is acted own = owns v u step answer (λ x there. same_some x ask.admission (sym there ∙ is)) acted own
+
+  owns_none : (v u : View) (step : Step) (answer : Result (List Record) Refusal) → admission_of step ≡ None → Acted v u step answer → Owns v → Owns u
+  owns_none v u step answer is acted own = owns v u step answer (λ x there. absurd (none_some x (sym is ∙ there))) acted own
+
+  owns_held : (v u : View) (step : Step) (x : Thing) → admission_of step ≡ Some ask.admission → Held ask step x v u → Owns v → Owns u
+  owns_held v u step x is held own = owns_own v u step (Ok (holds ask.session ask.admission x ∷ [])) is held own
+
+  owns_opened : (o : Option Opening) (v u : View) → Opened ask o v u → Owns v → Owns u
+  owns_opened None v u h own = subst Owns (sym h) own
+  owns_opened (Some o) v u h own = owns_none v u (open_step ask o) (Ok h.0) refl h.1 own
+
+  owns_not_opened : (o : Option Opening) (refusal : Refusal) (v u : View) → NotOpened ask o refusal v u → Owns v → Owns u
+  owns_not_opened None refusal v u h own = absurd h
+  owns_not_opened (Some o) refusal v u h own = owns_none v u (open_step ask o) (Err refusal) refl h own
+
+  owns_rated : (v u : View) → Rated ask v u → Owns v → Owns u
+  owns_rated v u h own = owns_held h.opened u (rate_step ask) (Rate ask.rate) refl h.holds (owns_opened ask.opening v h.opened h.opens own)
+
+module _ {B : Type 0} (calls : Calls B) (ask : Ask) where
+  owns_returned : (from p : ℕ) (s t : State B) → PairReturned calls ask from p s t → Owns ask s.view → Owns ask t.view
+  owns_returned from p s t h own =
+      owns_none ask h.between t.view (return_step ask p) (Ok h.made) refl h.returned (owns_held ask s.view h.between (pair_step ask from) (Pair p) refl h.held own)
+
+  owns_tried : (before : List ℕ) (from : ℕ) (s t : State B) → Tried calls ask before from s t → Owns ask s.view → Owns ask t.view
+  owns_tried [] from s t h own = subst (λ (x : State B). Owns ask x.view) (sym h.1) own
+  owns_tried (p ∷ before) from s t h own = owns_returned h.start p h.between t h.returned (owns_tried before h.start s h.between h.before own)
+
+  owns_pair_refused : (from : ℕ) (refusal : Refusal) (unreturned : Option ℕ) (s t : State B) → PairRefused calls ask from refusal unreturned s t → Owns ask s.view → Owns ask t.view
+  owns_pair_refused from refusal None s t h own = owns_own ask s.view t.view (pair_step ask from) (Err refusal) refl h.0 own
+  owns_pair_refused from refusal (Some p) s t h own =
+      owns_none ask h.between t.view (return_step ask p) (Err refusal) refl h.refused (owns_held ask s.view h.between (pair_step ask from) (Pair p) refl h.held own)
+
+  owns_addressed : (want : Wanted) (x : Thing) (s t : State B) → Addressed calls ask want x s t → Owns ask s.view → Owns ask t.view
+  owns_addressed wanted.Pair (Pair p) s t h own =
+      owns_held ask h.between.view t.view (pair_step ask h.from) (Pair p) refl h.last.held (owns_tried h.tried h.from s h.between h.tries own)
+  owns_addressed wanted.Pair (Chan c k) s t h own = absurd h
+  owns_addressed wanted.Pair (Rate n) s t h own = absurd h
+  owns_addressed (wanted.Channels conn wish) x s t h own = owns_held ask s.view t.view (chan_step ask conn wish) x refl h.0 own
+
+  owns_not_addressed : (want : Wanted) (e : NoAddress) (s t : State B) → NotAddressed calls ask want e s t → Owns ask s.view → Owns ask t.view
+  owns_not_addressed wanted.Pair e s t h own = owns_pair_refused h.from e.refusal e.unreturned h.between t h.last (owns_tried h.tried h.from s h.between h.tries own)
+  owns_not_addressed (wanted.Channels conn wish) e s t h own = owns_own ask s.view t.view (chan_step ask conn wish) (Err e.refusal) refl h.refused own
+
+  owns_fails : (cause : Failure) (s t : State B) → Fails calls ask cause s t → Owns ask s.view → Owns ask t.view
+  owns_fails (failure.Open refusal) s t h own = owns_not_opened ask ask.opening refusal s.view t.view h.0 own
+  owns_fails (failure.Rate refusal) s t h own = owns_own ask h.opened t.view (rate_step ask) (Err refusal) refl h.refused (owns_opened ask ask.opening s.view h.opened h.opens own)
+  owns_fails (failure.Address e) s t h own = owns_not_addressed ask.wanted e (with_view h.rated s) t h.addresses (owns_rated ask s.view h.rated h.rates own)
+  owns_fails (failure.Commit refusal x) s t h own =
+      owns_own ask h.held t.view (commit_step ask) (Err refusal) refl h.refused (owns_addressed ask.wanted x (with_view h.rated s) (with_view h.held t) h.addresses (owns_rated ask s.view h.rated h.rates own))
+
+  pub admissions_keep_drawn : AdmissionsKeepDrawn calls ask
+  admissions_keep_drawn (Ok granted) s t run drawn own =
+      let h = run.0 in
+      (owns_own ask h.held.view t.view (commit_step ask) (Ok h.made) refl h.commits (owns_addressed ask.wanted granted.address (with_view h.rated s) h.held h.addresses (owns_rated ask s.view h.rated h.rates (own, drawn)))).0
+  admissions_keep_drawn (Err refusal) s t run drawn own =
+      (owns_none ask run.broken.view t.view (Unwind (chain_left ask run.cause)) run.answer refl run.unwinds (owns_fails run.cause s run.broken run.fails (own, drawn))).0

@@ -1,0 +1,10 @@
+pub mod Rows
+pub mod Going
+pub mod Choosing
+pub mod Breaking
+pub mod Unwinding
+pub mod Having
+pub mod Drawing
+pub mod Counting
+pub mod Sharing
+pub mod Freeing

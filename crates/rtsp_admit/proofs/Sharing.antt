@@ -1,0 +1,54 @@
+-- A number that a seat drew is used by no other seat that keeps to its own.
+use Rattle.std.proofs.Common.{◌≡◌, ◌==◌, ℕ, zero, suc, Bool, true, false, cond, List, [], ◌∷◌, ◌++◌, refl, sym, ◌∙◌, ap, subst, arith, inl, inr}
+use Rattle.std.specs.Prelude.{filter, Contains}
+use Rattle.std.proofs.lemmas.Bool.{cases_eq, eq-eqb}
+use Rattle.std.proofs.lemmas.List.Elements.{filter-append, Contains-append_left}
+use Rattle.rtsp_record.specs.declared.changes.Entry.{Entry}
+use Rattle.rtsp_record.specs.declared.holdings.Whole.{Whole}
+use Rattle.rtsp_lock.specs.declared.view.View.{View}
+use Rattle.rtsp_lock.specs.Entries.{OnlyOf, Has}
+use Rattle.rtsp_admit.specs.Refused.{is_use_of, uses}
+use Rattle.rtsp_admit.specs.Numbers.{DrawingSeat, DrawnUsedAlone}
+use Rattle.rtsp_admit.proofs.Drawing.{not_some}
+use Rattle.rtsp_admit.proofs.Unwinding.{filters}
+
+-- where the filter leaves nothing each element fails the test
+none_pass : {X : Type 0} (p : X → Bool) (l : List X) (x : X) → filter p l ≡ [] → Contains l x → p x ≡ false
+none_pass p [] x none h = let lt = h.1 in absurd (omega (arith, lt))
+none_pass {X} p (y ∷ l) x none h =
+    elim (p y) as (λ t. p y ≡ t → cond t (y ∷ filter p l) (filter p l) ≡ [] → p x ≡ false) [
+      | true ↦ λ _ e. absurd cc
+      | false ↦ λ off e. here off (λ more. none_pass p l x e more) h
+    ] refl none
+  where
+    here : p y ≡ false → (Contains l x → p x ≡ false) → Contains (y ∷ l) x → p x ≡ false
+    here off rest (zero, lt, at) = ap p (sym at) ∙ off
+    here off rest (suc k, lt, at) = rest (k, omega (arith, lt), at)
+
+only_of : (actor : ℕ) (l : List Entry) → ((e : Entry) → Contains l e → e.actor ≡ actor) → OnlyOf actor l
+only_of actor [] h = tt
+only_of actor (e ∷ l) h = (h e (0, omega arith, refl), only_of actor l (λ x is. let lt = is.1 in h x (suc is.0, omega (arith, lt), is.2)))
+
+on_off : (v : Bool) → v ≡ true → v ≡ false → ⊥
+on_off v on off = absurd (cc)
+
+-- another seat that keeps to its own numbers has no entry under one of this seat's
+no_other : (w : Whole) (u : View) (n : ℕ) (e : Entry) → Has u.drawn n → DrawingSeat w u e.actor → Contains (uses n u.seen) e → ⊥
+no_other w u n e drawn d is =
+    let x = d.view in
+    let two = d.seats in
+    let common = two.keeps.common in
+    let j = two.keeps.journal in
+    let own = common.fits two.first u two.at_first in
+    let other = common.fits two.second x two.at_second in
+    let apart = common.apart two.first two.second u x two.at_first two.at_second two.two in
+    let none : uses n x.mine ≡ [] = not_some (uses n x.mine) (λ some. apart.drawn n drawn (d.drawn n some)) in
+    let left : filter (λ (e : Entry). e.actor == x.actor) (uses n j) ≡ [] =
+    filters (λ (e : Entry). e.actor == x.actor) (λ (e : Entry). is_use_of n e.change) j ∙ ap (uses n) other.mine ∙ none in
+    let there : Contains (uses n (u.seen ++ own.later.0)) e =
+    subst (λ (l : List Entry). Contains l e) (sym (filter-append (λ (e : Entry). is_use_of n e.change) u.seen own.later.0)) (Contains-append_left (uses n u.seen) (uses n own.later.0) e is) in
+    on_off (e.actor == x.actor) (eq-eqb e.actor x.actor (sym d.actor)) (none_pass (λ (e : Entry). e.actor == x.actor) (uses n j) e left (subst (λ (l : List Entry). Contains (uses n l) e) own.later.1 there))
+
+pub drawn_used_alone : DrawnUsedAlone
+drawn_used_alone w u n drawn others =
+    only_of u.actor (uses n u.seen) (λ e is. elim (cases_eq e.actor u.actor) [ inl same ↦ same | inr apart ↦ absurd (no_other w u n e drawn (others e is apart) is) ])

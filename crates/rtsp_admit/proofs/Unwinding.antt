@@ -1,0 +1,292 @@
+-- What a refused admission leaves.
+use Rattle.std.proofs.Common.{◌≡◌, ◌≢◌, ◌⊎◌, ℕ, ◌≤◌, Bool, true, false, ◌&&◌, not, cond, List, [], ◌∷◌, ◌++◌, length, drop, refl, sym, ◌∙◌, ap, subst, arith, le_refl, append-nil, inl, inr, ⊎_elim, Result, Ok, Err, ◌==◌}
+use Rattle.std.specs.Prelude.{Option, Some, None, is_none, option_map, filter}
+use Rattle.std.proofs.lemmas.Bool.{cases_eq, eq-eqb}
+use Rattle.std.proofs.lemmas.List.Elements.{filter-append}
+use Rattle.std.proofs.Math.Seq.{drop-append_seam}
+use Rattle.std.specs.FinMap.{get}
+use Rattle.rtsp_record.specs.declared.holdings.Admission.{Admission}
+use Rattle.rtsp_record.specs.declared.holdings.Thing.{Thing}
+use Rattle.rtsp_record.specs.declared.holdings.Whole.{Whole}
+use Rattle.rtsp_record.specs.declared.changes.Entry.{Entry}
+use Rattle.rtsp_record.specs.declared.changes.Record.{Record}
+use Rattle.rtsp_record.specs.declared.changes.Record.TheVariants.{Open, Hold, Add}
+use Rattle.rtsp_record.specs.Records.{frees}
+use Rattle.rtsp_record.specs.Tables.{Table, set}
+use Rattle.rtsp_record.specs.Books.{Session, Book, bare, kept, under, book_of}
+use Rattle.rtsp_record.specs.Rules.{as_rate, is_held, IsLegal}
+use Rattle.rtsp_record.specs.Sums.{one_if}
+use Rattle.rtsp_record.specs.Journals.{thinned}
+use Rattle.rtsp_record.specs.Sound.{SoundRow}
+use Rattle.rtsp_book.specs.declared.asks.Ask.{Ask}
+use Rattle.rtsp_book.specs.declared.refusals.Refusal.{Refusal}
+use Rattle.rtsp_book.specs.declared.steps.Chain.{Chain}
+use Rattle.rtsp_book.specs.declared.steps.Step.TheVariants as step
+use Rattle.rtsp_book.specs.Kept.{entries_by}
+use Rattle.rtsp_book.specs.Sessions.{has_stream_under}
+use Rattle.rtsp_book.specs.Returns.{ending}
+use Rattle.rtsp_book.specs.Made.{taking_back, unwinding, of_living, made}
+use Rattle.rtsp_book.specs.Replies.{is_empty_chain, answered, no_refusal}
+use Rattle.rtsp_record.proofs.Tables.{same_table, set-same}
+use Rattle.rtsp_record.proofs.Sound.{sound_of}
+use Rattle.rtsp_record.proofs.Strands.{row_after}
+use Rattle.rtsp_record.proofs.Trims.{AllFine}
+use Rattle.rtsp_book.proofs.Keeping.{book-extended}
+use Rattle.rtsp_book.proofs.Runs.{Giving, all_lone, lone_row, fine-append}
+use Rattle.rtsp_book.proofs.Ending.{ending_own, giving_ending}
+use Rattle.rtsp_undo.proofs.Journals.{less_admission_law, less_gone_law}
+use Rattle.rtsp_lock.specs.declared.view.View.{View}
+use Rattle.rtsp_lock.specs.Calls.{Acted}
+use Rattle.rtsp_admit.specs.declared.failure.Failure.{Failure}
+use Rattle.rtsp_admit.specs.declared.failure.Failure.TheVariants as failure
+use Rattle.rtsp_admit.specs.Binder.{Calls}
+use Rattle.rtsp_admit.specs.Steps.{chain_left}
+use Rattle.rtsp_admit.specs.Runs.{State, Admits}
+use Rattle.rtsp_lock.specs.Entries.{OnlyOf, entries_of}
+use Rattle.rtsp_admit.specs.Refused.{is_use_of, uses, is_open_of, openings, added, NothingLeft, SessionGone, UsedAlone, RefusalsLeaveNothing}
+use Rattle.rtsp_admit.specs.Numbers.{RefusalsLeaveNothingUnused}
+use Rattle.rtsp_admit.proofs.Rows.{Upto, Within, Left, count, left_first, left_quiet, both_back, IsFirst, IsSecond}
+use Rattle.rtsp_admit.proofs.Going.{Goes, Even, opens, count_append, made_is, goes_acted, goes_then, between, found_left}
+use Rattle.rtsp_admit.proofs.Breaking.{Grows, grows_fails, keeps_fails, second_is}
+
+-- Records that give back are no Holds, Adds or Opens.
+
+giving_takes : (s a : ℕ) (r : Record) → Giving s r → is_use_of a r ≡ false
+giving_takes s a (Hold k) h = absurd h
+giving_takes s a (Add d) h = absurd h
+giving_takes s a r h = refl
+
+giving_opens : (s t : ℕ) (r : Record) → Giving s r → is_open_of t r ≡ false
+giving_opens s t (Open l) h = absurd h
+giving_opens s t r h = refl
+
+giving_count : (s a by : ℕ) (rs : List Record) → AllFine (Giving s) rs → count a (entries_by by rs) ≡ 0
+giving_count s a by [] g = refl
+giving_count s a by (r ∷ rs) g =
+    let e : Entry = record { actor = by; change = r } in
+    ap (λ v. length (cond v (e ∷ uses a (entries_by by rs)) (uses a (entries_by by rs)))) (giving_takes s a r g.0) ∙ giving_count s a by rs g.1
+
+giving_opened : (s t by : ℕ) (rs : List Record) → AllFine (Giving s) rs → opens t (entries_by by rs) ≡ 0
+giving_opened s t by [] g = refl
+giving_opened s t by (r ∷ rs) g =
+    let e : Entry = record { actor = by; change = r } in
+    ap (λ v. length (cond v (e ∷ openings t (entries_by by rs)) (openings t (entries_by by rs)))) (giving_opens s t r g.0) ∙ giving_opened s t by rs g.1
+
+taking_gives : (s a : ℕ) (f : Session) (o : Option Thing) → AllFine (Giving s) (taking_back s a f o)
+taking_gives s a f None = tt
+taking_gives s a f (Some x) =
+    elim (is_held f a x && not (has_stream_under f a)) as (λ t. AllFine (Giving s) (cond t (frees s a x ∷ []) [])) [ true ↦ (refl, tt) | false ↦ tt ]
+
+unwinding_gives : (ch : Chain) (o : Option Session) → AllFine (Giving ch.session) (of_living o (unwinding ch))
+unwinding_gives ch None = tt
+unwinding_gives ch (Some f) =
+    elim (ch.opened) as (λ t. AllFine (Giving ch.session) (cond t (ending ch.session f) (taking_back ch.session ch.admission f ch.second ++ taking_back ch.session ch.admission f ch.first))) [
+      | true ↦ giving_ending ch.session f
+      | false ↦ fine-append (Giving ch.session) (taking_back ch.session ch.admission f ch.second) (taking_back ch.session ch.admission f ch.first) (taking_gives ch.session ch.admission f ch.second) (taking_gives ch.session ch.admission f ch.first)
+    ]
+
+-- nothing under the admission, and no session where it was opened
+pub record Row (a : ℕ) (opened : Bool) (o : Option Session) : Type 0 where
+  pub nothing : Within a None None o
+  pub gone : opened ≡ true → o ≡ None
+
+unwound_row : (w : Whole) (ch : Chain) (o : Option Session) → SoundRow w o → IsFirst ch.first → IsSecond ch.second → Within ch.admission ch.first ch.second o → Row ch.admission ch.opened (row_after (of_living o (unwinding ch)) o)
+unwound_row w ch None ok first second h = record { nothing = tt; gone = λ _. refl }
+unwound_row w ch (Some f) ok first second h =
+    elim (ch.opened) as (λ t. Row ch.admission t (row_after (cond t (ending ch.session f) (taking_back ch.session ch.admission f ch.second ++ taking_back ch.session ch.admission f ch.first)) (Some f))) [
+      | true ↦
+          let none = (ending_own w ch.session f ok).1 in
+          record { nothing = subst (Within ch.admission None None) (sym none) tt; gone = λ _. none }
+      | false ↦ record { nothing = both_back ch.session ch.admission f ch.first ch.second first second h; gone = λ e. absurd cc }
+    ]
+
+-- nothing under the admission after a journal, and no session where it was opened
+pub record Gone (s a : ℕ) (opened : Bool) (j : List Entry) : Type 0 where
+  pub left : Left s a None None j
+  pub gone : opened ≡ true → get (book_of j) s ≡ None
+
+and_first : (v u : Bool) → (v && u) ≡ true → v ≡ true
+and_first true u h = refl
+and_first false u h = absurd cc
+
+not_so : false ≡ true → ⊥
+not_so e = cc
+
+refused_is : (t : Bool) (q : Refusal) (rs : List Record) → answered (record no_refusal { no_session = t }) rs ≡ Err q → t ≡ true
+refused_is true q rs h = refl
+refused_is false q rs h = absurd cc
+
+none_is : {X : Type 0} (o : Option X) → is_none o ≡ true → o ≡ None
+none_is None h = refl
+none_is (Some x) h = absurd cc
+
+goes_unwinds : (ch : Chain) (answer : Result (List Record) Refusal) (v u : View) → Acted v u (step.Unwind ch) answer → Goes ch.session ch.admission v u 0
+goes_unwinds ch answer v u h = goes answer h
+  where
+    goes : (answer : Result (List Record) Refusal) → Acted v u (step.Unwind ch) answer → Goes ch.session ch.admission v u 0
+    goes (Err r) acted = goes_acted ch.session ch.admission v u (step.Unwind ch) (Err r) 0 acted (le_refl 0)
+    goes (Ok rs) acted =
+        let is = made_is v u (step.Unwind ch) rs acted in
+        let none : opens ch.session (entries_by v.actor rs) ≡ 0 =
+        subst (λ rs. opens ch.session (entries_by v.actor rs) ≡ 0) is
+        (giving_opened ch.session ch.session v.actor (made v.whole (book_of acted.journal) (step.Unwind ch)) (unwinding_gives ch (get (book_of acted.journal) ch.session))) in
+        goes_acted ch.session ch.admission v u (step.Unwind ch) (Ok rs) 0 acted (omega (arith, none))
+
+unwound : (m : ℕ) (ch : Chain) (answer : Result (List Record) Refusal) (v u : View) → Acted v u (step.Unwind ch) answer → IsFirst ch.first → IsSecond ch.second → Even ch.admission m v → Even ch.admission m u → Left ch.session ch.admission ch.first ch.second v.seen → Gone ch.session ch.admission ch.opened u.seen
+unwound m ch answer v u h first second ev eu l = gone answer h
+  where
+    gone : (answer : Result (List Record) Refusal) → Acted v u (step.Unwind ch) answer → Gone ch.session ch.admission ch.opened u.seen
+    gone (Err r) acted =
+        let there = found_left ch.session ch.admission m ch.first ch.second v u (step.Unwind ch) (Err r) acted ev eu l in
+        let b = book_of acted.journal in
+        let none : get b ch.session ≡ None =
+        ⊎_elim
+        (λ e. none_is (get b ch.session) (and_first (is_none (get b ch.session)) (not (is_empty_chain ch)) (refused_is (is_none (get b ch.session) && not (is_empty_chain ch)) r (made v.whole b (step.Unwind ch)) e)))
+        (λ e. absurd (not_so e.1))
+        acted.answers in
+        subst (Gone ch.session ch.admission ch.opened) (sym (acted.seen ∙ append-nil acted.journal)) (record {
+          left = record { others = there.others; own = subst (Within ch.admission None None) (sym none) tt; no_add = there.no_add };
+          gone = λ _. none;
+        })
+    gone (Ok rs) acted =
+        let there = found_left ch.session ch.admission m ch.first ch.second v u (step.Unwind ch) (Ok rs) acted ev eu l in
+        let b = book_of acted.journal in
+        let is = made_is v u (step.Unwind ch) rs acted in
+        let o = get b ch.session in
+        let mades = of_living o (unwinding ch) in
+        let gives = unwinding_gives ch o in
+        let after = left_quiet ch.session ch.admission ch.first ch.second acted.journal (entries_by v.actor mades) (giving_count ch.session ch.admission v.actor mades gives) there in
+        let row = unwound_row v.whole ch o ((sound_of v.whole acted.journal acted.found.legal).rows ch.session) first second there.own in
+        let ends : get (book_of (acted.journal ++ entries_by v.actor mades)) ch.session ≡ row_after mades o =
+        ap (λ (b : Book). get b ch.session) (book-extended acted.journal v.actor mades) ∙ lone_row ch.session b mades (all_lone ch.session mades gives) in
+        subst (Gone ch.session ch.admission ch.opened) (sym (acted.seen ∙ ap (λ rs. acted.journal ++ entries_by v.actor rs) (sym is))) (record {
+          left = record { others = after.others; own = subst (Within ch.admission None None) (sym ends) row.nothing; no_add = after.no_add };
+          gone = λ e. ends ∙ row.gone e;
+        })
+
+-- a rate that isn't held
+no_rate : (r : Option ℕ) → as_rate r ≡ None → r ≡ None
+no_rate None h = refl
+no_rate (Some n) h = absurd cc
+
+either_none : {X : Type 0} (o : Option X) → (o ≡ None) ⊎ (o ≡ None) → o ≡ None
+either_none o h = ⊎_elim (λ e. e) (λ e. e) h
+
+nothing_bare : (d : Admission) → Upto None None d → d ≡ bare
+nothing_bare d h =
+    let rate = no_rate d.rate (either_none (as_rate d.rate) h.rate) in
+    let address = either_none d.address h.address in
+    let stream = h.stream in
+    λ i. record { rate = rate i; address = address i; stream = stream i }
+
+-- in no session
+all_within : (s a : ℕ) (j : List Entry) → Left s a None None j → (q : ℕ) → Within a None None (get (book_of j) q)
+all_within s a j l q = elim (cases_eq q s) [
+  | inl e ↦ subst (λ t. Within a None None (get (book_of j) t)) (sym e) l.own
+  | inr n ↦ l.others q n
+]
+
+thin_nothing : (w : Whole) (a : ℕ) (o : Option Session) → SoundRow w o → Within a None None o → option_map (thinned a) o ≡ o
+thin_nothing w a None ok h = refl
+thin_nothing w a (Some f) ok h =
+    let none : get f.admissions a ≡ None = sym (ok.normal a) ∙ ap kept (nothing_bare (under f a) h) in
+    ap (λ (t : Table Admission). Some (record f { admissions = t })) (ap (set f.admissions a) (sym none) ∙ set-same f.admissions a)
+
+nothing_left : (w : Whole) (s a : ℕ) (j : List Entry) → IsLegal w j → Left s a None None j → NothingLeft a j
+nothing_left w s a j legal l = record {
+  nothing = λ q f is. nothing_bare (under f a) (subst (Within a None None) is (all_within s a j l q));
+  book = same_table _ _ (λ q. (less_admission_law w a j legal l.no_add).1 q ∙ thin_nothing w a (get (book_of j) q) ((sound_of w j legal).rows q) (all_within s a j l q));
+}
+
+no_entries : (j : List Entry) → length j ≤ 0 → j ≡ []
+no_entries [] h = refl
+no_entries (e ∷ j) h = absurd (omega arith)
+
+-- an actor's entries are its own
+own_all : (actor : ℕ) (j : List Entry) → OnlyOf actor j → entries_of actor j ≡ j
+own_all actor [] own = refl
+own_all actor (e ∷ j) own =
+    ap (λ v. cond v (e ∷ entries_of actor j) (entries_of actor j)) (eq-eqb e.actor actor own.0) ∙ ap (λ (l : List Entry). e ∷ l) (own_all actor j own.1)
+
+-- of two tests either may come first
+pub filters : {X : Type 0} (p q : X → Bool) (l : List X) → filter p (filter q l) ≡ filter q (filter p l)
+filters p q [] = refl
+filters {X} p q (x ∷ l) = step (filters p q l) (p x) (q x) refl refl
+  where
+    step : filter p (filter q l) ≡ filter q (filter p l) → (u v : Bool) → p x ≡ u → q x ≡ v → filter p (cond v (x ∷ filter q l) (filter q l)) ≡ filter q (cond u (x ∷ filter p l) (filter p l))
+    step rec true true ep eq = ap (λ t. cond t (x ∷ filter p (filter q l)) (filter p (filter q l))) ep ∙ ap (λ (k : List X). x ∷ k) rec ∙ sym (ap (λ t. cond t (x ∷ filter q (filter p l)) (filter q (filter p l))) eq)
+    step rec true false ep eq = rec ∙ sym (ap (λ t. cond t (x ∷ filter q (filter p l)) (filter q (filter p l))) eq)
+    step rec false true ep eq = ap (λ t. cond t (x ∷ filter p (filter q l)) (filter p (filter q l))) ep ∙ rec
+    step rec false false ep eq = rec
+
+module _ {B : Type 0} (calls : Calls B) (ask : Ask) where
+  grows_unwound : (cause : Failure) (answer : Result (List Record) Refusal) (v u : View) → Acted v u (step.Unwind (chain_left ask cause)) answer → Grows ask v u 0
+  grows_unwound (failure.Open refusal) answer v u h = goes_unwinds (chain_left ask (failure.Open refusal)) answer v u h
+  grows_unwound (failure.Rate refusal) answer v u h = goes_unwinds (chain_left ask (failure.Rate refusal)) answer v u h
+  grows_unwound (failure.Address e) answer v u h = goes_unwinds (chain_left ask (failure.Address e)) answer v u h
+  grows_unwound (failure.Commit refusal x) answer v u h = goes_unwinds (chain_left ask (failure.Commit refusal x)) answer v u h
+
+  -- what an unwound chain leaves
+  abbrev GoneAfter : ℕ → Failure → View → View → Type 0
+  GoneAfter m cause v u =
+      IsSecond (chain_left ask cause).second → Even ask.admission m v → Even ask.admission m u → Left ask.session ask.admission (chain_left ask cause).first (chain_left ask cause).second v.seen
+      → Gone ask.session ask.admission (chain_left ask cause).opened u.seen
+
+  gone_after : (m : ℕ) (cause : Failure) (answer : Result (List Record) Refusal) (v u : View) → Acted v u (step.Unwind (chain_left ask cause)) answer → GoneAfter m cause v u
+  gone_after m (failure.Open refusal) answer v u h second ev eu l = unwound m (chain_left ask (failure.Open refusal)) answer v u h tt second ev eu l
+  gone_after m (failure.Rate refusal) answer v u h second ev eu l = unwound m (chain_left ask (failure.Rate refusal)) answer v u h tt second ev eu l
+  gone_after m (failure.Address e) answer v u h second ev eu l = unwound m (chain_left ask (failure.Address e)) answer v u h tt second ev eu l
+  gone_after m (failure.Commit refusal x) answer v u h second ev eu l = unwound m (chain_left ask (failure.Commit refusal x)) answer v u h tt second ev eu l
+
+  session_gone : (w : Whole) (t : Bool) (v u : View) → IsLegal w u.seen → opens ask.session (added v u) ≤ one_if t → (t ≡ true → get (book_of u.seen) ask.session ≡ None) → openings ask.session (added v u) ≢ [] → SessionGone ask.session u.seen
+  session_gone w true v u legal few gone opened = let none = gone refl in record { gone = none; book = less_gone_law w ask.session u.seen legal none }
+  session_gone w false v u legal few gone opened = absurd (opened (no_entries (openings ask.session (added v u)) few))
+
+  pub leaves_nothing : RefusalsLeaveNothing calls ask
+  leaves_nothing refusal s t run alone =
+      let cause = run.cause in
+      let n = one_if (chain_left ask cause).opened in
+      let v = s.view in
+      let w = run.broken.view in
+      let u = t.view in
+      let first = grows_fails calls ask cause s run.broken run.fails in
+      let last = grows_unwound cause run.answer w u run.unwinds in
+      let all = goes_then ask.session ask.admission v w u n first last in
+      let a = ask.admission in
+      let m = count a v.mine in
+      let more : added v u ≡ all.more = ap (drop (length v.mine)) all.mine ∙ drop-append_seam v.mine all.more in
+      let seen : count a u.seen ≡ count a all.more = ap length alone ∙ ap (count a) more in
+      let mine : count a u.mine ≡ count a (v.mine ++ all.more) = ap (count a) all.mine in
+      let takes = all.takes in
+      let none : count a v.seen ≡ 0 = omega (arith, seen, takes) in
+      let eu : Even a m u = omega (arith, seen, mine, count_append a v.mine all.more) in
+      let ev : Even a m v = omega (arith, none) in
+      let ew = between ask.session a m v w u n 0 first last ev eu in
+      let before = keeps_fails calls ask m cause s run.broken run.fails ev ew (left_first ask.session a v.seen none) in
+      let gone = gone_after m cause run.answer w u run.unwinds (second_is calls ask cause s run.broken run.fails) ew eu before in
+      let legal = run.unwinds.stays.stands.legal in
+      let few : opens ask.session (added v u) ≤ n = subst (λ es. opens ask.session es ≤ n) (sym more) all.few in
+      record {
+        admission = nothing_left u.whole ask.session a u.seen legal gone.left;
+        session = session_gone u.whole (chain_left ask cause).opened v u legal few gone.gone;
+      }
+
+  -- each Hold and Add under an unused number is the admission's own, where nobody else has one
+  uses_alone : (refusal : Refusal) (s t : State B) → Admits calls ask (Err refusal) s t → uses ask.admission s.view.mine ≡ [] → OnlyOf t.view.actor (uses ask.admission t.view.seen) → UsedAlone ask.admission s.view t.view
+  uses_alone refusal s t run before others =
+      let v = s.view in
+      let u = t.view in
+      let first = grows_fails calls ask run.cause s run.broken run.fails in
+      let all = goes_then ask.session ask.admission v run.broken.view u (one_if (chain_left ask run.cause).opened) first (grows_unwound run.cause run.answer run.broken.view u run.unwinds) in
+      let a = ask.admission in
+      let more : added v u ≡ all.more = ap (drop (length v.mine)) all.mine ∙ drop-append_seam v.mine all.more in
+      sym (own_all u.actor (uses a u.seen) others)
+      ∙ filters (λ (e : Entry). e.actor == u.actor) (λ (e : Entry). is_use_of a e.change) u.seen
+      ∙ ap (uses a) run.unwinds.stays.stands.mine
+      ∙ ap (uses a) all.mine
+      ∙ filter-append (λ (e : Entry). is_use_of a e.change) v.mine all.more
+      ∙ ap (λ l. l ++ uses a all.more) before
+      ∙ ap (uses a) (sym more)
+
+  pub leaves_nothing_unused : RefusalsLeaveNothingUnused calls ask
+  leaves_nothing_unused refusal s t run unused others = leaves_nothing refusal s t run (uses_alone refusal s t run unused.unused others)

@@ -1,0 +1,7 @@
+pub mod Binder
+pub mod Steps
+pub mod Runs
+pub mod Refused
+pub mod Pairs
+pub mod Faults
+pub mod Numbers

@@ -1,0 +1,80 @@
+-- The numbers under which a seat holds and adds. One that it drew itself is used by no other seat that keeps to its own.
+use Rattle.std.specs.Prelude.{◌≡◌, ◌≢◌, ℕ, List, [], Contains, Option, Some, None, Result, Err}
+use Rattle.rtsp_record.specs.declared.changes.Entry.{Entry}
+use Rattle.rtsp_record.specs.declared.changes.Record.{Record}
+use Rattle.rtsp_record.specs.declared.holdings.Whole.{Whole}
+use Rattle.rtsp_book.specs.declared.asks.Admitted.{Admitted}
+use Rattle.rtsp_book.specs.declared.asks.Ask.{Ask}
+use Rattle.rtsp_book.specs.declared.refusals.Refusal.{Refusal}
+use Rattle.rtsp_book.specs.declared.steps.Step.{Step}
+use Rattle.rtsp_book.specs.declared.steps.Step.TheVariants.{HoldRate, HoldPair, HoldChan, Commit}
+use Rattle.rtsp_lock.specs.declared.view.View.{View}
+use Rattle.rtsp_lock.specs.Entries.{Has, OnlyOf}
+use Rattle.rtsp_lock.specs.Calls.{Acted, Looked, Drew}
+use Rattle.rtsp_lock.specs.Laws.{TwoSeats}
+use Rattle.rtsp_admit.specs.Binder.{Calls}
+use Rattle.rtsp_admit.specs.Refused.{uses, LeftNothing}
+use Rattle.rtsp_admit.specs.Runs.{State, Admits}
+
+-- each number under which the seat's own entries hold or add is one that it drew
+abbrev pub UsesDrawn : View → Type 0
+UsesDrawn v = (n : ℕ) → uses n v.mine ≢ [] → Has v.drawn n
+
+-- the admission under which a step holds or adds
+abbrev pub admission_of : Step → Option ℕ
+admission_of (HoldRate s a bits) = Some a
+admission_of (HoldPair s a from) = Some a
+admission_of (HoldChan h) = Some h.admission
+admission_of (Commit c) = Some c.admission
+admission_of step = None
+
+-- a step names a number that the seat drew, or none
+abbrev pub NamesDrawn : View → Step → Type 0
+NamesDrawn v step = (a : ℕ) → admission_of step ≡ Some a → Has v.drawn a
+
+-- it stays so over a step that names such a number
+abbrev pub ActsUseDrawn : Type 0
+ActsUseDrawn =
+    (v u : View) (step : Step) (answer : Result (List Record) Refusal)
+    → UsesDrawn v → NamesDrawn v step → Acted v u step answer → UsesDrawn u
+
+-- a number just drawn, under which the seat has no Hold or Add
+pub record IsUnused (v : View) (n : ℕ) : Type 0 where
+  pub drawn : Has v.drawn n
+  pub unused : uses n v.mine ≡ []
+
+-- it stays so over a draw, which gives an unused number
+abbrev pub DrawsGiveUnused : Type 0
+DrawsGiveUnused = (v u : View) (n : ℕ) → UsesDrawn v → Looked v u → Drew v u n → UsesDrawn u × IsUnused u n
+
+-- an admission under a number drawn keeps it so
+abbrev pub KeepsDrawn : Ask → View → View → Type 0
+KeepsDrawn ask v u = Has v.drawn ask.admission → UsesDrawn v → UsesDrawn u
+
+-- a refusal under an unused number leaves nothing, where in the journal then seen nobody else has a Hold or Add under it
+abbrev pub LeavesNothingUnused : Ask → View → View → Type 0
+LeavesNothingUnused ask v u = IsUnused v ask.admission → OnlyOf u.actor (uses ask.admission u.seen) → LeftNothing ask v u
+
+-- another seat of the lock whose entries bear this actor, and which uses numbers that it drew alone
+pub record DrawingSeat (w : Whole) (u : View) (by : ℕ) : Type 0 where
+  pub view : View
+  pub seats : TwoSeats w u view
+  pub actor : view.actor ≡ by
+  pub drawn : UsesDrawn view
+
+-- each Hold and Add of others under the number, as far as the seat has seen, is of such a seat
+abbrev pub OthersUseDrawn : Whole → View → ℕ → Type 0
+OthersUseDrawn w u n = (e : Entry) → Contains (uses n u.seen) e → e.actor ≢ u.actor → DrawingSeat w u e.actor
+
+-- then there is none under a number that the seat drew itself
+abbrev pub DrawnUsedAlone : Type 0
+DrawnUsedAlone = (w : Whole) (u : View) (n : ℕ) → Has u.drawn n → OthersUseDrawn w u n → OnlyOf u.actor (uses n u.seen)
+
+module _ {B : Type 0} (calls : Calls B) (ask : Ask) where
+  -- so it is with each refused admission
+  abbrev pub RefusalsLeaveNothingUnused : Type 0
+  RefusalsLeaveNothingUnused = (refusal : Refusal) (s t : State B) → Admits calls ask (Err refusal) s t → LeavesNothingUnused ask s.view t.view
+
+  -- so it is with each admission
+  abbrev pub AdmissionsKeepDrawn : Type 0
+  AdmissionsKeepDrawn = (result : Result Admitted Refusal) (s t : State B) → Admits calls ask result s t → KeepsDrawn ask s.view t.view

@@ -1,0 +1,184 @@
+//! An admission: its chain of steps, and at a refusal its unwinding.
+
+ghost use Rattle.std.specs.Prelude.{◌≡◌, IfOk, IfErr, OnErr, Ok};
+ghost use Rattle.rtsp_record.specs.Rules.{IsAddress};
+ghost use Rattle.rtsp_book.specs.Replies.{AreDifferent};
+ghost use Rattle.rtsp_lock.specs.Calls.{seat_view, IsSeatOf, SameSeat};
+ghost use Rattle.rtsp_admit.specs.Binder.{Released};
+ghost use Rattle.rtsp_admit.specs.Steps.{HasWish, chain_left};
+ghost use Rattle.rtsp_admit.specs.Runs.{state_of, Addressed, NotAddressed, Completes, Fails, Admits};
+ghost use Rattle.rtsp_admit.specs.Refused.{LeavesNothing};
+ghost use Rattle.rtsp_admit.specs.Pairs.{KeepsPairs, GainsPair};
+ghost use Rattle.rtsp_admit.specs.Faults.{CountsFaults};
+ghost use Rattle.rtsp_admit.specs.Numbers.{KeepsDrawn, LeavesNothingUnused};
+
+use crate::binder::{Binder, unbind_all};
+use crate::failure::{Failure, NoAddress};
+use crate::laws::{
+    law_admitted_keeps_drawn, law_admitted_pairs, law_faults_counted, law_refused,
+    law_refused_pairs, law_refused_unused,
+};
+use crate::pairs::grant_pair;
+use crate::steps::{commit_step, hold_channels, hold_rate, open};
+use rtsp_book::{Admitted, Ask, Receipt, Refusal, Step, Wanted};
+use rtsp_lock::{BookLock, BookSeat};
+use rtsp_record::Thing;
+use std::sync::Wait;
+
+// Holds an address, and binds it where it is a pair.
+fn address<R: Wait, B: Binder>(
+    rt: &R,
+    seat: &mut BookSeat,
+    lock: &BookLock,
+    binder: &mut B,
+    ask: &Ask,
+    made: &mut Receipt,
+) -> Result<Thing, NoAddress>
+    requires own { IsSeatOf seat.old lock.now }
+    requires wish { HasWish ask.now.wanted }
+    ensures same { SameSeat seat.old seat.new }
+    ensures ok { IfOk result (λ x. Addressed B.calls ask.now ask.now.wanted x (state_of seat.old binder.old) (state_of seat.new binder.new)) }
+    ensures address { IfOk result IsAddress }
+    ensures err { IfErr result (λ e. NotAddressed B.calls ask.now ask.now.wanted e (state_of seat.old binder.old) (state_of seat.new binder.new)) }
+{
+    match ask.wanted {
+        Wanted::Pair => match grant_pair(rt, seat, lock, binder, ask, made) {
+            Ok(pair) => Ok(Thing::Pair(pair)),
+            Err(none) => Err(none),
+        },
+        Wanted::Channels { conn, wish } => {
+            match hold_channels(rt, seat, lock, ask, conn, wish, made) {
+                Ok(channels) => Ok(channels),
+                Err(refusal) => Err(NoAddress {
+                    refusal,
+                    unreturned: None,
+                }),
+            }
+        }
+    }
+}
+
+// Does the steps up to the Commit, and unbinds the pairs that the Commit freed.
+fn complete<R: Wait, B: Binder>(
+    rt: &R,
+    seat: &mut BookSeat,
+    lock: &BookLock,
+    binder: &mut B,
+    ask: &Ask,
+    made: &mut Receipt,
+) -> Result<Thing, Failure>
+    requires own { IsSeatOf seat.old lock.now }
+    requires wish { HasWish ask.now.wanted }
+    ensures same { SameSeat seat.old seat.new }
+    ensures ok { IfOk result (λ x. Completes B.calls ask.now x (state_of seat.old binder.old) (state_of seat.new binder.new)) }
+    ensures err { IfErr result (λ e. Fails B.calls ask.now e (state_of seat.old binder.old) (state_of seat.new binder.new)) }
+    ensures apart { IfErr result (λ e. AreDifferent (chain_left ask.now e).first (chain_left ask.now e).second) }
+{
+    match open(rt, seat, lock, ask, made) {
+        Ok(()) => {}
+        Err(refusal) => return Err(Failure::Open(refusal)),
+    }
+    match hold_rate(rt, seat, lock, ask, made) {
+        Ok(()) => {}
+        Err(refusal) => return Err(Failure::Rate(refusal)),
+    }
+    match address(rt, seat, lock, binder, ask, made) {
+        Ok(address) => match seat.act_into(rt, lock, &commit_step(ask), made) {
+            Ok(()) => {
+                unbind_all(binder, made.freed_pairs().as_slice());
+                Ok(address)
+            }
+            Err(refusal) => Err(Failure::Commit(refusal, address)),
+        },
+        Err(none) => Err(Failure::Address(none)),
+    }
+}
+
+// Unbinds a pair, where there is one.
+fn release<B: Binder>(binder: &mut B, admission: u64, pair: Option<u16>)
+    ensures { Released B.calls admission pair binder.old binder.new }
+{
+    if let Some(pair) = pair {
+        binder.unbind(admission, pair);
+    }
+}
+
+// Makes an admission, and at a refusal takes back what was made of it.
+fn attempt<R: Wait, B: Binder>(
+    rt: &R,
+    seat: &mut BookSeat,
+    lock: &BookLock,
+    binder: &mut B,
+    ask: &Ask,
+) -> Result<Admitted, Refusal>
+    requires own { IsSeatOf seat.old lock.now }
+    requires wish { HasWish ask.now.wanted }
+    ensures same { SameSeat seat.old seat.new }
+    ensures run { Admits B.calls ask.now result (state_of seat.old binder.old) (state_of seat.new binder.new) }
+{
+    let mut made = Receipt::new();
+    match complete(rt, seat, lock, binder, ask, &mut made) {
+        Ok(address) => Ok(Admitted {
+            session: ask.session,
+            admission: ask.admission,
+            address,
+            stream: ask.stream,
+        }),
+        Err(failure) => {
+            let chain = failure.chain(ask);
+            let _ = seat.act_into(rt, lock, &Step::Unwind { chain }, &mut made);
+            release(binder, ask.admission, failure.bound_pair());
+            Err(failure.refusal())
+        }
+    }
+}
+
+/// Makes an admission by a chain of steps. The lock is free between them, so others act in the
+/// meantime. The numbers of `ask` are drawn before; a wish for channels is even and at most 254.
+///
+/// Returns what was granted, or the refusal of the first step that was refused: Open, HoldRate,
+/// HoldPair or HoldChan, the Return of a pair that could not be bound, or Commit. `NoPair` also
+/// means that no free pair could be bound. After a refusal the steps accepted before are unwound
+/// and the pair that was bound is unbound, so nothing of the admission is left, as long as no other
+/// call used its number.
+pub fn admit<R: Wait, B: Binder>(
+    rt: &R,
+    seat: &mut BookSeat,
+    lock: &BookLock,
+    binder: &mut B,
+    ask: &Ask,
+) -> Result<Admitted, Refusal>
+    requires own { IsSeatOf seat.old lock.now }
+    requires wish { HasWish ask.now.wanted }
+    ensures same { SameSeat seat.old seat.new }
+    ensures run { Admits B.calls ask.now result (state_of seat.old binder.old) (state_of seat.new binder.new) }
+
+    // A refusal leaves nothing of the admission, and the binder has what it had.
+    ensures nothing { OnErr result (LeavesNothing ask.now (seat_view seat.old) (seat_view seat.new)) }
+    ensures unused { OnErr result (LeavesNothingUnused ask.now (seat_view seat.old) (seat_view seat.new)) }
+    ensures released { OnErr result (KeepsPairs B.calls binder.old binder.new) }
+
+    // What is granted is bound, and what the Commit freed is not.
+    ensures bound { IfOk result (λ granted. GainsPair B.calls ask.now granted (state_of seat.old binder.old) (state_of seat.new binder.new)) }
+
+    // A bind that failed shows only where it was counted.
+    ensures faults { CountsFaults B.calls ask.now result binder.old binder.new }
+
+    // A seat that uses its own numbers alone goes on so.
+    ensures drawn { KeepsDrawn ask.now (seat_view seat.old) (seat_view seat.new) }
+{
+    law_faults_counted::<B>(ask);
+    law_admitted_keeps_drawn::<B>(ask);
+    match attempt(rt, seat, lock, binder, ask) {
+        Ok(granted) => {
+            law_admitted_pairs::<B>(ask);
+            Ok(granted)
+        }
+        Err(refusal) => {
+            law_refused::<B>(ask);
+            law_refused_unused::<B>(ask);
+            law_refused_pairs::<B>(ask);
+            Err(refusal)
+        }
+    }
+}

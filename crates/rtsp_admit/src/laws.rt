@@ -1,0 +1,64 @@
+//! Laws over admissions, each the contract of a function that does nothing.
+
+ghost use Rattle.rtsp_admit.specs.Refused.{RefusalsLeaveNothing};
+ghost use Rattle.rtsp_admit.specs.Pairs.{RefusalsKeepPairs, AdmissionsGainPair};
+ghost use Rattle.rtsp_admit.specs.Faults.{AdmissionsCountFaults};
+ghost use Rattle.rtsp_admit.specs.Numbers.{ActsUseDrawn, DrawsGiveUnused, DrawnUsedAlone, AdmissionsKeepDrawn, RefusalsLeaveNothingUnused};
+
+use crate::binder::Binder;
+use rtsp_book::Ask;
+
+/// An admission that is refused leaves nothing: where each Hold and Add under its number in the
+/// journal then seen is its own, nothing is held under it, and the book is that of the journal
+/// without it. Where it had opened its session, that is not alive, and the book is that of the
+/// journal without the session.
+pub fn law_refused<B: Binder>(ask: &Ask)
+    ensures { RefusalsLeaveNothing B.calls ask.now }
+{}
+
+/// A refused admission under a number that its seat drew and had not used leaves nothing, where
+/// nobody else has a Hold or Add under that number in the journal then seen.
+/// `law_drawn_used_alone` shows that nobody else has.
+pub fn law_refused_unused<B: Binder>(ask: &Ask)
+    ensures { RefusalsLeaveNothingUnused B.calls ask.now }
+{}
+
+/// After an admission that is refused a binder has the pairs that it had before.
+pub fn law_refused_pairs<B: Binder>(ask: &Ask)
+    ensures { RefusalsKeepPairs B.calls ask.now }
+{}
+
+/// After an admission a binder has the pairs that it had and the granted one, less those that the
+/// Commit freed.
+pub fn law_admitted_pairs<B: Binder>(ask: &Ask)
+    ensures { AdmissionsGainPair B.calls ask.now }
+{}
+
+/// Where no failure of the binder was counted, the pair granted is the first that was held, and a
+/// refusal is that of a step as it was first asked.
+pub fn law_faults_counted<B: Binder>(ask: &Ask)
+    ensures { AdmissionsCountFaults B.calls ask.now }
+{}
+
+/// A seat whose Holds and Adds are all under numbers that it drew stays so over a step that names
+/// such a number, or none.
+pub fn law_acts_use_drawn()
+    ensures { ActsUseDrawn }
+{}
+
+/// It stays so over a draw, and has no Hold or Add under the number drawn.
+pub fn law_drawn_is_unused()
+    ensures { DrawsGiveUnused }
+{}
+
+/// Where all other seats hold and add under numbers that they drew, none of them does so under a
+/// number that this one drew.
+pub fn law_drawn_used_alone()
+    ensures { DrawnUsedAlone }
+{}
+
+/// A seat whose Holds and Adds are all under numbers that it drew stays so over an admission under
+/// such a number.
+pub fn law_admitted_keeps_drawn<B: Binder>(ask: &Ask)
+    ensures { AdmissionsKeepDrawn B.calls ask.now }
+{}

@@ -1,0 +1,31 @@
+//! Admissions over a lock that others use at the same time.
+//!
+//! An admission is a chain of steps: Open where a session is to be opened, HoldRate, HoldPair or
+//! HoldChan, Commit. A pair of ports is bound after it is held; one that can't be bound is given
+//! back, and the next free one above it is tried. The lock is not kept between the steps, so other
+//! seats act between any two of them, and a bind keeps nobody waiting. At the first refusal the
+//! chain is unwound and nothing of it is left.
+//!
+//! The definitions of `specs/` read in this order: Binder (what its calls do), Steps (the steps of
+//! an admission and what is unwound of them), Runs (the calls of an admission, one after another),
+//! Refused (what a refusal leaves), Pairs (what a binder has afterwards), Faults (binds that fail
+//! are counted), Numbers (the numbers that a seat uses).
+
+#![tactic(auto)]
+
+mod admission;
+mod binder;
+mod failure;
+mod laws;
+mod pairs;
+mod steps;
+
+pub use admission::admit;
+pub use binder::{BindFault, Binder, unbind_all};
+pub use laws::{
+    law_acts_use_drawn, law_admitted_keeps_drawn, law_admitted_pairs, law_drawn_is_unused,
+    law_drawn_used_alone, law_faults_counted, law_refused, law_refused_pairs, law_refused_unused,
+};
+
+#[cfg(test)]
+mod tests;

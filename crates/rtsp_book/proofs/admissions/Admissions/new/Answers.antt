@@ -1,6 +1,0 @@
-use Rattle.rtsp_record.specs.declared.holdings.Admission.{Admission}
-use Rattle.rtsp_book.proofs.SortedRows.{no_rows}
-use Rattle.rtsp_book.proofs.admissions.Admissions.new.Goals as goal
-
-pub returns : goal.returns
-returns c = no_rows {X = Admission}

@@ -1,7 +1,0 @@
-use Rattle.std.proofs.Common.{sym, ap, ◌∙◌}
-use Rattle.std.specs.FinMap.{entries}
-use Rattle.rtsp_book.proofs.SortedRows.{entries_of}
-use Rattle.rtsp_book.proofs.admissions.Admissions.rows.Goals as goal
-
-pub returns-clause-rows : goal.returns-clause-rows
-returns-clause-rows c = sym (entries_of _ c.self.invariant.1) ∙ ap entries c.self.view_is

@@ -1,4 +1,0 @@
-use Rattle.rtsp_book.proofs.plain.own.owns_living.Goals as goal
-
-pub returns-in-Add : goal.returns-in-Add
-returns-in-Add c = rw c.in-Add.is c.may_add.ensures

@@ -1,6 +1,0 @@
-use Rattle.std.proofs.Common.{arith}
-use Rattle.rtsp_book.proofs.FreeLemmas.{even_chan}
-use Rattle.rtsp_book.proofs.plain.rules.has_chan.Goals as goal
-
-pub returns : goal.returns
-returns c = even_chan c.args.whole.now c.args.conn c.args.first (omega arith)

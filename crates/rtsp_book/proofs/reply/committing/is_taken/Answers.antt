@@ -1,6 +1,0 @@
-use Rattle.rtsp_book.proofs.Replying.{startup_counted}
-use Rattle.std.proofs.Common.{rules}
-use Rattle.rtsp_book.proofs.reply.committing.is_taken.Goals as goal
-
-pub returns-else-is_some : goal.returns-else-is_some
-returns-else-is_some g c = search (rules, startup_counted)

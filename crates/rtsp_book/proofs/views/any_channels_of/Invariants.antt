@@ -1,8 +1,0 @@
-use Rattle.std.proofs.Common.{◌≡◌, ℕ, drop}
-use Rattle.rtsp_record.specs.declared.holdings.Admission.{Admission}
-use Rattle.rtsp_book.specs.Made.{is_chan_of}
-use Rattle.rtsp_book.specs.Sessions.{first_with}
-use Rattle.rtsp_book.proofs.views.any_channels_of.Given as goal
-
-abbrev pub invariant-loop-row : goal.invariant-loop-row
-invariant-loop-row l = first_with (λ (e : ℕ × Admission). is_chan_of l.conn e.1.address) (drop l.row-index l.rows) ≡ first_with (λ e. is_chan_of l.conn e.1.address) l.rows

@@ -1,0 +1,136 @@
+-- What is chosen is in the whole and free.
+use Rattle.std.proofs.Common.{◌≡◌, ◌==◌, ℕ, ◌+◌, ◌-◌, ◌*◌, ◌<◌, zero, suc, Bool, true, false, ◌&&◌, ◌||◌, cond, refl, ◌∙◌, ap, subst, arith}
+use Rattle.std.specs.Prelude.{Option, Some, None, nat_le}
+use Rattle.std.proofs.lemmas.Bool.Decides.{nat_tests}
+use Rattle.rtsp_record.specs.declared.holdings.Thing.TheVariants.{Pair, Chan}
+use Rattle.rtsp_record.specs.declared.holdings.Whole.{Whole}
+use Rattle.rtsp_record.specs.Books.{Book}
+use Rattle.rtsp_record.specs.Sums.{Spot, UdpPort, Channel, amount, covers, covering}
+use Rattle.rtsp_record.specs.Rules.{InWhole, IsFree}
+use Rattle.rtsp_record.specs.Choices.{least_of, from_on, least_pair_by, least_chan_by, IsWish, is_free, is_pair_free, least_pair, is_chan_free, least_chan, chosen_chan}
+
+both : (a b : Bool) → (a && b) ≡ true → (a ≡ true) × (b ≡ true)
+both true b h = (refl, h)
+both false b h = absurd cc
+
+is_zero : (n : ℕ) → (n == 0) ≡ true → n ≡ 0
+is_zero n h = grind (arith, nat_tests)
+
+is_same : (n m : ℕ) → (n == m) ≡ true → n ≡ m
+is_same n m h = grind (arith, nat_tests)
+
+-- one of two tests
+by_either : (a b : Bool) (P : Type 0) → (a ≡ true → P) → (b ≡ true → P) → (a || b) ≡ true → P
+by_either true b P one two h = one refl
+by_either false b P one two h = two h
+
+pub pair_is_free : (w : Whole) (b : Book) (p : ℕ) → InWhole w (Pair p) → is_pair_free b p ≡ true → IsFree w b (Pair p)
+pair_is_free w b p h is =
+    record { in_whole = h; free = free; rate = tt }
+  where
+    spots : (q : Spot) → amount (covering (UdpPort p)) b ≡ 0 → amount (covering (UdpPort (p + 1))) b ≡ 0 → covers q (Pair p) ≡ true → amount (covering q) b ≡ 0
+    spots (UdpPort q) one two is =
+        by_either (q == p) (q == p + 1) (amount (covering (UdpPort q)) b ≡ 0) (λ e. ap (λ q. amount (covering (UdpPort q)) b) (is_same q p e) ∙ one) (λ e. ap (λ q. amount (covering (UdpPort q)) b) (is_same q (p + 1) e) ∙ two) is
+    spots (Channel d l) one two is = absurd cc
+
+    free : (q : Spot) → covers q (Pair p) ≡ true → amount (covering q) b ≡ 0
+    free q c = let parts = both (is_free b (UdpPort p)) (is_free b (UdpPort (p + 1))) is in spots q (is_zero _ parts.0) (is_zero _ parts.1) c
+
+pub chan_is_free : (w : Whole) (b : Book) (c k : ℕ) → InWhole w (Chan c k) → is_chan_free b c k ≡ true → IsFree w b (Chan c k)
+chan_is_free w b c k h is =
+    record { in_whole = h; free = free; rate = tt }
+  where
+    spots : (q : Spot) → amount (covering (Channel c k)) b ≡ 0 → amount (covering (Channel c (k + 1))) b ≡ 0 → covers q (Chan c k) ≡ true → amount (covering q) b ≡ 0
+    spots (UdpPort q) one two is = absurd cc
+    spots (Channel d l) one two is =
+        let parts = both (d == c) (l == k || l == k + 1) is in
+        let conn : d ≡ c = is_same d c parts.0 in
+        by_either (l == k) (l == k + 1) (amount (covering (Channel d l)) b ≡ 0)
+        (λ e. (λ i. amount (covering (Channel (conn i) (is_same l k e i))) b) ∙ one)
+        (λ e. (λ i. amount (covering (Channel (conn i) (is_same l (k + 1) e i))) b) ∙ two)
+        parts.1
+
+    free : (q : Spot) → covers q (Chan c k) ≡ true → amount (covering q) b ≡ 0
+    free q h = let parts = both (is_free b (Channel c k)) (is_free b (Channel c (k + 1))) is in spots q (is_zero _ parts.0) (is_zero _ parts.1) h
+
+-- The search, one number further on.
+
+least_next : (takes : ℕ → Bool) (p n : ℕ) → least_of takes p (suc n) ≡ cond (takes p) (Some p) (least_of takes (p + 2) n)
+unfolding least_of
+least_next takes p n = refl
+
+least_none : (takes : ℕ → Bool) (p : ℕ) → least_of takes p zero ≡ None
+unfolding least_of
+least_none takes p = refl
+
+pub least_step : (takes : ℕ → Bool) (p i n : ℕ) → i < n → least_of takes (p + 2 * i) (n - i) ≡ cond (takes (p + 2 * i)) (Some (p + 2 * i)) (least_of takes (p + 2 * (i + 1)) (n - (i + 1)))
+least_step takes p i n lt =
+    let more : n - i ≡ suc (n - (i + 1)) = omega arith in
+    let next : p + 2 * i + 2 ≡ p + 2 * (i + 1) = omega arith in
+    ap (least_of takes (p + 2 * i)) more ∙ least_next takes (p + 2 * i) (n - (i + 1)) ∙ (λ t. cond (takes (p + 2 * i)) (Some (p + 2 * i)) (least_of takes (next t) (n - (i + 1))))
+
+pub chan_step : (takes : ℕ → Bool) (i n : ℕ) → i < n → least_of takes (2 * i) (n - i) ≡ cond (takes (2 * i)) (Some (2 * i)) (least_of takes (2 * (i + 1)) (n - (i + 1)))
+chan_step takes i n lt =
+    let here : 0 + 2 * i ≡ 2 * i = omega arith in
+    let next : 0 + 2 * (i + 1) ≡ 2 * (i + 1) = omega arith in
+    subst (λ x. least_of takes x (n - i) ≡ cond (takes x) (Some x) (least_of takes (2 * (i + 1)) (n - (i + 1)))) here
+    (least_step takes 0 i n lt ∙ ap (λ y. cond (takes (0 + 2 * i)) (Some (0 + 2 * i)) (least_of takes y (n - (i + 1)))) next)
+
+pub least_end : (takes : ℕ → Bool) (p n : ℕ) → n ≡ 0 → least_of takes p n ≡ None
+least_end takes p n none = ap (least_of takes p) none ∙ least_none takes p
+
+pub pair_start : (takes : ℕ → Bool) (w : Whole) (from : ℕ) → least_of (from_on from takes) (w.first_port + 0) (w.pairs - 0) ≡ least_pair_by takes w from
+unfolding least_pair_by
+pair_start takes w from =
+    let first : w.first_port + 0 ≡ w.first_port = omega arith in
+    let all : w.pairs - 0 ≡ w.pairs = omega arith in
+    λ t. least_of (from_on from takes) (first t) (all t)
+
+pub chan_start : (takes : ℕ → Bool) → least_of takes 0 128 ≡ least_chan_by takes
+unfolding least_chan_by
+chan_start takes = refl
+
+-- The number that is found: the test takes it, and it is one of those that are tried.
+
+pub record Found (takes : ℕ → Bool) (p n l : ℕ) : Type 0 where
+  pub place : ℕ
+  pub within : place < n
+  pub at : l ≡ p + 2 * place
+  pub taken : takes l ≡ true
+
+pub least_found : (takes : ℕ → Bool) (p n l : ℕ) → least_of takes p n ≡ Some l → Found takes p n l
+unfolding least_of
+least_found takes p zero l is = absurd cc
+least_found takes p (suc n) l is =
+    elim (takes p) as (λ t. takes p ≡ t → cond t (Some p) (least_of takes (p + 2) n) ≡ Some l → Found takes p (suc n) l) [
+      | true ↦ λ on e. let same : p ≡ l = cc in record { place = 0; within = omega arith; at = omega (arith, same); taken = subst (λ l. takes l ≡ true) same on }
+      | false ↦ λ _ e.
+          let more = least_found takes (p + 2) n l e in
+          record { place = more.place + 1; within = omega (arith, more.within); at = omega (arith, more.at); taken = more.taken }
+    ] refl is
+
+pub pair_found : (takes : ℕ → Bool) (w : Whole) (from l : ℕ) → least_pair_by takes w from ≡ Some l → Found (from_on from takes) w.first_port w.pairs l
+unfolding least_pair_by
+pair_found takes w from l is = least_found (from_on from takes) w.first_port w.pairs l is
+
+pub chan_found : (takes : ℕ → Bool) (l : ℕ) → least_chan_by takes ≡ Some l → Found takes 0 128 l
+unfolding least_chan_by
+chan_found takes l is = least_found takes 0 128 l is
+
+pub chosen_pair : (w : Whole) (b : Book) (from l : ℕ) → least_pair w b from ≡ Some l → IsFree w b (Pair l)
+chosen_pair w b from l is =
+    let found = pair_found (is_pair_free b) w from l is in
+    pair_is_free w b l (found.place, found.within, found.at) (both (nat_le from l) (is_pair_free b l) found.taken).1
+
+least_chan_free : (w : Whole) (b : Book) (c l : ℕ) → least_chan b c ≡ Some l → IsFree w b (Chan c l)
+least_chan_free w b c l is =
+    let found = chan_found (is_chan_free b c) l is in
+    chan_is_free w b c l (found.place, omega (arith, found.at), omega (arith, found.at, found.within)) found.taken
+
+pub chosen_chan_free : (w : Whole) (b : Book) (c : ℕ) (wish : Option ℕ) (l : ℕ) → IsWish wish → chosen_chan b c wish ≡ Some l → IsFree w b (Chan c l)
+chosen_chan_free w b c None l ask is = least_chan_free w b c l is
+chosen_chan_free w b c (Some k) l ask is =
+    elim (is_chan_free b c k) as (λ t. is_chan_free b c k ≡ t → cond t (Some k) (least_chan b c) ≡ Some l → IsFree w b (Chan c l)) [
+      | true ↦ λ free e. let same : k ≡ l = cc in subst (λ l. IsFree w b (Chan c l)) same (chan_is_free w b c k ask free)
+      | false ↦ λ _ e. least_chan_free w b c l e
+    ] refl is

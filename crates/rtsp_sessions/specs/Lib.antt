@@ -1,0 +1,5 @@
+pub mod Searches
+pub mod Lookups
+pub mod Tallies
+pub mod Codes
+pub mod Plain

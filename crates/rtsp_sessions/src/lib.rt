@@ -1,0 +1,24 @@
+//! The table of living sessions: how it is seen, whoever represents it, and a plain one.
+//!
+//! `BookRep` is the book of sessions as a set of facts, with its look-ups, its choices of what is
+//! free, and the changes by records. `SessionView` is one session of it, of fixed size. `PlainBook`
+//! is a book that is a vector of its sessions.
+//!
+//! The definitions of `specs/` read in this order: Searches (the first row that passes), Lookups,
+//! Tallies (what the code counts), Codes and Plain (how a plain book is kept).
+
+#![tactic(auto)]
+
+mod admissions;
+mod plain;
+mod representation;
+mod startups;
+mod tallies;
+mod views;
+
+pub use admissions::{Admissions, MOST_HOLDING};
+pub use plain::PlainBook;
+pub use representation::BookRep;
+pub use startups::Startup;
+pub use tallies::Tally;
+pub use views::SessionView;

@@ -1,0 +1,30 @@
+//! The URI of a presentation.
+
+ghost use Rattle.std.specs.Prelude.{◌≡◌, IfOk};
+ghost use Rattle.rtsp_state.specs.Notify.{media_uri};
+
+use crate::uri::{base_of, read_uri};
+use rtsp_grammar::Text;
+use std::alloc::{AllocError, Global};
+
+/// The URI of a presentation, as a request has it, and what the names of its tracks are joined to:
+/// the same without query and fragment, with one slash at its end.
+#[derive(Debug, Drop)]
+pub struct MediaUri {
+    pub text: Text,
+    pub base: Text,
+}
+
+impl MediaUri {
+    /// Reads a URI of the scheme `rtsp`, or gives `None` where the text is none.
+    pub fn read(alloc: Global, text: &[u8]) -> Result<Option<MediaUri>, AllocError>
+        ensures { IfOk result (λ found. found ≡ media_uri text.now) }
+    {
+        let Some(url) = read_uri(alloc, text)? else {
+            return Ok(None);
+        };
+        let base = Text::from_vec(base_of(alloc, &url)?);
+        let text = Text::from_slice(alloc, text)?;
+        Ok(Some(MediaUri { text, base }))
+    }
+}

@@ -1,0 +1,184 @@
+//! A track that is to be set up: what is known of its admission before anything is drawn, and the whole ask.
+
+ghost use Rattle.std.specs.Prelude.{◌≡◌};
+ghost use Rattle.rtsp_record.specs.Choices.{IsWish};
+ghost use Rattle.rtsp_state.specs.SetupPlan.{setup_start, key_of, opening_of, wanted_of, startup_of, stream_of, ask_of, WishesWell};
+
+use crate::response_start::ResponseStart;
+use crate::timing::Timing;
+use rtsp_book::{Ask, Opening, Startup, Wanted};
+use rtsp_record::Stream;
+use rtsp_transport::ChannelPair;
+
+/// A session, by its number in the book and its id on the wire.
+#[derive(Clone, Copy, Debug, PartialEq, Eq)]
+pub struct SessionKey {
+    pub session: u64,
+    pub id: u128,
+}
+
+/// The session that a track is set up in.
+#[derive(Clone, Copy, Debug)]
+pub enum SetupSession {
+    /// One that is opened: the moment at which it ends if nothing renews it, in milliseconds, and the startup number
+    /// that the client gave it (RFC 7826 section 18.33).
+    New { expires: u64, startup: Option<u32> },
+    /// One that lives.
+    Living(SessionKey),
+}
+
+/// How the packets of a track are sent to the player.
+#[derive(Clone, Copy, Debug)]
+pub enum Delivery {
+    /// By UDP, to these ports.
+    Udp { rtp_port: u16, rtcp_port: u16 },
+    /// Over the connection, on the even channel that the player wishes and the next, where it named one.
+    Interleaved { wish: Option<ChannelPair> },
+}
+
+/// A track that is to be set up, with what is known of it from the request and the table.
+#[derive(Clone, Copy, Debug)]
+pub struct SetupPlan {
+    pub cseq: u32,
+    pub session: SetupSession,
+    /// Bits per second.
+    pub rate: u64,
+    pub delivery: Delivery,
+    /// The track, by the places of its presentation and of itself in the table.
+    pub presentation: u16,
+    pub track: u16,
+    /// The player's IPv4 address.
+    pub peer: u32,
+    /// Seconds that a session lives without a request.
+    pub timeout: u32,
+    pub timing: Timing,
+}
+
+/// What is drawn for an admission: the connection's number, the session's key where one is opened (a living session
+/// keeps its own), the admission's number, and the words of the stream.
+#[derive(Clone, Copy, Debug)]
+pub struct Drawn {
+    pub conn: u64,
+    pub key: SessionKey,
+    pub admission: u64,
+    pub ssrc: u32,
+    pub seq: u16,
+    pub rtptime: u32,
+}
+
+// The channel of RTP that a player wishes.
+fn channel_of(wish: Option<ChannelPair>) -> Option<u8>
+    ensures value { result ≡ wish }
+    ensures wish { IsWish result }
+{
+    match wish {
+        Some(pair) => Some(pair.rtp()),
+        None => None,
+    }
+}
+
+impl SetupPlan {
+    /// What a response shows first where the track isn't set up.
+    pub fn start(&self) -> ResponseStart
+        ensures { result ≡ setup_start self.now }
+    {
+        let session = match self.session {
+            SetupSession::New { .. } => None,
+            SetupSession::Living(key) => Some(key.id),
+        };
+        ResponseStart {
+            cseq: self.cseq,
+            session,
+        }
+    }
+
+    /// The session that the track is set up in, where this key was drawn for a new one.
+    pub fn key(&self, drawn: SessionKey) -> SessionKey
+        ensures { result ≡ key_of self.now.session drawn }
+    {
+        match self.session {
+            SetupSession::New { .. } => drawn,
+            SetupSession::Living(key) => key,
+        }
+    }
+
+    // The session that is opened, where one is.
+    fn opening(&self, drawn: Drawn) -> Option<Opening>
+        ensures { result ≡ opening_of self.now.session drawn }
+    {
+        match self.session {
+            SetupSession::New { expires, .. } => Some(Opening {
+                id: drawn.key.id,
+                conn: drawn.conn,
+                expires,
+            }),
+            SetupSession::Living(_) => None,
+        }
+    }
+
+    // The startup number of the session that is opened.
+    fn startup(&self, conn: u64) -> Option<Startup>
+        ensures { result ≡ startup_of self.now.session conn }
+    {
+        match self.session {
+            SetupSession::New {
+                startup: Some(number),
+                ..
+            } => Some(Startup { conn, number }),
+            _ => None,
+        }
+    }
+
+    // The address that is asked for.
+    fn wanted(&self, conn: u64) -> Wanted
+        ensures value { result ≡ wanted_of self.now.delivery conn }
+        ensures wish { WishesWell result }
+    {
+        match self.delivery {
+            Delivery::Udp { .. } => Wanted::Pair,
+            Delivery::Interleaved { wish } => Wanted::Channels {
+                conn,
+                wish: channel_of(wish),
+            },
+        }
+    }
+
+    // The stream with its words.
+    fn stream(&self, drawn: Drawn) -> Stream
+        ensures { result ≡ stream_of self.now drawn }
+    {
+        let (rtp_port, rtcp_port) = match self.delivery {
+            Delivery::Udp {
+                rtp_port,
+                rtcp_port,
+            } => (rtp_port, rtcp_port),
+            Delivery::Interleaved { .. } => (0, 0),
+        };
+        Stream {
+            presentation: self.presentation,
+            track: self.track,
+            ssrc: drawn.ssrc,
+            seq: drawn.seq,
+            rtptime: drawn.rtptime,
+            peer: self.peer,
+            rtp_port,
+            rtcp_port,
+        }
+    }
+
+    /// The whole ask, once everything is drawn.
+    pub fn ask(&self, drawn: Drawn) -> Ask
+        ensures value { result ≡ ask_of self.now drawn }
+        ensures wish { WishesWell result.wanted }
+    {
+        Ask {
+            session: self.key(drawn.key).session,
+            admission: drawn.admission,
+            opening: self.opening(drawn),
+            rate: self.rate,
+            wanted: self.wanted(drawn.conn),
+            stream: self.stream(drawn),
+            startup: self.startup(drawn.conn),
+        }
+    }
+}

@@ -1,6 +1,0 @@
-use Rattle.std.proofs.Common.{arith}
-use Rattle.rtsp_transport.proofs.HexLemmas.{length-hex_text}
-use Rattle.rtsp_transport.proofs.granted.put_ssrc.Goals as goal
-
-pub returns-clause-succeeds : goal.returns-clause-succeeds
-returns-clause-succeeds c = λ room. c.put_hex.ensures.succeeds (omega (arith, room, length-hex_text 8 c.args.ssrc))

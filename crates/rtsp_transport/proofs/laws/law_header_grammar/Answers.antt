@@ -1,0 +1,5 @@
+use Rattle.rtsp_transport.proofs.LawLemmas.{header_grammar}
+use Rattle.rtsp_transport.proofs.laws.law_header_grammar.Goals as goal
+
+pub returns : goal.returns
+returns c = header_grammar

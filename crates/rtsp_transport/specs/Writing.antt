@@ -1,7 +1,0 @@
--- What a writer leaves behind what was there.
-use Rattle.std.specs.Prelude.{◌≡◌, ℕ, List, ◌++◌, length, take, Result, Ok, Err}
-
--- the text is at the end, or after an error some bytes are
-abbrev pub Appends : {E : Type 0} → Result (Unit {0}) E → List ℕ → List ℕ → List ℕ → Type 0
-Appends (Ok u) old new text = new ≡ old ++ text
-Appends (Err e) old new text = take (length old) new ≡ old

@@ -1,0 +1,123 @@
+-- The command line: the words after the program's name, as a command of `clap`, and what they ask for.
+use Rattle.std.specs.Prelude.{◌≡◌, ◌≢◌, ◌==◌, true, false, ℕ, List, [], codes, length, Bool, Option, Some, None, option_map, option_and_then, unwrap_or, MatchOption, bytes_eq, if◌then◌else◌}
+use Rattle.std.specs.List.{list_any}
+use Rattle.std.specs.Str.Parse.{digits_value, without_leading_plus}
+use Rattle.clap.specs.Words.{App, Row, Rule, Text, fault_of, subcommand_of, subcommand_rows_of, new_app, new_rule, with_rule, with_subcommand, first_of, one_of}
+use Rattle.clap.specs.Simple.{on_top}
+use Rattle.clap.specs.ValueTests.{accepts}
+use Rattle.clap.specs.declared.builder.ArgAction.TheVariants.{Set}
+use Rattle.clap.specs.declared.builder.value_parser.ValueParser.{ValueParser}
+use Rattle.clap.specs.declared.builder.value_parser.ValueParser.TheVariants.{Unsigned}
+use Rattle.clap.specs.declared.parser.matches.ArgMatches.{ArgMatches}
+use Rattle.rtspd.specs.declared.command_line.CommandLine.{CommandLine}
+use Rattle.rtspd.specs.declared.command_line.CommandLine.TheVariants.{Stdio, Audit}
+
+-- ---- the command
+
+-- an option with one value
+abbrev pub option_rule : Text → Rule
+option_rule name = record (new_rule name) { long = Some name; action = Some Set }
+
+-- the numbers that `u64` holds
+abbrev pub any_number : ValueParser
+any_number = Unsigned 0 18446744073709551615
+
+-- an option with one number
+abbrev pub number_rule : Text → Rule
+number_rule name = record (option_rule name) { parser = Some any_number }
+
+-- `stdio [--config FILE] [--journal OUT]`
+abbrev pub stdio : App
+stdio = with_rule (with_rule (new_app (codes "stdio")) (option_rule (codes "config"))) (option_rule (codes "journal"))
+
+-- the files of an audit
+abbrev pub audit_files : App
+audit_files = with_rule (with_rule (new_app (codes "audit"))
+    (option_rule (codes "config")))
+    (record (option_rule (codes "journal")) { required = true })
+
+-- and its numbers
+abbrev pub with_numbers : App → App
+with_numbers app = with_rule (with_rule (with_rule app
+    (number_rule (codes "back")))
+    (number_rule (codes "without-session")))
+    (number_rule (codes "without-admission"))
+
+-- `audit [--config FILE] --journal IN [--back N] [--without-session S] [--without-admission A]`
+abbrev pub audit : App
+audit = with_numbers audit_files
+
+-- the program, without its subcommands: a call for help is an unknown word, and a subcommand has to follow
+abbrev pub alone : App
+alone = on_top (λ s. record s {
+  no_binary_name = true;
+  disable_help_flag = true;
+  disable_help_subcommand = true;
+  subcommand_required = true;
+}) (new_app (codes "rtspd"))
+
+-- the program
+abbrev pub rtspd : App
+rtspd = with_subcommand (with_subcommand alone stdio.top) audit.top
+
+-- m is what `clap` makes of the words, and without it they are refused
+abbrev pub Says : List Text → Option ArgMatches → Type 0
+Says words m = MatchOption m (fault_of rtspd words ≢ [])
+    (λ m. (fault_of rtspd words ≡ []) × (subcommand_rows_of m ≡ subcommand_of rtspd words))
+
+-- ---- what the words ask for
+
+-- the number that `u64` reads of a text: one digit or more after at most one plus, of a value that fits
+abbrev pub number_of : Text → Option ℕ
+number_of text = if accepts false any_number text then Some (digits_value 10 (without_leading_plus text)) else None
+
+-- the number of an option, where it stands
+abbrev pub number_in : Text → List Row → Option ℕ
+number_in name rows = option_and_then number_of (one_of name rows)
+
+-- a command line, in texts and numbers: the configuration and the journal of each, and of an audit how many
+-- entries it undoes, and the session and the admission that it leaves out
+pub data Line : Type 0 where
+  stdio_line : Option Text → Option Text → Line
+  audit_line : Option Text → Text → ℕ → Option ℕ → Option ℕ → Line
+
+-- what a contract sees of a `CommandLine`
+abbrev pub line_view : CommandLine → Line
+line_view (Stdio config journal) = stdio_line (option_map (λ s. s.now) config) (option_map (λ s. s.now) journal)
+line_view (Audit config journal back without_session without_admission) =
+    audit_line (option_map (λ s. s.now) config) journal.now back without_session without_admission
+
+-- what the values of the options of `stdio` ask for
+abbrev pub stdio_in : List Row → Line
+stdio_in rows = stdio_line (first_of (codes "config") rows) (first_of (codes "journal") rows)
+
+-- and those of `audit`, with this journal; without `--back` nothing is undone
+abbrev pub audit_of : List Row → Text → Line
+audit_of rows journal = audit_line (first_of (codes "config") rows) journal
+    (unwrap_or (number_in (codes "back") rows) 0)
+    (number_in (codes "without-session") rows)
+    (number_in (codes "without-admission") rows)
+
+-- the same, with the journal that the options name
+abbrev pub audit_in : List Row → Option Line
+audit_in rows = option_map (audit_of rows) (first_of (codes "journal") rows)
+
+-- the line of a subcommand, by the values of its options
+abbrev pub line_in : Text → List Row → Option Line
+line_in name rows =
+    if bytes_eq name (codes "stdio") then Some (stdio_in rows)
+    else if bytes_eq name (codes "audit") then audit_in rows
+    else None
+
+-- one of the words is `--`
+abbrev pub has_dashes : List Text → Bool
+has_dashes words = list_any (λ w. bytes_eq w (codes "--")) words
+
+-- the line of the subcommand that the words name, where they are taken
+abbrev pub line_if : Bool → List Text → Option Line
+line_if true words = option_and_then (λ p. line_in p.0 p.1) (subcommand_of rtspd words)
+line_if false words = None
+
+-- the line that the words are: none where one of them is `--`, and none where `clap` refuses them
+abbrev pub line_of : List Text → Option Line
+line_of words = if has_dashes words then None else line_if (length (fault_of rtspd words) == 0) words
