@@ -101,7 +101,7 @@ quiet_pausing n s unit_ms now p =
 
 quiet_finishing : (n s unit_ms now : ℕ) (p : Phase) → Quiet n (finishing s unit_ms now p)
 quiet_finishing n s unit_ms now (Ready at sent) = tt
-quiet_finishing n s unit_ms now (Playing since from stop sent) = (refl, tt)
+quiet_finishing n s unit_ms now (Playing from stop sent since) = (refl, tt)
 quiet_finishing n s unit_ms now (Ended at sent) = tt
 
 quiet_touching : (n s expires until : ℕ) → Quiet n (touching s expires until)

@@ -1,6 +1,7 @@
 -- Which pairs a binder has before and after an admission.
 use Rattle.std.proofs.Common.{◌≡◌, ◌==◌, ℕ, Bool, true, false, ◌&&◌, ◌||◌, not, List, [], ◌∷◌, refl, sym, ◌∙◌, ap, subst, arith}
 use Rattle.std.specs.Prelude.{Option, Some, None}
+use Rattle.std.proofs.lemmas.Bool.{and_parts}
 use Rattle.std.proofs.lemmas.Bool.Decides.{nat_tests}
 use Rattle.rtsp_record.specs.declared.holdings.Thing.{Thing}
 use Rattle.rtsp_record.specs.declared.holdings.Thing.TheVariants.{Pair, Chan, Rate}
@@ -18,10 +19,6 @@ use Rattle.rtsp_admit.specs.Runs.{State, with_view, PairRefused, Tried, PairGran
 use Rattle.rtsp_admit.specs.Pairs.{is_pair, is_among, is_granted, ShowsPairs, RefusalsKeepPairs, AdmissionsGainPair}
 use Rattle.rtsp_admit.proofs.Breaking.{is_chan}
 use Rattle.rtsp_admit.proofs.Freeing.{commit_keeps}
-
-both : (v u : Bool) → (v && u) ≡ true → (v ≡ true) × (u ≡ true)
-both true u h = (refl, h)
-both false u h = absurd cc
 
 is_same : (n m : ℕ) → (n == m) ≡ true → n ≡ m
 is_same n m h = grind (arith, nat_tests)
@@ -89,7 +86,7 @@ module _ {B : Type 0} (calls : Calls B) (ask : Ask) (has : B → ℕ → ℕ →
       shows.unbound d.binder c ask.admission p release.call n q
       ∙ ap (λ v. v && not (is_pair ask.admission p n q)) (shows.bound b d.binder ask.admission p h.last.bound.call n q)
       ∙ add_take (has b n q) (is_pair ask.admission p n q) (λ is.
-      let parts = both (n == ask.admission) (q == p) is in ap (λ n. has b n q) (is_same n ask.admission parts.0) ∙ ap (λ q. has b ask.admission q) (is_same q p parts.1) ∙ none)
+      let parts = and_parts (n == ask.admission) (q == p) is in ap (λ n. has b n q) (is_same n ask.admission parts.0) ∙ ap (λ q. has b ask.admission q) (is_same q p parts.1) ∙ none)
       ∙ same n q
   same_released wanted.Pair (Chan c k) s d e h release n q = absurd h
   same_released wanted.Pair (Rate m) s d e h release n q = absurd h

@@ -192,50 +192,38 @@ pub record NoAddress (rs : List Record) (f : Session) (a : ℕ) (x : Option Thin
   pub upto : Upto x None (under session a)
   pub rate : (under session a).rate ≡ (under f a).rate
 
+-- an address is given back where it is held, and where it isn't there was none
+address_back : (s a : ℕ) (f : Session) (x : Option Thing) (t : Thing) → ((d : Admission) → freed t d ≡ record d { address = None }) → ((under f a).address ≡ Some t → is_held f a t ≡ true) → Upto x (Some t) (under f a) → NoAddress (taking_back s a f (Some t)) f a x
+address_back s a f x t frees_it held h =
+    elim (is_held f a t && not (has_stream_under f a)) as (λ v. (is_held f a t && not (has_stream_under f a)) ≡ v → NoAddress (cond v (frees s a t ∷ []) []) f a x) [
+      | true ↦ λ _.
+          let left : under (with_under f a (freed t (under f a))) a ≡ record (under f a) { address = None } = under-own f a (freed t (under f a)) ∙ frees_it (under f a) in
+          record {
+            session = with_under f a (freed t (under f a));
+            ends = refl;
+            upto = subst (Upto x None) (sym left) (record { rate = h.rate; address = inl refl; stream = h.stream });
+            rate = ap (λ (d : Admission). d.rate) left;
+          }
+      | false ↦ λ off. record {
+        session = f;
+        ends = refl;
+        upto = record {
+          rate = h.rate;
+          address = inl (⊎_elim (λ e. e) (λ e. absurd (not_both _ (both (is_held f a t) (has_stream_under f a) (held e) (ap is_some h.stream)) off)) h.address);
+          stream = h.stream;
+        };
+        rate = refl;
+      }
+    ] refl
+
+same_chan : (c k : ℕ) → (c == c && k == k) ≡ true
+same_chan c k = grind (arith, nat_tests)
+
 second_back : (s a : ℕ) (f : Session) (x y : Option Thing) → IsSecond y → Upto x y (under f a) → NoAddress (taking_back s a f y) f a x
 second_back s a f x None is h = record { session = f; ends = refl; upto = record { rate = h.rate; address = inl (either_none _ h.address); stream = h.stream }; rate = refl }
 second_back s a f x (Some (Rate n)) is h = absurd is
-second_back s a f x (Some (Pair p)) is h =
-    elim (is_held f a (Pair p) && not (has_stream_under f a)) as (λ v. (is_held f a (Pair p) && not (has_stream_under f a)) ≡ v → NoAddress (cond v (frees s a (Pair p) ∷ []) []) f a x) [
-      | true ↦ λ _. record {
-        session = with_under f a (freed (Pair p) (under f a));
-        ends = refl;
-        upto = subst (Upto x None) (sym (under-own f a (freed (Pair p) (under f a)))) (record { rate = h.rate; address = inl refl; stream = h.stream });
-        rate = ap (λ (d : Admission). d.rate) (under-own f a (freed (Pair p) (under f a)));
-      }
-      | false ↦ λ off. record {
-        session = f;
-        ends = refl;
-        upto = record {
-          rate = h.rate;
-          address = inl (⊎_elim (λ e. e) (λ e. absurd (not_both _ (both (is_held f a (Pair p)) (has_stream_under f a) (ap (is_this (Pair p)) e ∙ same_nat p) (ap is_some h.stream)) off)) h.address);
-          stream = h.stream;
-        };
-        rate = refl;
-      }
-    ] refl
-second_back s a f x (Some (Chan c k)) is h =
-    elim (is_held f a (Chan c k) && not (has_stream_under f a)) as (λ v. (is_held f a (Chan c k) && not (has_stream_under f a)) ≡ v → NoAddress (cond v (frees s a (Chan c k) ∷ []) []) f a x) [
-      | true ↦ λ _. record {
-        session = with_under f a (freed (Chan c k) (under f a));
-        ends = refl;
-        upto = subst (Upto x None) (sym (under-own f a (freed (Chan c k) (under f a)))) (record { rate = h.rate; address = inl refl; stream = h.stream });
-        rate = ap (λ (d : Admission). d.rate) (under-own f a (freed (Chan c k) (under f a)));
-      }
-      | false ↦ λ off. record {
-        session = f;
-        ends = refl;
-        upto = record {
-          rate = h.rate;
-          address = inl (⊎_elim (λ e. e) (λ e. absurd (not_both _ (both (is_held f a (Chan c k)) (has_stream_under f a) (ap (is_this (Chan c k)) e ∙ both_same c k) (ap is_some h.stream)) off)) h.address);
-          stream = h.stream;
-        };
-        rate = refl;
-      }
-    ] refl
-  where
-    both_same : (c k : ℕ) → (c == c && k == k) ≡ true
-    both_same c k = grind (arith, nat_tests)
+second_back s a f x (Some (Pair p)) is h = address_back s a f x (Pair p) (λ d. refl) (λ e. ap (is_this (Pair p)) e ∙ same_nat p) h
+second_back s a f x (Some (Chan c k)) is h = address_back s a f x (Chan c k) (λ d. refl) (λ e. ap (is_this (Chan c k)) e ∙ same_chan c k) h
 
 first_back : (s a : ℕ) (f g : Session) (x : Option Thing) → IsFirst x → Upto x None (under g a) → (under g a).rate ≡ (under f a).rate → (under f a).stream ≡ None → Within a None None (row_after (taking_back s a f x) (Some g))
 first_back s a f g None is h same stream = h

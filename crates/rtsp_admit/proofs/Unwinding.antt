@@ -1,7 +1,7 @@
 -- What a refused admission leaves.
 use Rattle.std.proofs.Common.{◌≡◌, ◌≢◌, ◌⊎◌, ℕ, ◌≤◌, Bool, true, false, ◌&&◌, not, cond, List, [], ◌∷◌, ◌++◌, length, drop, refl, sym, ◌∙◌, ap, subst, arith, le_refl, append-nil, inl, inr, ⊎_elim, Result, Ok, Err, ◌==◌}
 use Rattle.std.specs.Prelude.{Option, Some, None, is_none, option_map, filter}
-use Rattle.std.proofs.lemmas.Bool.{cases_eq, eq-eqb}
+use Rattle.std.proofs.lemmas.Bool.{and_parts, cases_eq, eq-eqb}
 use Rattle.std.proofs.lemmas.List.Elements.{filter-append}
 use Rattle.std.proofs.Math.Seq.{drop-append_seam}
 use Rattle.std.specs.FinMap.{get}
@@ -105,10 +105,6 @@ pub record Gone (s a : ℕ) (opened : Bool) (j : List Entry) : Type 0 where
   pub left : Left s a None None j
   pub gone : opened ≡ true → get (book_of j) s ≡ None
 
-and_first : (v u : Bool) → (v && u) ≡ true → v ≡ true
-and_first true u h = refl
-and_first false u h = absurd cc
-
 not_so : false ≡ true → ⊥
 not_so e = cc
 
@@ -141,7 +137,7 @@ unwound m ch answer v u h first second ev eu l = gone answer h
         let b = book_of acted.journal in
         let none : get b ch.session ≡ None =
         ⊎_elim
-        (λ e. none_is (get b ch.session) (and_first (is_none (get b ch.session)) (not (is_empty_chain ch)) (refused_is (is_none (get b ch.session) && not (is_empty_chain ch)) r (made v.whole b (step.Unwind ch)) e)))
+        (λ e. none_is (get b ch.session) (and_parts (is_none (get b ch.session)) (not (is_empty_chain ch)) (refused_is (is_none (get b ch.session) && not (is_empty_chain ch)) r (made v.whole b (step.Unwind ch)) e)).0)
         (λ e. absurd (not_so e.1))
         acted.answers in
         subst (Gone ch.session ch.admission ch.opened) (sym (acted.seen ∙ append-nil acted.journal)) (record {

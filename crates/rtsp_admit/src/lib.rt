@@ -26,6 +26,3 @@ pub use laws::{
     law_acts_use_drawn, law_admitted_keeps_drawn, law_admitted_pairs, law_drawn_is_unused,
     law_drawn_used_alone, law_faults_counted, law_refused, law_refused_pairs, law_refused_unused,
 };
-
-#[cfg(test)]
-mod tests;

@@ -99,54 +99,73 @@ zero_if false h = absurd (omega (arith, h))
 same_clash : (v u : Stream) (f : Session) → v.track ≡ u.track → v.presentation ≡ u.presentation → of_session (clashing v) f ≡ of_session (clashing u) f
 same_clash v u f t p = λ i. of_session (record nothing { stream = λ x. one_if (t i == x.track || not (p i == x.presentation)) }) f
 
-replaced : (w : Whole) (s a b : ℕ) (v u : Stream) (f : Session) (d : Admission) → SoundSession w f → MayCommit f a v → under f b ≡ d → d.stream ≡ Some u → u.track ≡ v.track → Adding s a v f (Some (b, d))
-replaced w s a b v u f d ok may is some track =
-    let there : (under f b).stream ≡ Some u = ap (λ (d : Admission). d.stream) is ∙ some in
-    let apart : a ≢ b = λ e. absurd (cc (sym may.no_stream ∙ ap (λ a. (under f a).stream) e ∙ there)) in
-    let place : v.presentation ≡ u.presentation = is_same v.presentation u.presentation (zero_if (v.presentation == u.presentation) (omega (arith, stream_counts (elsewhere v) f b u there, may.same_place))) in
-    let d1 = streaming None d in
-    let f1 = with_under f b d1 in
-    let same_a : under f1 a ≡ under f a = under-else f b a d1 apart in
-    let da = streaming (Some v) (under f1 a) in
-    let f2 = with_under f1 a da in
-    let at_b : under f2 b ≡ d1 = under-else f1 a b da (λ e. apart (sym e)) ∙ under-own f b d1 in
-    let d2 : Admission = record d1 { address = None } in
-    let f3 = with_under f2 b d2 in
-    let d3 : Admission = record d2 { rate = None } in
-    let f4 = with_under f3 b d3 in
-    let n1 = normal-under f b d1 ok.normal in
-    let n2 = normal-under f1 a da n1 in
-    let n3 = normal-under f2 b d2 n2 in
-    let none_left : of_session (clashing u) f1 ≡ 0 = omega (arith, row_balance (clashing u) (drops s b u) (Some f) (record { ready = may.ready; there = there }), ap (λ d. of_session (clashing u) (with_under f b (streaming None d))) is, ok.apart b u there, one_is _ (clash_itself u)) in
-    let add : Run (adds s a v ∷ []) f1 f2 = record {
-      own = (
-        record {
-          ready = may.ready;
-          rate = subst (λ (d : Admission). IsSome d.rate) (sym same_a) may.rate;
-          address = subst (λ (d : Admission). IsSome d.address) (sym same_a) may.address;
-          no_stream = ap (λ (d : Admission). d.stream) same_a ∙ may.no_stream;
-          no_clash = same_clash v u f1 (sym track) place ∙ none_left;
-        },
-        tt,
-      );
-      ends = refl;
-    } in
-    let back = run-append (freeing s b d.address) (freeing_rate s b d.rate) f2 f3 f4
-    (freeing_run s b f2 d1 n2 at_b refl (λ x h. (ok.in_whole b x (ap (λ (d : Admission). d.address) is ∙ h)).1))
-    (freeing_rate_run s b f3 d2 n3 (under-own f2 b d2) refl) in
-    record {
-      left = f4;
-      run = run-append (dropping s b d.stream) (adds s a v ∷ (freeing s b d.address ++ freeing_rate s b d.rate)) f f1 f4
-          (dropping_run s b f d may.ready ok.normal is)
-          (run-append (adds s a v ∷ []) (freeing s b d.address ++ freeing_rate s b d.rate) f1 f2 f4 add back);
-      binding = refl;
-    }
+-- the stream of another admission is taken down, and the new one is set up
+module _ (s a b : ℕ) (v u : Stream) (f : Session) (d : Admission) (may : MayCommit f a v) (is : under f b ≡ d) (some : d.stream ≡ Some u) (track : u.track ≡ v.track) where
+  there : (under f b).stream ≡ Some u
+  there = ap (λ (d : Admission). d.stream) is ∙ some
+
+  apart : a ≢ b
+  apart = λ e. absurd (cc (sym may.no_stream ∙ ap (λ a. (under f a).stream) e ∙ there))
+
+  -- the session without the old stream, and with the new one
+  abbrev downed : Session
+  downed = with_under f b (streaming None d)
+
+  same_under : under downed a ≡ under f a
+  same_under = under-else f b a (streaming None d) apart
+
+  abbrev upped : Session
+  upped = with_under downed a (streaming (Some v) (under downed a))
+
+  no_clash_left : (w : Whole) → SoundSession w f → of_session (clashing v) downed ≡ 0
+  no_clash_left w ok =
+      let place : v.presentation ≡ u.presentation = is_same v.presentation u.presentation (zero_if (v.presentation == u.presentation) (omega (arith, stream_counts (elsewhere v) f b u there, may.same_place))) in
+      let none_left : of_session (clashing u) downed ≡ 0 = omega (arith, row_balance (clashing u) (drops s b u) (Some f) (record { ready = may.ready; there = there }), ap (λ d. of_session (clashing u) (with_under f b (streaming None d))) is, ok.apart b u there, one_is _ (clash_itself u)) in
+      same_clash v u downed (sym track) place ∙ none_left
+
+  add_run : of_session (clashing v) downed ≡ 0 → Run (adds s a v ∷ []) downed upped
+  add_run no_clash = record {
+    own = (
+      record {
+        ready = may.ready;
+        rate = subst (λ (d : Admission). IsSome d.rate) (sym same_under) may.rate;
+        address = subst (λ (d : Admission). IsSome d.address) (sym same_under) may.address;
+        no_stream = ap (λ (d : Admission). d.stream) same_under ∙ may.no_stream;
+        no_clash = no_clash;
+      },
+      tt,
+    );
+    ends = refl;
+  }
+
+  -- what the old admission held is free again
+  replaced : (w : Whole) → SoundSession w f → Adding s a v f (Some (b, d))
+  replaced w ok =
+      let d1 = streaming None d in
+      let da = streaming (Some v) (under downed a) in
+      let d2 : Admission = record d1 { address = None } in
+      let f3 = with_under upped b d2 in
+      let d3 : Admission = record d2 { rate = None } in
+      let f4 = with_under f3 b d3 in
+      let n2 = normal-under downed a da (normal-under f b d1 ok.normal) in
+      let n3 = normal-under upped b d2 n2 in
+      let at_b : under upped b ≡ d1 = under-else downed a b da (λ e. apart (sym e)) ∙ under-own f b d1 in
+      let back = run-append (freeing s b d.address) (freeing_rate s b d.rate) upped f3 f4
+      (freeing_run s b upped d1 n2 at_b refl (λ x h. (ok.in_whole b x (ap (λ (d : Admission). d.address) is ∙ h)).1))
+      (freeing_rate_run s b f3 d2 n3 (under-own upped b d2) refl) in
+      record {
+        left = f4;
+        run = run-append (dropping s b d.stream) (adds s a v ∷ (freeing s b d.address ++ freeing_rate s b d.rate)) f downed f4
+            (dropping_run s b f d may.ready ok.normal is)
+            (run-append (adds s a v ∷ []) (freeing s b d.address ++ freeing_rate s b d.rate) downed upped f4 (add_run (no_clash_left w ok)) back);
+        binding = refl;
+      }
 
 the_track : (w : Whole) (s a : ℕ) (v : Stream) (f : Session) (e : ℕ × Admission) → SoundSession w f → MayCommit f a v → under f e.0 ≡ e.1 → is_of_track v.track e ≡ true → Adding s a v f (Some e)
 the_track w s a v f e ok may is track =
     elim (e.1.stream) as (λ o. e.1.stream ≡ o → is_track v.track o ≡ true → Adding s a v f (Some e)) [
       | None ↦ λ _ h. absurd cc
-      | Some u ↦ λ some h. replaced w s a e.0 v u f e.1 ok may is some (is_same u.track v.track h)
+      | Some u ↦ λ some h. replaced s a e.0 v u f e.1 may is some (is_same u.track v.track h) w ok
     ] refl track
 
 pub adding_run : (w : Whole) (s a : ℕ) (v : Stream) (f : Session) → SoundSession w f → MayCommit f a v → Adding s a v f (first_with (is_of_track v.track) (entries f.admissions))

@@ -130,7 +130,7 @@ zero_is n h = grind (arith, nat_tests)
 
 is_at_opening : (p : Phase) → is_opening p ≡ true → p ≡ opening
 is_at_opening (Ready at sent) h = let parts = and_parts (at == 0) (sent == 0) h in λ i. Ready (zero_is at parts.0 i) (zero_is sent parts.1 i)
-is_at_opening (Playing since from stop sent) h = absurd cc
+is_at_opening (Playing from stop sent since) h = absurd cc
 is_at_opening (Ended at sent) h = absurd cc
 
 resetting_run : (s : ℕ) (f : Session) → Run (resetting s f.phase) f (record f { phase = opening })

@@ -47,6 +47,8 @@ use Rattle.rtsp_record.proofs.Strands.{row_after}
 use Rattle.rtsp_book.proofs.Runs.{OwnAll, own-append, Lone, Giving, all_lone, lone_allowed, lone_row, fine-append, owed_given}
 use Rattle.rtsp_book.proofs.Ending.{giving_run, ending_own, giving_under, giving_unbinding, giving_ending}
 use Rattle.rtsp_record.proofs.Choices.{chosen_pair, chosen_chan_free}
+use Rattle.rtsp_book.proofs.Tests.{none_there, some_there, turned, no_more, some_more, ready_is}
+use Rattle.rtsp_book.proofs.TakenBack.{own_return, two_back}
 use Rattle.rtsp_book.proofs.Committing.{first_found, MayCommit, Adding, adding_run, lone_adding, lone_bound}
 
 -- no refusal fits
@@ -89,33 +91,6 @@ accepted c rs qs h =
     ok_same : (rs qs : List Record) → ◌≡◌ {A = Result (List Record) Refusal} (Ok rs) (Ok qs) → rs ≡ qs
     ok_same rs qs h = cc
 
-pub none_there : {A : Type 0} (o : Option A) → is_some o ≡ false → o ≡ None
-none_there None h = refl
-none_there (Some x) h = absurd cc
-
-pub some_there : {A : Type 0} (o : Option A) → is_none o ≡ false → IsSome o
-some_there None h = absurd cc
-some_there (Some x) h = refl
-
-pub turned : (a : Bool) → not a ≡ false → a ≡ true
-turned true h = refl
-turned false h = absurd cc
-
-turned_off : (a : Bool) → not a ≡ true → a ≡ false
-turned_off true h = absurd cc
-turned_off false h = refl
-
-pub no_more : (n : ℕ) → nat_lt 0 n ≡ false → n ≡ 0
-no_more n h = grind (arith, nat_tests)
-
-pub some_more : (n : ℕ) → nat_lt 0 n ≡ true → 0 < n
-some_more n h = grind (arith, nat_tests)
-
-pub ready_is : (p : Phase) → is_ready p ≡ true → IsReady p
-ready_is (Ready at sent) h = tt
-ready_is (Playing since from stop sent) h = absurd cc
-ready_is (Ended at sent) h = absurd cc
-
 not_full : (w : Whole) (n : ℕ) (b : Book) (rs : List Record) → n + owed b ≤ w.journal → is_full w n b rs ≡ false → n + length rs + owed (after_all b rs) ≤ w.journal
 not_full w n b [] room h = omega (arith, room)
 not_full w n b (r ∷ rs) room h = grind (arith, nat_tests)
@@ -144,67 +119,6 @@ module _ (w : Whole) (n : ℕ) (b : Book) (ok : Sound w b) (room : n + owed b �
   -- of one record that asks nothing of others
   lone_one : (s : ℕ) (r : Record) → Lone s r → Own r (get b s) → is_full w n b (r ∷ []) ≡ false → IsGranted w n b (r ∷ [])
   lone_one s r l h full = record { allowed = lone_allowed w s b (r ∷ []) (l, tt) (h, tt); room = not_full w n b (r ∷ []) room full }
-
-  same_thing : (x y : Thing) → is_same_thing y x ≡ true → y ≡ x
-  same_thing (Pair p) (Pair q) h = ap Pair (grind (arith, nat_tests))
-  same_thing (Chan c k) (Chan d l) h = let parts = and_parts (d == c) (l == k) h in let one : d ≡ c = grind (arith, nat_tests) in let two : l ≡ k = grind (arith, nat_tests) in λ i. Chan (one i) (two i)
-  same_thing (Rate m) (Rate k) h = ap Rate (grind (arith, nat_tests))
-  same_thing x y h = absurd cc
-
-  pub held_is : (f : Session) (a : ℕ) (x : Thing) → is_held f a x ≡ true → alike x (under f a) ≡ Some x
-  held_is f a x h = elim (alike x (under f a)) as (λ o. is_this x o ≡ true → o ≡ Some x) [ None ↦ λ h. absurd cc | Some y ↦ λ h. ap Some (same_thing x y h) ] h
-
-  own_free : (s a : ℕ) (x : Thing) (f : Session) → is_held f a x ≡ true → has_stream_under f a ≡ false → Own (frees s a x) (Some f)
-  own_free s a x f held off = record { held = held_is f a x held; no_stream = none_there (under f a).stream off }
-
-  own_return : (s a : ℕ) (x : Thing) (o : Option Session) → is_none o ≡ false → if_living o (λ f. has_stream_under f a) ≡ false → if_living o (λ f. not (is_held f a x)) ≡ false → Own (frees s a x) o
-  own_return s a x None lives right held = absurd cc
-  own_return s a x (Some f) lives right held = own_free s a x f (turned (is_held f a x) held) right
-
-  -- a second thing is still held when the first is freed
-  still_held : (x y : Thing) (d : Admission) → x ≢ y → alike x d ≡ Some x → alike y d ≡ Some y → alike y (freed x d) ≡ Some y
-  still_held (Rate m) (Rate k) d apart hx hy = absurd (apart (let same : ◌≡◌ {A = Option Thing} (Some (Rate m)) (Some (Rate k)) = sym hx ∙ hy in cc))
-  still_held (Rate m) (Pair q) d apart hx hy = hy
-  still_held (Rate m) (Chan c l) d apart hx hy = hy
-  still_held (Pair p) (Rate k) d apart hx hy = hy
-  still_held (Pair p) (Pair q) d apart hx hy = absurd (apart (let same : ◌≡◌ {A = Option Thing} (Some (Pair p)) (Some (Pair q)) = sym hx ∙ hy in cc))
-  still_held (Pair p) (Chan c l) d apart hx hy = absurd (let same : ◌≡◌ {A = Option Thing} (Some (Pair p)) (Some (Chan c l)) = sym hx ∙ hy in cc)
-  still_held (Chan c k) (Rate m) d apart hx hy = hy
-  still_held (Chan c k) (Pair q) d apart hx hy = absurd (let same : ◌≡◌ {A = Option Thing} (Some (Chan c k)) (Some (Pair q)) = sym hx ∙ hy in cc)
-  still_held (Chan c k) (Chan d' l) d apart hx hy = absurd (apart (let same : ◌≡◌ {A = Option Thing} (Some (Chan c k)) (Some (Chan d' l)) = sym hx ∙ hy in cc))
-
-  -- Free of one Hold of a chain, where it is held and has no stream
-  one_back : (s a : ℕ) (f : Session) (o : Option Thing) → OwnAll (taking_back s a f o) (Some f) × AllFine (Giving s) (taking_back s a f o)
-  one_back s a f None = (tt, tt)
-  one_back s a f (Some x) =
-      elim (is_held f a x && not (has_stream_under f a)) as (λ t. (is_held f a x && not (has_stream_under f a)) ≡ t → OwnAll (cond t (frees s a x ∷ []) []) (Some f) × AllFine (Giving s) (cond t (frees s a x ∷ []) [])) [
-        | true ↦ λ is. let parts = and_parts (is_held f a x) (not (has_stream_under f a)) is in ((own_free s a x f parts.0 (turned_off (has_stream_under f a) parts.1), tt), (refl, tt))
-        | false ↦ λ _. (tt, tt)
-      ] refl
-
-  two_back : (s a : ℕ) (f : Session) (first second : Option Thing) → AreDifferent first second → OwnAll (taking_back s a f second ++ taking_back s a f first) (Some f) × AllFine (Giving s) (taking_back s a f second ++ taking_back s a f first)
-  two_back s a f first None apart = one_back s a f first
-  two_back s a f None (Some y) apart =
-      let one = one_back s a f (Some y) in
-      (own-append (taking_back s a f (Some y)) [] (Some f) one.0 tt, fine-append (Giving s) (taking_back s a f (Some y)) [] one.1 tt)
-  two_back s a f (Some x) (Some y) apart =
-      elim (is_held f a y && not (has_stream_under f a)) as (λ t. (is_held f a y && not (has_stream_under f a)) ≡ t → OwnAll (cond t (frees s a y ∷ []) [] ++ taking_back s a f (Some x)) (Some f) × AllFine (Giving s) (cond t (frees s a y ∷ []) [] ++ taking_back s a f (Some x))) [
-        | false ↦ λ _. one_back s a f (Some x)
-        | true ↦ λ is.
-            let parts = and_parts (is_held f a y) (not (has_stream_under f a)) is in
-            let off = turned_off (has_stream_under f a) parts.1 in
-            let d = freed y (under f a) in
-            elim (is_held f a x && not (has_stream_under f a)) as (λ t. (is_held f a x && not (has_stream_under f a)) ≡ t → OwnAll (frees s a y ∷ cond t (frees s a x ∷ []) []) (Some f) × AllFine (Giving s) (frees s a y ∷ cond t (frees s a x ∷ []) [])) [
-              | false ↦ λ _. ((own_free s a y f parts.0 off, tt), (refl, tt))
-              | true ↦ λ is2.
-                  let held_x = held_is f a x (and_parts (is_held f a x) (not (has_stream_under f a)) is2).0 in
-                  let again : Own (frees s a x) (Some (with_under f a d)) = record {
-                    held = ap (alike x) (under-own f a d) ∙ still_held y x (under f a) (λ e. apart (sym e)) (held_is f a y parts.0) held_x;
-                    no_stream = ap (λ (d : Admission). d.stream) (under-own f a d) ∙ freed_stream y (under f a) ∙ none_there (under f a).stream off;
-                  } in
-                  ((own_free s a y f parts.0 off, (again, tt)), (refl, (refl, tt)))
-            ] refl
-      ] refl
 
   pub unwound : (ch : Chain) (f : Session) → get b ch.session ≡ Some f → AreDifferent ch.first ch.second → OwnAll (unwinding ch f) (Some f) × AllFine (Giving ch.session) (unwinding ch f)
   unwound ch f is apart =
@@ -293,9 +207,9 @@ module _ (w : Whole) (n : ℕ) (b : Book) (ok : Sound w b) (room : n + owed b �
 
   finished : (s unit_ms now : ℕ) (f : Session) (p : Phase) → get b s ≡ Some f → f.phase ≡ p → is_full w n b (finishing s unit_ms now p) ≡ false → IsGranted w n b (finishing s unit_ms now p)
   finished s unit_ms now f (Ready at sent) is same full = nothing_made
-  finished s unit_ms now f (Playing since from stop sent) is same full =
-      lone_one s (moves s (Playing since from stop sent) (Ended stop (sent_with_due (Playing since from stop sent) unit_ms now))) refl
-      (subst (Own (moves s (Playing since from stop sent) (Ended stop (sent_with_due (Playing since from stop sent) unit_ms now)))) (sym is) (record { phase = same; stream = λ p. absurd p })) full
+  finished s unit_ms now f (Playing from stop sent since) is same full =
+      lone_one s (moves s (Playing from stop sent since) (Ended stop (sent_with_due (Playing from stop sent since) unit_ms now))) refl
+      (subst (Own (moves s (Playing from stop sent since) (Ended stop (sent_with_due (Playing from stop sent since) unit_ms now)))) (sym is) (record { phase = same; stream = λ p. absurd p })) full
   finished s unit_ms now f (Ended at sent) is same full = nothing_made
 
   touched : (s until : ℕ) (f : Session) → get b s ≡ Some f → is_full w n b (touching s f.expires until) ≡ false → IsGranted w n b (touching s f.expires until)

@@ -1,6 +1,8 @@
 pub mod Runs
 pub mod Ending
 pub mod Committing
+pub mod Tests
+pub mod TakenBack
 pub mod Granted
 pub mod Giving
 pub mod Freed

@@ -27,7 +27,8 @@ use Rattle.rtsp_book.specs.Replies.{is_wrong_hold, is_wrong_commit, is_startup_t
 use Rattle.rtsp_book.specs.Laws.{IsGranted, GivesBack}
 use Rattle.rtsp_record.proofs.Trims.{AllFine}
 use Rattle.rtsp_record.proofs.Back.{after_all-append}
-use Rattle.rtsp_book.proofs.Granted.{accepted, none_there, no_more, made_granted, own_hold, committed}
+use Rattle.rtsp_book.proofs.Tests.{none_there, no_more}
+use Rattle.rtsp_book.proofs.Granted.{accepted, made_granted, own_hold, committed}
 use Rattle.rtsp_record.specs.Sound.{SoundRow, Sound}
 use Rattle.rtsp_book.specs.Returns.{ending}
 use Rattle.rtsp_book.proofs.Committing.{first_found}

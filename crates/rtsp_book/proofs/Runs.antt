@@ -17,6 +17,7 @@ use Rattle.rtsp_record.proofs.Tables.{get-set_own}
 use Rattle.rtsp_record.proofs.Balance.{gain, balance}
 use Rattle.rtsp_record.proofs.Strands.{row_after}
 use Rattle.rtsp_record.proofs.Trims.{AllFine}
+use Rattle.rtsp_sessions.proofs.SortedRows.{both_parts}
 
 -- each is allowed by the session's own row after those before it
 abbrev pub OwnAll : List Record → Option Session → Type 0
@@ -143,10 +144,6 @@ owed_given w s b [] g h = omega arith
 owed_given w s b (r ∷ rs) g h = omega (arith, owed_given w s (after b r) rs g.1 h.1, balance returns b r h.0.0, settles s r g.0)
 
 -- Rows of a table one after another.
-
-both_parts : (a b : Bool) → T (a && b) → T a × T b
-both_parts true b h = (tt, h)
-both_parts false b h = absurd h
 
 not_eq : (r : Ordering) → T (is_lt r) → is_eq r ≡ false
 not_eq Less h = refl

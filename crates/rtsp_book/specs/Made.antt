@@ -73,7 +73,7 @@ start_of (Some from) p unit_ms now = from
 
 -- the phase that a play begins
 abbrev pub begun : Play → Phase → Phase
-begun d p = Playing d.now (start_of d.from p d.unit_ms d.now) d.stop (sent_with_due p d.unit_ms d.now)
+begun d p = Playing (start_of d.from p d.unit_ms d.now) d.stop (sent_with_due p d.unit_ms d.now) d.now
 
 -- Move to Playing
 abbrev pub playing : Play → Phase → List Record
@@ -86,13 +86,13 @@ pausing s unit_ms now p = if is_ready p then [] else moves s p (Ready (point p u
 -- Move to Ended
 abbrev pub finishing : ℕ → ℕ → ℕ → Phase → List Record
 finishing s unit_ms now (Ready at sent) = []
-finishing s unit_ms now (Playing since from stop sent) = moves s (Playing since from stop sent) (Ended stop (sent_with_due (Playing since from stop sent) unit_ms now)) ∷ []
+finishing s unit_ms now (Playing from stop sent since) = moves s (Playing from stop sent since) (Ended stop (sent_with_due (Playing from stop sent since) unit_ms now)) ∷ []
 finishing s unit_ms now (Ended at sent) = []
 
 -- the play isn't at its end
 abbrev pub is_unfinished : Phase → ℕ → ℕ → Bool
 is_unfinished (Ready at sent) unit_ms now = false
-is_unfinished (Playing since from stop sent) unit_ms now = nat_lt (due (Playing since from stop sent) unit_ms now) (stop - from)
+is_unfinished (Playing from stop sent since) unit_ms now = nat_lt (due (Playing from stop sent since) unit_ms now) (stop - from)
 is_unfinished (Ended at sent) unit_ms now = false
 
 -- Touch where it is later

@@ -7,6 +7,8 @@ use Rattle.rtsp_record.specs.declared.phases.Phase.TheVariants.{Ready}
 use Rattle.rtsp_record.specs.declared.streams.Stream.{Stream}
 use Rattle.rtsp_record.specs.declared.holdings.Whole.{Whole}
 use Rattle.rtsp_record.specs.declared.changes.Record.{Record}
+use Rattle.rtsp_record.specs.declared.changes.Record.TheVariants.{Hold}
+use Rattle.rtsp_record.specs.declared.payloads.Holding.{Holding}
 use Rattle.rtsp_record.specs.declared.changes.Entry.{Entry}
 use Rattle.rtsp_sessions.specs.declared.startups.Startup.{Startup}
 use Rattle.rtsp_book.specs.declared.steps.Chain.{Chain}
@@ -157,6 +159,13 @@ answered c rs =
 -- the answer after n entries with this book
 abbrev pub answer : Whole → ℕ → Book → Step → Result (List Record) Refusal
 answer w n b step = answered (refusals w n b step) (made w b step)
+
+-- the answer where a living session is to hold a thing that is free
+abbrev pub hold_answer : Whole → ℕ → Book → Holding → Session → Result (List Record) Refusal
+hold_answer w n b h f =
+    if is_wrong_hold h.admission h.thing f then Err WrongState
+    else if is_full w n b (Hold h ∷ []) then Err JournalFull
+    else Ok (Hold h ∷ [])
 
 -- the records of a step, or its refusal
 abbrev pub reply : Whole → List Entry → Step → Result (List Record) Refusal

@@ -9,13 +9,13 @@ use Rattle.rtsp_record.specs.Sums.{of_session, streams}
 -- the session is Ready
 abbrev pub is_ready : Phase → Bool
 is_ready (Ready at sent) = true
-is_ready (Playing since from stop sent) = false
+is_ready (Playing from stop sent since) = false
 is_ready (Ended at sent) = false
 
 -- the session is Playing
 abbrev pub is_playing : Phase → Bool
 is_playing (Ready at sent) = false
-is_playing (Playing since from stop sent) = true
+is_playing (Playing from stop sent since) = true
 is_playing (Ended at sent) = false
 
 -- a stream stands under the admission

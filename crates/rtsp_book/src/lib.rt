@@ -28,6 +28,3 @@ pub use refusals::Refusal;
 pub use rtsp_record::Life;
 pub use rtsp_sessions::{Admissions, BookRep, PlainBook, SessionView, Startup, Tally};
 pub use steps::{Chain, ChannelHold, Commit, Play, Step};
-
-#[cfg(test)]
-mod tests;

@@ -7,13 +7,12 @@ use Rattle.rtsp_content.specs.TrackValue.{TrackValue}
 use Rattle.rtsp_content.specs.PresentationValue.{PresentationValue}
 
 -- version, origin, name, connection, time, control, and the range from 0 to the length in seconds (RFC 7826, appendix D)
-unfoldable pub session_text : PresentationValue → List ℕ
-session_text p =
-    let ms = p.units * p.unit_ms in
+unfoldable pub session_text : List ℕ → ℕ → List ℕ
+session_text name ms =
     concat (
     codes "v=0\r\n" ∷
     codes "o=- 1 1 IN IP4 127.0.0.1\r\n" ∷
-    codes "s=" ∷ p.name ∷ codes "\r\n" ∷
+    codes "s=" ∷ name ∷ codes "\r\n" ∷
     codes "c=IN IP4 0.0.0.0\r\n" ∷
     codes "t=0 0\r\n" ∷
     codes "a=control:*\r\n" ∷
@@ -29,4 +28,4 @@ track_text t =
 
 -- the whole, and then the tracks in order
 unfoldable pub sdp_of : PresentationValue → List ℕ
-sdp_of p = session_text p ++ flat_map track_text p.tracks
+sdp_of p = session_text p.name (p.units * p.unit_ms) ++ flat_map track_text p.tracks

@@ -16,10 +16,6 @@ mod track;
 pub use fault::TableFault;
 pub use found::Found;
 pub use presentation::Presentation;
-pub use sdp::write_sdp;
 pub use server::Server;
 pub use table::Table;
 pub use track::{Media, Track};
-
-#[cfg(test)]
-mod tests;

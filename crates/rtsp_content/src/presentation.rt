@@ -4,10 +4,12 @@ ghost use Rattle.std.specs.Prelude.{◌≡◌, ◌≤◌, ◌*◌, true, length,
 ghost use Rattle.rtsp_content.specs.Distinct.{AreDistinct};
 ghost use Rattle.rtsp_content.specs.TrackValue.{track_names};
 ghost use Rattle.rtsp_content.specs.Form.{is_name};
-ghost use Rattle.rtsp_content.specs.Limits.{max_units, max_unit_ms, max_tracks};
+ghost use Rattle.rtsp_content.specs.Limits.{max_units, max_tracks};
+ghost use Rattle.rtsp_content.specs.Sdp.{sdp_of};
 ghost use Rattle.rtsp_content.specs.Rate.{rate_of, IsRate};
 
 use crate::track::Track;
+use rtsp_npt::UnitLength;
 use std::marker::Model;
 
 /// Tracks that are played together, in units of one length: each track has one packet a unit.
@@ -15,11 +17,15 @@ use std::marker::Model;
 pub struct Presentation {
     pub(crate) name: String,
     pub(crate) units: u32,
-    pub(crate) unit_ms: u32,
+    pub(crate) unit_ms: UnitLength,
     pub(crate) tracks: Vec<Track>,
+    // Its description, made once.
+    pub(crate) sdp: Vec<u8>,
 }
 
 impl Model for Presentation {
+    ghost use Rattle.std.specs.Prelude.{◌≡◌};
+    ghost use Rattle.rtsp_content.specs.Sdp.{sdp_of};
     ghost use Rattle.rtsp_content.specs.PresentationValue.{PresentationValue, IsPresentationWithin};
 
     ghost Value = { PresentationValue };
@@ -28,7 +34,8 @@ impl Model for Presentation {
 
     ghost view = { presentation_value };
 
-    ghost invariant = { λ p. IsPresentationWithin (presentation_value p) };
+    ghost invariant = { λ p. IsPresentationWithin (presentation_value p)
+        × (p.sdp.items ≡ sdp_of (presentation_value p)) };
 }
 
 impl Presentation {
@@ -49,11 +56,9 @@ impl Presentation {
         self.units
     }
 
-    /// How many milliseconds a unit lasts.
-    pub fn unit_ms(&self) -> u32
-        ensures value { result ≡ self.now.unit_ms }
-        ensures least { 1 ≤ result }
-        ensures most { result ≤ max_unit_ms }
+    /// How long a unit lasts.
+    pub fn unit_ms(&self) -> UnitLength
+        ensures { result ≡ self.now.unit_ms }
     {
         self.unit_ms
     }
@@ -62,7 +67,7 @@ impl Presentation {
     pub fn length_ms(&self) -> u64
         ensures { result ≡ self.now.units * self.now.unit_ms }
     {
-        u64::from(self.units) * u64::from(self.unit_ms)
+        u64::from(self.units) * u64::from(self.unit_ms.ms())
     }
 
     /// The tracks in the order of the configuration.
@@ -82,12 +87,19 @@ impl Presentation {
         self.tracks.get(usize::from(index))
     }
 
+    /// Its description in SDP (RFC 4566, RFC 7826 appendix D).
+    pub fn sdp(&self) -> &[u8]
+        ensures { result.now ≡ sdp_of self.now }
+    {
+        self.sdp.as_slice()
+    }
+
     /// The bits per second of a stream of one of its tracks: a packet for each unit, with 40 bytes
     /// of headers.
     pub fn rate(&self, track: &Track) -> u64
         ensures value { result ≡ rate_of self.now.unit_ms track.now.octets }
         ensures least { IsRate self.now.unit_ms track.now.octets result }
     {
-        ((u64::from(track.octets()) + 40) * 8000).div_ceil(u64::from(self.unit_ms))
+        ((u64::from(track.octets()) + 40) * 8000).div_ceil(u64::from(self.unit_ms.ms()))
     }
 }

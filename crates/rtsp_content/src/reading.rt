@@ -21,7 +21,9 @@ use crate::limits::{
     MAX_CLOCK, MAX_OCTETS, MAX_PAYLOAD_TYPE, MAX_TICKS, MAX_TRACKS, MAX_UNIT_MS, MAX_UNITS,
 };
 use crate::presentation::Presentation;
+use crate::sdp::sdp_of;
 use crate::track::{Media, Track};
+use rtsp_npt::UnitLength;
 use std::alloc::Global;
 use toml::value::Array;
 use toml::{Table, Value};
@@ -126,14 +128,17 @@ fn read_presentation(
         !has_presentation(name.as_str(), before),
         TableFault::Duplicate,
     )?;
-    let units = number_at(table, "units", 1, MAX_UNITS)?;
-    let unit_ms = number_at(table, "unit_ms", 1, MAX_UNIT_MS)?;
+    let units = number_at(table, "units", 1, MAX_UNITS)? as u32;
+    let unit_ms = UnitLength::new(number_at(table, "unit_ms", 1, MAX_UNIT_MS)? as u32);
     let tracks = read_tracks(alloc, list_at(table, "track", MAX_TRACKS)?)?;
+    let length_ms = u64::from(units) * u64::from(unit_ms.ms());
+    let sdp = sdp_of(alloc, name.as_str(), length_ms, &tracks)?;
     Ok(Presentation {
         name,
-        units: units as u32,
-        unit_ms: unit_ms as u32,
+        units,
+        unit_ms,
         tracks,
+        sdp,
     })
 }
 

@@ -1,23 +1,18 @@
 //! The description of a presentation in SDP.
 
-ghost use Rattle.std.specs.Prelude.{◌≡◌, ◌++◌, ◌≤◌, vec_capacity, OnOk, OnErr, IsOk};
-ghost use Rattle.rtsp_text.specs.Appending.{HasRoom};
-ghost use Rattle.rtsp_content.specs.Sdp.{session_text, track_text, sdp_of};
+ghost use Rattle.std.specs.Prelude.{◌≡◌, ◌++◌, IfOk, OnOk};
+ghost use Rattle.std.specs.List.{flat_map};
+ghost use Rattle.rtsp_content.specs.Sdp.{session_text, track_text};
 
-use crate::presentation::Presentation;
 use crate::track::Track;
 use itoa::Buffer;
 use rtsp_text::{append_all, three_digits};
-use std::alloc::AllocError;
+use std::alloc::{AllocError, Global};
 
 #[tactic(auto, unfolding(crate::specs::Sdp::session_text))]
-fn append_session(out: &mut Vec<u8>, presentation: &Presentation) -> Result<(), AllocError>
-    ensures ok { OnOk result (out.new.items ≡ out.old.items ++ session_text presentation.now) }
-    ensures err { OnErr result (out.new.items ≡ out.old.items) }
-    ensures capacity { vec_capacity out.old ≤ vec_capacity out.new }
-    ensures succeeds { HasRoom out.old (session_text presentation.now) → IsOk result }
+fn append_session(out: &mut Vec<u8>, name: &str, length_ms: u64) -> Result<(), AllocError>
+    ensures { OnOk result (out.new.items ≡ out.old.items ++ session_text name.now length_ms) }
 {
-    let length_ms = presentation.length_ms();
     let mut seconds = Buffer::new();
     let seconds = seconds.format(length_ms / 1000);
     let decimals = three_digits(length_ms);
@@ -27,7 +22,7 @@ fn append_session(out: &mut Vec<u8>, presentation: &Presentation) -> Result<(), 
             b"v=0\r\n",
             b"o=- 1 1 IN IP4 127.0.0.1\r\n",
             b"s=",
-            presentation.name().as_bytes(),
+            name.as_bytes(),
             b"\r\n",
             b"c=IN IP4 0.0.0.0\r\n",
             b"t=0 0\r\n",
@@ -43,10 +38,7 @@ fn append_session(out: &mut Vec<u8>, presentation: &Presentation) -> Result<(), 
 
 #[tactic(auto, unfolding(crate::specs::Sdp::track_text))]
 fn append_track(out: &mut Vec<u8>, track: &Track) -> Result<(), AllocError>
-    ensures ok { OnOk result (out.new.items ≡ out.old.items ++ track_text track.now) }
-    ensures err { OnErr result (out.new.items ≡ out.old.items) }
-    ensures capacity { vec_capacity out.old ≤ vec_capacity out.new }
-    ensures succeeds { HasRoom out.old (track_text track.now) → IsOk result }
+    ensures { OnOk result (out.new.items ≡ out.old.items ++ track_text track.now) }
 {
     let mut payload_type = Buffer::new();
     let payload_type = payload_type.format(track.payload_type());
@@ -72,22 +64,21 @@ fn append_track(out: &mut Vec<u8>, track: &Track) -> Result<(), AllocError>
     )
 }
 
-/// Writes the description of a presentation at the end (RFC 4566, RFC 7826 appendix D). A refused
-/// write leaves `out` as it was, and it takes no memory where there is room.
-#[tactic(auto, unfolding(crate::specs::Sdp::sdp_of))]
-pub fn write_sdp(out: &mut Vec<u8>, presentation: &Presentation) -> Result<(), AllocError>
-    ensures ok { OnOk result (out.new.items ≡ out.old.items ++ sdp_of presentation.now) }
-    ensures err { OnErr result (out.new.items ≡ out.old.items) }
-    ensures capacity { vec_capacity out.old ≤ vec_capacity out.new }
-    ensures succeeds { HasRoom out.old (sdp_of presentation.now) → IsOk result }
+/// The description of a presentation of this name and length, in milliseconds, with these tracks
+/// (RFC 4566, RFC 7826 appendix D).
+pub(crate) fn sdp_of(
+    alloc: Global,
+    name: &str,
+    length_ms: u64,
+    tracks: &[Track],
+) -> Result<Vec<u8>, AllocError>
+    ensures { IfOk result (λ text. text.items
+        ≡ session_text name.now length_ms ++ flat_map track_text tracks.now) }
 {
-    let start = out.len();
-    append_session(out, presentation)?;
-    for track in presentation.tracks() {
-        if append_track(out, track).is_err() {
-            out.truncate(start);
-            return Err(AllocError);
-        }
+    let mut text = Vec::new(alloc);
+    append_session(&mut text, name, length_ms)?;
+    for track in tracks {
+        append_track(&mut text, track)?;
     }
-    Ok(())
+    Ok(text)
 }

@@ -19,6 +19,8 @@ pub mod AnswerLemmas
 pub mod LongerLemmas
 pub mod ItemLemmas
 pub mod StreamLemmas
+pub mod ScanLemmas
+pub mod FeedLemmas
 pub mod TextLens
 pub mod RoundLemmas
 pub mod OpenLemmas

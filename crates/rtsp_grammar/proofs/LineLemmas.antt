@@ -1,11 +1,11 @@
 -- What is found at the front of a text.
-use Rattle.std.proofs.Common.{◌≡◌, ◌≢◌, ℕ, ◌+◌, ◌<◌, ◌⊎◌, Bool, true, false, eqb, List, [], ◌∷◌, ◌++◌, length, get_or, take, drop, refl, sym, ap, ◌∙◌, arith, inl, inr}
+use Rattle.std.proofs.Common.{◌≡◌, ◌≢◌, ℕ, ◌+◌, ◌<◌, ◌⊎◌, Bool, true, false, eqb, List, [], ◌∷◌, ◌++◌, length, get_or, take, drop, refl, sym, ap, subst, ◌∙◌, arith, inl, inr}
 use Rattle.std.specs.Prelude.{not, ◌||◌}
-use Rattle.std.proofs.lemmas.List.{take-append-drop, drop_more, drop_all}
+use Rattle.std.proofs.lemmas.List.{take-append-drop, take_all, append-nil, drop_more, drop_all}
 use Rattle.std.proofs.lemmas.Bool.{eqb-true}
 use Rattle.rtsp_grammar.specs.Bytes.{is_line_byte}
 use Rattle.rtsp_grammar.specs.Span.{IsSpan}
-use Rattle.rtsp_grammar.specs.Lines.{HasLine, IsBroken, IsOpen, BeginsBare}
+use Rattle.rtsp_grammar.specs.Lines.{HasLine, IsBroken, IsOpen, IsPlain, BeginsBare}
 
 -- a byte that ends a line is a CR or an LF
 end_byte : (b : ℕ) → is_line_byte b ≡ false → (b ≡ 13) ⊎ (b ≡ 10)
@@ -31,23 +31,29 @@ ended bytes n span lt ne e =
       plain = span.passes;
     }
 
-pub open_at_end : (bytes : List ℕ) (n : ℕ) → IsSpan is_line_byte bytes n → n ≡ length bytes → IsOpen bytes
-open_at_end bytes n span e = record {
-  line = take n bytes;
-  rest = drop n bytes;
-  parts = sym (take-append-drop n bytes);
-  plain = span.passes;
-  short = inl (drop_all n bytes (omega arith));
-}
+pub open_at_end : (bytes : List ℕ) (n : ℕ) → IsSpan is_line_byte bytes n → n ≡ length bytes → (o : IsOpen bytes) × (o.line ≡ bytes)
+open_at_end bytes n span e = (
+  record {
+    line = bytes;
+    rest = [];
+    parts = sym (append-nil bytes);
+    plain = subst (λ (t : List ℕ). IsPlain t) (take_all n bytes (omega (arith, e))) span.passes;
+    short = inl refl;
+  },
+  refl,
+)
 
-pub open_at_return : (bytes : List ℕ) (n : ℕ) → IsSpan is_line_byte bytes n → n < length bytes → get_or bytes n 0 ≢ 10 → n + 1 ≡ length bytes → IsOpen bytes
-open_at_return bytes n span lt ne e = record {
-  line = take n bytes;
-  rest = drop n bytes;
-  parts = sym (take-append-drop n bytes);
-  plain = span.passes;
-  short = inr (drop_more bytes n 0 lt ∙ ap (λ (b : ℕ). b ∷ drop (n + 1) bytes) (returned bytes n span lt ne) ∙ ap (λ (r : List ℕ). 13 ∷ r) (drop_all (n + 1) bytes (omega arith)));
-}
+pub open_at_return : (bytes : List ℕ) (n : ℕ) → IsSpan is_line_byte bytes n → n < length bytes → get_or bytes n 0 ≢ 10 → n + 1 ≡ length bytes → (o : IsOpen bytes) × (o.line ≡ take n bytes)
+open_at_return bytes n span lt ne e = (
+  record {
+    line = take n bytes;
+    rest = drop n bytes;
+    parts = sym (take-append-drop n bytes);
+    plain = span.passes;
+    short = inr (drop_more bytes n 0 lt ∙ ap (λ (b : ℕ). b ∷ drop (n + 1) bytes) (returned bytes n span lt ne) ∙ ap (λ (r : List ℕ). 13 ∷ r) (drop_all (n + 1) bytes (omega arith)));
+  },
+  refl,
+)
 
 pub broken_feed : (bytes : List ℕ) (n : ℕ) → IsSpan is_line_byte bytes n → n < length bytes → get_or bytes n 0 ≡ 10 → IsBroken bytes
 broken_feed bytes n span lt e = record {

@@ -54,11 +54,11 @@ split_shorter text line rest split lt = let e : length rest ≡ length (split_li
 line_moved : (front line rest : List ℕ) → front ++ (line ++ 13 ∷ 10 ∷ rest) ≡ (front ++ line_text line) ++ rest
 line_moved front line rest = simp append_assoc
 
-lines_more : (lines : List (List ℕ)) (line : List ℕ) → lines_text (lines ++ line ∷ []) ≡ lines_text lines ++ line_text line
+pub lines_more : (lines : List (List ℕ)) (line : List ℕ) → lines_text (lines ++ line ∷ []) ≡ lines_text lines ++ line_text line
 lines_more [] line = append-nil (line_text line)
 lines_more (x ∷ lines) line = ap (λ (t : List ℕ). line_text x ++ t) (lines_more lines line) ∙ sym (append_assoc (line_text x) (lines_text lines) (line_text line))
 
-each_more : (lines : List (List ℕ)) (line : List ℕ) → AllByRecursion IsLine lines → IsLine line → AllByRecursion IsLine (lines ++ line ∷ [])
+pub each_more : (lines : List (List ℕ)) (line : List ℕ) → AllByRecursion IsLine lines → IsLine line → AllByRecursion IsLine (lines ++ line ∷ [])
 each_more [] line each is = (is, tt)
 each_more (x ∷ lines) line each is = (each.0, each_more lines line each.1 is)
 

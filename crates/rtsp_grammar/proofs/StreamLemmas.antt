@@ -12,7 +12,7 @@ abbrev taken : Item → ℕ → Result (Item × ℕ) MessageFault
 taken item n = Ok (item, n)
 
 -- where an item stands, the text doesn't end
-goes_on : (text : List ℕ) (item : Item) (n : ℕ) → Decides text (taken item n) → IsEnd text → ⊥
+pub goes_on : (text : List ℕ) (item : Item) (n : ℕ) → Decides text (taken item n) → IsEnd text → ⊥
 goes_on text item n d (inl open_end) = no_answer text (taken item n) open_end d
 goes_on text item n d (inr h) = let e = one_answer text (taken item n) (Err h.0) d h.1 in absurd cc
 

@@ -21,3 +21,8 @@ BeginsFrame (b ∷ bytes) = b ≡ 36
 abbrev pub IsShortFrame : List ℕ → Type 0
 IsShortFrame (sign ∷ channel ∷ high ∷ low ∷ bytes) = length bytes < 256 * high + low
 IsShortFrame bytes = Unit {0}
+
+-- the bytes of a frame, or of its length where that isn't whole
+abbrev pub frame_len : List ℕ → ℕ
+frame_len (sign ∷ channel ∷ high ∷ low ∷ bytes) = 4 + (256 * high + low)
+frame_len bytes = 4

@@ -23,4 +23,5 @@ pub mod Reading
 pub mod Item
 pub mod Answer
 pub mod Writing
+pub mod Scan
 pub mod Stream

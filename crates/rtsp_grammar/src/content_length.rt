@@ -1,6 +1,6 @@
 //! The length of a body.
 
-ghost use Rattle.std.specs.Prelude.{◌≡◌};
+ghost use Rattle.std.specs.Prelude.{◌≡◌, ◌≤◌, IfOk};
 ghost use Rattle.rtsp_grammar.specs.Reading.{length_of_value, body_length};
 
 use crate::fault::MessageFault;
@@ -11,7 +11,8 @@ use rtsp_text::is_number;
 const BODY_LIMIT: u32 = 65_536;
 
 fn length_of_value(value: &[u8]) -> Result<usize, MessageFault>
-    ensures { result ≡ length_of_value value.now }
+    ensures value { result ≡ length_of_value value.now }
+    ensures small { IfOk result (λ n. n ≤ 65536) }
 {
     if !is_number(value) || value.len() > 10 {
         return Err(MessageFault::BadLength);
@@ -26,7 +27,8 @@ fn length_of_value(value: &[u8]) -> Result<usize, MessageFault>
 /// The length of the body of a message with these headers.
 #[tactic(auto, unfolding(crate::specs::Reading::body_length))]
 pub fn body_length(headers: &Headers) -> Result<usize, MessageFault>
-    ensures { result ≡ body_length headers.now }
+    ensures value { result ≡ body_length headers.now }
+    ensures small { IfOk result (λ n. n ≤ 65536) }
 {
     let Some(value) = headers.nth_value(b"Content-Length", 0) else {
         return Ok(0);

@@ -1,13 +1,32 @@
 //! Reading a frame.
 
-ghost use Rattle.std.specs.Prelude.{◌≡◌, ◌≤◌, length, take, IfOk, IfErr, IfSome, IfNone};
-ghost use Rattle.rtsp_grammar.specs.Frame.{frame_text, IsFrame, BeginsFrame, IsShortFrame};
+ghost use Rattle.std.specs.Prelude.{◌≡◌, ◌+◌, ◌*◌, ◌<◌, ◌≤◌, length, take, IfOk, IfErr, IfSome, IfNone};
+ghost use Rattle.rtsp_grammar.specs.Frame.{frame_text, frame_len, IsFrame, BeginsFrame, IsShortFrame};
 ghost use Rattle.rtsp_grammar.specs.declared.fault.MessageFault.TheVariants.{OutOfMemory};
 
 use crate::fault::MessageFault;
 use crate::message::Frame;
 use rtsp_text::Text;
 use std::alloc::Global;
+
+// The length that two bytes announce, the most significant first.
+fn payload_len(high: u8, low: u8) -> usize
+    ensures value { result ≡ 256 * high + low }
+    ensures small { result < 65536 }
+{
+    usize::from(u16::from_be_bytes([high, low]))
+}
+
+/// The bytes of the frame at the front: until its own length has come, those up to its end.
+pub fn frame_len(bytes: &[u8]) -> usize
+    ensures value { result ≡ frame_len bytes.now }
+    ensures small { result < 65540 }
+{
+    match bytes {
+        [_, _, high, low, ..] => 4 + payload_len(*high, *low),
+        _ => 4,
+    }
+}
 
 /// Reads the frame at the front, and how many bytes it takes. None: more bytes are needed.
 pub fn read_frame(alloc: Global, bytes: &[u8]) -> Result<Option<(Frame, usize)>, MessageFault>
@@ -19,7 +38,7 @@ pub fn read_frame(alloc: Global, bytes: &[u8]) -> Result<Option<(Frame, usize)>,
 {
     match bytes {
         [_, channel, high, low, rest @ ..] => {
-            let len = usize::from(u16::from_be_bytes([*high, *low]));
+            let len = payload_len(*high, *low);
             if rest.len() < len {
                 return Ok(None);
             }

@@ -1,6 +1,6 @@
 //! The head of a message.
 
-ghost use Rattle.std.specs.Prelude.{◌≡◌, List, ℕ};
+ghost use Rattle.std.specs.Prelude.{◌≡◌, ◌≤◌, List, ℕ, IfOk};
 ghost use Rattle.rtsp_grammar.specs.declared.fault.MessageFault.TheVariants.{OutOfMemory};
 ghost use Rattle.rtsp_text.specs.Results.{Gives};
 ghost use Rattle.rtsp_grammar.specs.HeadAt.{HoldsHead};
@@ -60,7 +60,8 @@ impl Head {
 /// The head that lines spell, and the length of its body.
 #[tactic(auto, unfolding(crate::specs::Reading::head_of))]
 pub fn head_of(alloc: Global, text: HeadText<'_>) -> Result<(Head, usize), MessageFault>
-    ensures { (lines : List (List ℕ)) → HoldsHead lines text.entry → Gives OutOfMemory result (head_of lines) }
+    ensures reads { (lines : List (List ℕ)) → HoldsHead lines text.entry → Gives OutOfMemory result (head_of lines) }
+    ensures small { IfOk result (λ found. found.1 ≤ 65536) }
 {
     let start = start_of(alloc, text.first)?;
     let headers = headers_of(alloc, text.headers, text.count)?;

@@ -63,7 +63,7 @@ fn header_lines_at(bytes: &[u8]) -> HeaderLinesAt<'_>
                 left = rest;
             }
             Line::Broken => return HeaderLinesAt::Broken,
-            Line::Open => return HeaderLinesAt::Open,
+            Line::Open { line: _ } => return HeaderLinesAt::Open,
         }
     }
 }
@@ -75,7 +75,7 @@ pub fn head_at(bytes: &[u8]) -> HeadAt<'_>
 {
     match line_at(bytes) {
         Line::Broken => HeadAt::Broken,
-        Line::Open => HeadAt::Open,
+        Line::Open { line: _ } => HeadAt::Open,
         Line::Ended { line: first, rest } => match header_lines_at(rest) {
             HeaderLinesAt::Broken => HeadAt::Broken,
             HeaderLinesAt::Open => HeadAt::Open,

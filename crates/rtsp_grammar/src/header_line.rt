@@ -8,11 +8,11 @@ ghost use Rattle.rtsp_grammar.specs.HeaderView.{shown};
 ghost use Rattle.rtsp_grammar.specs.Lines.{AreLines};
 ghost use Rattle.rtsp_grammar.specs.Reading.{header_of, folded, header_lines_of};
 
-use crate::bytes::are_value_bytes;
 use crate::fault::MessageFault;
 use crate::folds::{begins_blank, unfold};
 use crate::header::{Header, Headers, HeadersBuilder};
 use crate::line::split_line;
+use crate::words::are_value_bytes;
 use rtsp_text::{is_token, split_once, trim_end, trimmed};
 use std::alloc::Global;
 

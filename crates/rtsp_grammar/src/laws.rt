@@ -2,7 +2,7 @@
 
 ghost use Rattle.rtsp_grammar.specs.Answer.{OneAnswer, Stays, NoAnswer, OpensOut};
 ghost use Rattle.rtsp_grammar.specs.Reading.{ReadsRules, OneReading};
-ghost use Rattle.rtsp_grammar.specs.Stream.{KeepsItems};
+ghost use Rattle.rtsp_grammar.specs.Stream.{KeepsItems, HoweverCut};
 ghost use Rattle.rtsp_grammar.specs.Writing.{ReadsBack};
 
 /// A head's lines are read as the four rules say, and the rules allow no other reading.
@@ -39,4 +39,9 @@ pub fn law_reads_back()
 /// The items read from a prefix are the first items of the whole stream, however it is cut.
 pub fn law_keeps_items()
     ensures { KeepsItems }
+{}
+
+/// Feeds that have given all items of a text have given the same ones, however it was cut.
+pub fn law_however_cut()
+    ensures { HoweverCut }
 {}

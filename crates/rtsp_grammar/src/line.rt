@@ -18,8 +18,8 @@ pub enum Line<'a> {
     Ended { line: &'a [u8], rest: &'a [u8] },
     /// The line has a CR without LF, or an LF without CR.
     Broken,
-    /// The line isn't ended yet.
-    Open,
+    /// The line isn't ended yet; these are its bytes so far, without a CR at the end.
+    Open { line: &'a [u8] },
 }
 
 // How many bytes there are before the first CR or LF.
@@ -40,13 +40,15 @@ pub fn line_at(bytes: &[u8]) -> Line<'_>
 {
     let end = plain_len(bytes);
     if end == bytes.len() {
-        return Line::Open;
+        return Line::Open { line: bytes };
     }
     if bytes[end] == LF {
         return Line::Broken;
     }
     if end + 1 == bytes.len() {
-        return Line::Open;
+        return Line::Open {
+            line: &bytes[..end],
+        };
     }
     if bytes[end + 1] != LF {
         return Line::Broken;

@@ -4,10 +4,10 @@ ghost use Rattle.rtsp_grammar.specs.declared.fault.MessageFault.TheVariants.{Out
 ghost use Rattle.rtsp_text.specs.Results.{Gives};
 ghost use Rattle.rtsp_grammar.specs.Reading.{start_of, request_line_of, status_line_of, status_of};
 
-use crate::bytes::{is_method, is_uri};
 use crate::fault::MessageFault;
 use crate::method::Method;
 use crate::version::{Version, is_version};
+use crate::words::{is_method, is_uri};
 use rtsp_text::{Text, split_once};
 use std::alloc::Global;
 

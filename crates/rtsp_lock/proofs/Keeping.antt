@@ -90,57 +90,55 @@ out_stays w j n s words o word = record {
   left_next = o.left_next;
 }
 
+-- the step that takes, where it found this word and leaves that one
+abbrev Taking : Whole → ℕ → ℕ → Me (Option History) View → State (Option History) View → ℕ → ℕ → Type 0
+Taking w slots id m s found after = (v : View) × (a : Act (Option History)) × Valid s.homes m.1 a × Keeps w (stepped s 0 after id m.1 v a) × taken (step slots 0 0 1 none) m found (v, carried_after m.1 a)
+
+-- a word 0 becomes 1, and the slot goes out
+takes_free : (w : Whole) (slots id : ℕ) (m : Me (Option History) View) (s : State (Option History) View) (g : Keeps w s) → get_elem? s.views id ≡ some m.0 → AtHome w g.journal g.number s
+    → Taking w slots id m s (slice_index s.words 0) (either (eqb (slice_index s.words 0) 0) 1 (slice_index s.words 0))
+takes_free w slots id m s g at a =
+    let h = g.journal in
+    let n = g.number in
+    let after = either (eqb (slice_index s.words 0) 0) 1 (slice_index s.words 0) in
+    let fits = g.common.fits id m.0 at in
+    let u = holding m.0 h n in (
+      u,
+      takes 0 (Some (history w h n)),
+      a.home,
+      record {
+        one_word = length-set s.words 0 after ∙ g.one_word;
+        journal = h;
+        number = n;
+        common = common_set w h h n n s.views id m.0 u g.common at (λ k x ne e. g.common.fits k x e) (held_fits w h n m.0 fits) refl (λ x hx. inl hx) g.common.actors;
+        place = inr (out_taken w h n s id m.0 _ _ a at (one_word_after s.words after g.one_word ∙ either_hit (slice_index s.words 0) 0 1 a.word));
+      },
+      (λ _. record { journal = h; number = n; value = ap (λ (x : Whole). (0, Some (history x h n)) ∷ m.1) (sym fits.whole); view = refl; fits = subst (λ (x : Whole). Fits x h n m.0) (sym fits.whole) fits; fresh = g.common.actors }, λ ne. absurd (ne a.word)),
+    )
+
+-- any other word stays, and so does the slot
+stays_out : (w : Whole) (slots id : ℕ) (m : Me (Option History) View) (s : State (Option History) View) (g : Keeps w s) → get_elem? s.views id ≡ some m.0 → Out w g.journal g.number s
+    → Taking w slots id m s (slice_index s.words 0) (either (eqb (slice_index s.words 0) 0) 1 (slice_index s.words 0))
+stays_out w slots id m s g at o =
+    let found = slice_index s.words 0 in
+    let after = either (eqb found 0) 1 found in
+    let ne : found ≢ 0 = λ e. absurd (omega (arith, sym o.word ∙ e)) in (
+      m.0,
+      keeps,
+      tt,
+      subst (λ (views : List View). Keeps w record { words = set s.words 0 after; homes = s.homes; views = views }) (sym (set_again s.views id m.0 at)) (record {
+        one_word = length-set s.words 0 after ∙ g.one_word;
+        journal = g.journal;
+        number = g.number;
+        common = g.common;
+        place = inr (out_stays w g.journal g.number s (set s.words 0 after) o (one_word_after s.words after g.one_word ∙ either_miss found 0 1 ne ∙ o.word));
+      }),
+      (λ e. absurd (ne e), λ _. refl),
+    )
+
 -- the word becomes 1, and the slot goes out, where the word was 0
 pub takes_it : (w : Whole) (slots id : ℕ) (m : Me (Option History) View) → Allows (Keeps w) slots id m 0 (λ n. either (eqb n 0) 1 n) (taken (step slots 0 0 1 none) m)
-takes_it w slots id m s g wide at _ = ⊎_elim free busy g.place
-  where
-    h : List Entry
-    h = g.journal
-
-    n : ℕ
-    n = g.number
-
-    found : ℕ
-    found = slice_index s.words 0
-
-    after : ℕ
-    after = either (eqb found 0) 1 found
-
-    Goal : Type 0
-    Goal = (v : View) × (a : Act (Option History)) × Valid s.homes m.1 a × Keeps w (stepped s 0 after id m.1 v a) × taken (step slots 0 0 1 none) m found (v, carried_after m.1 a)
-
-    free : AtHome w h n s → Goal
-    free a =
-        let fits = g.common.fits id m.0 at in
-        let u = holding m.0 h n in (
-          u,
-          takes 0 (Some (history w h n)),
-          a.home,
-          record {
-            one_word = length-set s.words 0 after ∙ g.one_word;
-            journal = h;
-            number = n;
-            common = common_set w h h n n s.views id m.0 u g.common at (λ k x ne e. g.common.fits k x e) (held_fits w h n m.0 fits) refl (λ x hx. inl hx) g.common.actors;
-            place = inr (out_taken w h n s id m.0 _ _ a at (one_word_after s.words after g.one_word ∙ either_hit found 0 1 a.word));
-          },
-          (λ _. record { journal = h; number = n; value = ap (λ (x : Whole). (0, Some (history x h n)) ∷ m.1) (sym fits.whole); view = refl; fits = subst (λ (x : Whole). Fits x h n m.0) (sym fits.whole) fits; fresh = g.common.actors }, λ ne. absurd (ne a.word)),
-        )
-
-    busy : Out w h n s → Goal
-    busy o =
-        let ne : found ≢ 0 = λ e. absurd (omega (arith, sym o.word ∙ e)) in (
-          m.0,
-          keeps,
-          tt,
-          subst (λ (views : List View). Keeps w record { words = set s.words 0 after; homes = s.homes; views = views }) (sym (set_again s.views id m.0 at)) (record {
-            one_word = length-set s.words 0 after ∙ g.one_word;
-            journal = h;
-            number = n;
-            common = g.common;
-            place = inr (out_stays w h n s (set s.words 0 after) o (one_word_after s.words after g.one_word ∙ either_miss found 0 1 ne ∙ o.word));
-          }),
-          (λ e. absurd (ne e), λ _. refl),
-        )
+takes_it w slots id m s g wide at _ = ⊎_elim (takes_free w slots id m s g at) (stays_out w slots id m s g at) g.place
 
 -- the word becomes 0, and the slot comes home
 pub gives_back : (w : Whole) (slots id : ℕ) (v : View) (value : History) (more : List (ℕ × Option History)) → slots ≡ 1 → v.holds ≡ true → value ≡ history v.whole v.left v.left_next

@@ -28,6 +28,3 @@ pub use laws::{
 pub use names::Name;
 pub use opening::open;
 pub use rule::LockBook;
-
-#[cfg(test)]
-mod tests;

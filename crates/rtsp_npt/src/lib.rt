@@ -6,9 +6,8 @@ mod fault;
 mod laws;
 mod range;
 mod reading;
-#[cfg(test)]
-mod tests;
 mod time;
+mod unit_length;
 mod units;
 mod writing;
 
@@ -17,5 +16,6 @@ pub use crate::laws::{law_fits_header, law_reads_back, law_units_stay};
 pub use crate::range::Range;
 pub use crate::reading::read_range;
 pub use crate::time::Time;
+pub use crate::unit_length::UnitLength;
 pub use crate::units::resolve;
 pub use crate::writing::{write_range, write_stop, write_time};

@@ -6,6 +6,7 @@ ghost use Rattle.rtsp_npt.specs.Units.{TakesUnits, IsOutOfMedia};
 
 use crate::fault::OutOfMedia;
 use crate::range::Range;
+use crate::unit_length::UnitLength;
 
 // What a range is resolved against: the media, and where it was halted.
 #[derive(Clone, Copy)]
@@ -73,17 +74,16 @@ fn units_of(range: Range, media: Media) -> Result<(u32, u32), OutOfMedia>
 }
 
 /// The units of a range, from the first answered up to and without the second, which is above
-/// it. The media has `units` units of `unit_ms` milliseconds each; a range without a start begins
-/// at the unit `resume`. The start is rounded down to a unit and the stop up, at most to the end.
+/// it. The media has `units` units of this length; a range without a start begins at the unit
+/// `resume`. The start is rounded down to a unit and the stop up, at most to the end.
 ///
 /// A range that starts at the end or later, or that stops no later than it starts, is refused.
 pub fn resolve(
     range: Range,
     resume: u32,
-    unit_ms: u32,
+    unit_ms: UnitLength,
     units: u32,
 ) -> Result<(u32, u32), OutOfMedia>
-    requires { 0 < unit_ms }
     ensures value { result ≡ units_of range resume unit_ms units }
     ensures units { IfOk result (λ taken. TakesUnits range resume unit_ms units taken.0 taken.1) }
     ensures within { IfOk result (λ taken. (taken.0 < taken.1) × (taken.1 ≤ units)) }
@@ -91,7 +91,7 @@ pub fn resolve(
 {
     let media = Media {
         resume,
-        unit_ms,
+        unit_ms: unit_ms.ms(),
         units,
     };
     units_of(range, media)

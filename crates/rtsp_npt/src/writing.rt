@@ -4,6 +4,7 @@ ghost use Rattle.std.specs.Prelude.{◌≡◌, ◌≤◌, ◌++◌, vec_capacity
 ghost use Rattle.rtsp_text.specs.Appending.{Appends, HasRoom};
 ghost use Rattle.rtsp_npt.specs.Printed.{millis_text, time_text, range_text, stop_text};
 
+use crate::unit_length::UnitLength;
 use rtsp_text::{all_or_nothing, three_digits, write_decimal};
 use std::alloc::AllocError;
 
@@ -19,15 +20,15 @@ fn put_millis(out: &mut Vec<u8>, ms: u64) -> Result<(), AllocError>
     out.extend_from_slice(&three_digits(ms))
 }
 
-fn put_time(out: &mut Vec<u8>, unit: u32, unit_ms: u32) -> Result<(), AllocError>
+fn put_time(out: &mut Vec<u8>, unit: u32, unit_ms: UnitLength) -> Result<(), AllocError>
     ensures text { Appends result out.old.items out.new.items (time_text unit unit_ms) }
     ensures capacity { vec_capacity out.old ≤ vec_capacity out.new }
     ensures succeeds { HasRoom out.old (time_text unit unit_ms) → IsOk result }
 {
-    put_millis(out, u64::from(unit) * u64::from(unit_ms))
+    put_millis(out, u64::from(unit) * u64::from(unit_ms.ms()))
 }
 
-fn put_range(out: &mut Vec<u8>, from: u32, stop: u32, unit_ms: u32) -> Result<(), AllocError>
+fn put_range(out: &mut Vec<u8>, from: u32, stop: u32, unit_ms: UnitLength) -> Result<(), AllocError>
     ensures text { Appends result out.old.items out.new.items (range_text from stop unit_ms) }
     ensures capacity { vec_capacity out.old ≤ vec_capacity out.new }
     ensures succeeds { HasRoom out.old (range_text from stop unit_ms) → IsOk result }
@@ -38,7 +39,7 @@ fn put_range(out: &mut Vec<u8>, from: u32, stop: u32, unit_ms: u32) -> Result<()
     put_time(out, stop, unit_ms)
 }
 
-fn put_stop(out: &mut Vec<u8>, stop: u32, unit_ms: u32) -> Result<(), AllocError>
+fn put_stop(out: &mut Vec<u8>, stop: u32, unit_ms: UnitLength) -> Result<(), AllocError>
     ensures text { Appends result out.old.items out.new.items (stop_text stop unit_ms) }
     ensures capacity { vec_capacity out.old ≤ vec_capacity out.new }
     ensures succeeds { HasRoom out.old (stop_text stop unit_ms) → IsOk result }
@@ -49,7 +50,7 @@ fn put_stop(out: &mut Vec<u8>, stop: u32, unit_ms: u32) -> Result<(), AllocError
 
 /// Writes the time at which a unit begins at the end of `out`, as `2.500`. A refused write leaves
 /// `out` as it was.
-pub fn write_time(out: &mut Vec<u8>, unit: u32, unit_ms: u32) -> Result<(), AllocError>
+pub fn write_time(out: &mut Vec<u8>, unit: u32, unit_ms: UnitLength) -> Result<(), AllocError>
     ensures ok { OnOk result (out.new.items ≡ out.old.items ++ time_text unit unit_ms) }
     ensures err { OnErr result (out.new.items ≡ out.old.items) }
     ensures capacity { vec_capacity out.old ≤ vec_capacity out.new }
@@ -63,7 +64,12 @@ pub fn write_time(out: &mut Vec<u8>, unit: u32, unit_ms: u32) -> Result<(), Allo
 
 /// Writes the range of the units from `from` on and before `stop`, as `npt=2.500-10.000`. A
 /// refused write leaves `out` as it was.
-pub fn write_range(out: &mut Vec<u8>, from: u32, stop: u32, unit_ms: u32) -> Result<(), AllocError>
+pub fn write_range(
+    out: &mut Vec<u8>,
+    from: u32,
+    stop: u32,
+    unit_ms: UnitLength,
+) -> Result<(), AllocError>
     ensures ok { OnOk result (out.new.items ≡ out.old.items ++ range_text from stop unit_ms) }
     ensures err { OnErr result (out.new.items ≡ out.old.items) }
     ensures capacity { vec_capacity out.old ≤ vec_capacity out.new }
@@ -77,7 +83,7 @@ pub fn write_range(out: &mut Vec<u8>, from: u32, stop: u32, unit_ms: u32) -> Res
 
 /// Writes the range up to unit `stop` that has no start, as `npt=-10.000`. A refused write leaves
 /// `out` as it was.
-pub fn write_stop(out: &mut Vec<u8>, stop: u32, unit_ms: u32) -> Result<(), AllocError>
+pub fn write_stop(out: &mut Vec<u8>, stop: u32, unit_ms: UnitLength) -> Result<(), AllocError>
     ensures ok { OnOk result (out.new.items ≡ out.old.items ++ stop_text stop unit_ms) }
     ensures err { OnErr result (out.new.items ≡ out.old.items) }
     ensures capacity { vec_capacity out.old ≤ vec_capacity out.new }

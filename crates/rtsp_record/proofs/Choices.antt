@@ -1,6 +1,7 @@
 -- What is chosen is in the whole and free.
 use Rattle.std.proofs.Common.{◌≡◌, ◌==◌, ℕ, ◌+◌, ◌-◌, ◌*◌, ◌<◌, zero, suc, Bool, true, false, ◌&&◌, ◌||◌, cond, refl, ◌∙◌, ap, subst, arith}
 use Rattle.std.specs.Prelude.{Option, Some, None, nat_le}
+use Rattle.std.proofs.lemmas.Bool.{and_parts}
 use Rattle.std.proofs.lemmas.Bool.Decides.{nat_tests}
 use Rattle.rtsp_record.specs.declared.holdings.Thing.TheVariants.{Pair, Chan}
 use Rattle.rtsp_record.specs.declared.holdings.Whole.{Whole}
@@ -8,10 +9,6 @@ use Rattle.rtsp_record.specs.Books.{Book}
 use Rattle.rtsp_record.specs.Sums.{Spot, UdpPort, Channel, amount, covers, covering}
 use Rattle.rtsp_record.specs.Rules.{InWhole, IsFree}
 use Rattle.rtsp_record.specs.Choices.{least_of, from_on, least_pair_by, least_chan_by, IsWish, is_free, is_pair_free, least_pair, is_chan_free, least_chan, chosen_chan}
-
-both : (a b : Bool) → (a && b) ≡ true → (a ≡ true) × (b ≡ true)
-both true b h = (refl, h)
-both false b h = absurd cc
 
 is_zero : (n : ℕ) → (n == 0) ≡ true → n ≡ 0
 is_zero n h = grind (arith, nat_tests)
@@ -34,7 +31,7 @@ pair_is_free w b p h is =
     spots (Channel d l) one two is = absurd cc
 
     free : (q : Spot) → covers q (Pair p) ≡ true → amount (covering q) b ≡ 0
-    free q c = let parts = both (is_free b (UdpPort p)) (is_free b (UdpPort (p + 1))) is in spots q (is_zero _ parts.0) (is_zero _ parts.1) c
+    free q c = let parts = and_parts (is_free b (UdpPort p)) (is_free b (UdpPort (p + 1))) is in spots q (is_zero _ parts.0) (is_zero _ parts.1) c
 
 pub chan_is_free : (w : Whole) (b : Book) (c k : ℕ) → InWhole w (Chan c k) → is_chan_free b c k ≡ true → IsFree w b (Chan c k)
 chan_is_free w b c k h is =
@@ -43,7 +40,7 @@ chan_is_free w b c k h is =
     spots : (q : Spot) → amount (covering (Channel c k)) b ≡ 0 → amount (covering (Channel c (k + 1))) b ≡ 0 → covers q (Chan c k) ≡ true → amount (covering q) b ≡ 0
     spots (UdpPort q) one two is = absurd cc
     spots (Channel d l) one two is =
-        let parts = both (d == c) (l == k || l == k + 1) is in
+        let parts = and_parts (d == c) (l == k || l == k + 1) is in
         let conn : d ≡ c = is_same d c parts.0 in
         by_either (l == k) (l == k + 1) (amount (covering (Channel d l)) b ≡ 0)
         (λ e. (λ i. amount (covering (Channel (conn i) (is_same l k e i))) b) ∙ one)
@@ -51,7 +48,7 @@ chan_is_free w b c k h is =
         parts.1
 
     free : (q : Spot) → covers q (Chan c k) ≡ true → amount (covering q) b ≡ 0
-    free q h = let parts = both (is_free b (Channel c k)) (is_free b (Channel c (k + 1))) is in spots q (is_zero _ parts.0) (is_zero _ parts.1) h
+    free q h = let parts = and_parts (is_free b (Channel c k)) (is_free b (Channel c (k + 1))) is in spots q (is_zero _ parts.0) (is_zero _ parts.1) h
 
 -- The search, one number further on.
 
@@ -120,7 +117,7 @@ chan_found takes l is = least_found takes 0 128 l is
 pub chosen_pair : (w : Whole) (b : Book) (from l : ℕ) → least_pair w b from ≡ Some l → IsFree w b (Pair l)
 chosen_pair w b from l is =
     let found = pair_found (is_pair_free b) w from l is in
-    pair_is_free w b l (found.place, found.within, found.at) (both (nat_le from l) (is_pair_free b l) found.taken).1
+    pair_is_free w b l (found.place, found.within, found.at) (and_parts (nat_le from l) (is_pair_free b l) found.taken).1
 
 least_chan_free : (w : Whole) (b : Book) (c l : ℕ) → least_chan b c ≡ Some l → IsFree w b (Chan c l)
 least_chan_free w b c l is =

@@ -14,6 +14,5 @@ pub mod ReaderLemmas
 pub mod NumberLemmas
 pub mod EntryLemmas
 pub mod JournalLemmas
-pub mod WriteLemmas
 pub mod FieldLemmas
 pub mod LineLemmas

@@ -1,6 +1,7 @@
 -- What is true of the book of every legal journal.
 use Rattle.std.proofs.Common.{◌≡◌, ◌==◌, ℕ, ◌+◌, ◌<◌, ◌≤◌, Bool, true, false, ◌&&◌, ◌||◌, not, cond, List, [], ◌∷◌, refl, sym, ◌∙◌, ap, subst, arith}
 use Rattle.std.specs.Prelude.{Option, Some, None, IsSome, is_some}
+use Rattle.std.proofs.lemmas.Bool.{and_parts}
 use Rattle.std.proofs.lemmas.Bool.Decides.{nat_tests}
 use Rattle.std.specs.FinMap.{get, empty}
 use Rattle.rtsp_record.specs.declared.holdings.Thing.{Thing}
@@ -106,7 +107,7 @@ stream_counts m f a v there = omega (arith, total-under (λ e. of_admission m e.
 
 not_both : (p : Phase) → IsReady p → IsPlaying p → ⊥
 not_both (Ready at sent) h g = g
-not_both (Playing since from stop sent) h g = h
+not_both (Playing from stop sent since) h g = h
 not_both (Ended at sent) h g = g
 
 -- a stream that may be added clashes with none
@@ -229,10 +230,6 @@ room_if false n none le = omega (arith, le)
 same_of : (n m : ℕ) → (n == m) ≡ true → n ≡ m
 same_of n m h = grind (arith, nat_tests)
 
-both : (a b : Bool) → (a && b) ≡ true → (a ≡ true) × (b ≡ true)
-both true b h = (refl, h)
-both false b h = absurd cc
-
 pub room_ids : (w : Whole) (b : Book) (r : Record) (i : ℕ) → Others w r b → amount (with_id i) b ≤ 1 → amount (with_id i) b + gain (with_id i) r ≤ 1
 room_ids w b (Open k) i g le = omega (arith, room_if (k.id == i) (amount (with_id i) b) (λ same. subst (λ k. amount (with_id k) b ≡ 0) (same_of k.id i same) g.id_free) le)
 room_ids w b r i g le = omega (arith, le)
@@ -242,7 +239,7 @@ room_few w b (Open k) g le = omega (arith, g.few)
 room_few w b r g le = omega (arith, le)
 
 pub room_bound : (w : Whole) (b : Book) (r : Record) (c i : ℕ) → Others w r b → amount (bindings c i) b ≤ 1 → amount (bindings c i) b + gain (bindings c i) r ≤ 1
-room_bound w b (Bind k) c i g le = room_if (k.conn == c && k.number == i) (amount (bindings c i) b) (λ same. let parts = both (k.conn == c) (k.number == i) same in let there : amount (bindings k.conn k.number) b ≡ 0 = g in (λ t. amount (bindings (sym (same_of k.conn c parts.0) t) (sym (same_of k.number i parts.1) t)) b) ∙ there) le
+room_bound w b (Bind k) c i g le = room_if (k.conn == c && k.number == i) (amount (bindings c i) b) (λ same. let parts = and_parts (k.conn == c) (k.number == i) same in let there : amount (bindings k.conn k.number) b ≡ 0 = g in (λ t. amount (bindings (sym (same_of k.conn c parts.0) t) (sym (same_of k.number i parts.1) t)) b) ∙ there) le
 room_bound w b r c i g le = omega (arith, le)
 
 pub room_once : (w : Whole) (b : Book) (r : Record) (q : Spot) → Others w r b → amount (covering q) b ≤ 1 → amount (covering q) b + gain (covering q) r ≤ 1

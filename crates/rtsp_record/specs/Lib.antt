@@ -11,5 +11,4 @@ pub mod Journals
 pub mod JournalText
 pub mod JournalReading
 pub mod JournalAnswers
-pub mod JournalWriting
 pub mod JournalFields

@@ -105,7 +105,7 @@ other_tracks t = record nothing { stream = λ w. one_if (not (w.track == t)) }
 -- the opening phase
 abbrev pub is_opening : Phase → Bool
 is_opening (Ready at sent) = at == 0 && sent == 0
-is_opening (Playing since from stop sent) = false
+is_opening (Playing from stop sent since) = false
 is_opening (Ended at sent) = false
 
 -- returns that are owed: the records that would end all sessions

@@ -31,6 +31,3 @@ pub use laws::{law_inverse, law_last_words, law_same_words};
 pub use payloads::{Binding, Holding, Life, Renewal, Setup, Transition};
 pub use phases::Phase;
 pub use streams::Stream;
-
-#[cfg(test)]
-mod tests;

@@ -14,10 +14,10 @@ pub enum Phase {
     },
     /// It has played from `from` since the moment `since`, in milliseconds, and plays on to `stop`.
     Playing {
-        since: u64,
         from: u32,
         stop: u32,
         sent: u32,
+        since: u64,
     },
     /// It has played to the end of the range.
     Ended {
@@ -35,9 +35,9 @@ impl Phase {
     {
         match *self {
             Phase::Playing {
-                since,
                 from,
                 stop,
+                since,
                 ..
             } => {
                 let length = stop.saturating_sub(from);

@@ -34,11 +34,11 @@ unfolding least_pair_by
 least_is w b from i lt le free = least_at (from_on from (is_pair_free b)) w.first_port w.pairs i lt (grind (arith, nat_tests))
 
 -- how far a play of 500 units of 20 milliseconds is
-due_first : due (Playing 0 0 500 0) 20 0 ≡ 1
+due_first : due (Playing 0 500 0 0) 20 0 ≡ 1
 due_first = refl
 
-due_late : due (Playing 0 0 500 0) 20 9979 ≡ 499
+due_late : due (Playing 0 500 0 0) 20 9979 ≡ 499
 due_late = refl
 
-due_all : due (Playing 0 0 500 0) 20 9980 ≡ 500
+due_all : due (Playing 0 500 0 0) 20 9980 ≡ 500
 due_all = refl

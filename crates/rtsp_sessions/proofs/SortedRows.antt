@@ -20,7 +20,7 @@ pub told : (b : Bool) → T b → IsTrue b
 told true h = refl
 told false h = absurd h
 
-both_parts : (a b : Bool) → T (a && b) → T a × T b
+pub both_parts : (a b : Bool) → T (a && b) → T a × T b
 both_parts true b h = (tt, h)
 both_parts false b h = absurd h
 

@@ -17,6 +17,7 @@ use Rattle.rtsp_state.specs.declared.plan.StepPlan.{StepPlan}
 use Rattle.rtsp_state.specs.declared.setup_plan.SessionKey.{SessionKey}
 use Rattle.rtsp_state.specs.declared.setup_plan.SetupPlan.{SetupPlan}
 use Rattle.rtsp_state.specs.SetupPlan.{key_of, setup_start}
+use Rattle.rtsp_state.specs.declared.step_response.Played.{Played}
 use Rattle.rtsp_state.specs.Lines.{cseq_line, opened_line, transport_line, accept_ranges_line, properties_line, media_range_line, range_line, seek_line, start_lines}
 use Rattle.rtsp_state.specs.Info.{info_line}
 use Rattle.rtsp_state.specs.Response.{response, refusal_response}
@@ -29,18 +30,13 @@ moved other = None
 -- where a session is paused: the point that the step moved to, or the one that it was at
 abbrev pub paused_at : ℕ → Option Phase → ℕ
 paused_at at (Some (phases.Ready point sent)) = point
-paused_at at (Some (phases.Playing since from stop sent)) = at
+paused_at at (Some (phases.Playing from stop sent since)) = at
 paused_at at (Some (phases.Ended point sent)) = at
 paused_at at None = at
 
--- what is played: from, stop, and how many units were sent in earlier plays
-pub record Played : Type 0 where
-  pub from : ℕ
-  pub stop : ℕ
-  pub sent : ℕ
-
+-- what is played, and how many units were sent in earlier plays
 abbrev pub played_in : Option Phase → Played
-played_in (Some (phases.Playing since from stop sent)) = record { from = from; stop = stop; sent = sent }
+played_in (Some (phases.Playing from stop sent since)) = record { from = from; stop = stop; sent = sent }
 played_in (Some (phases.Ready at sent)) = record { from = 0; stop = 0; sent = 0 }
 played_in (Some (phases.Ended at sent)) = record { from = 0; stop = 0; sent = 0 }
 played_in None = record { from = 0; stop = 0; sent = 0 }

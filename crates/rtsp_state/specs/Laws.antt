@@ -89,7 +89,8 @@ is_allowed methods.Teardown = false
 -- all methods, with their names
 abbrev pub all_methods : List Method
 all_methods =
-    methods.Options ∷ methods.Describe ∷ methods.Setup ∷ methods.Play ∷ methods.Pause ∷ methods.Teardown ∷ methods.GetParameter ∷ methods.SetParameter ∷ []
+    methods.Options ∷ methods.Describe ∷ methods.Setup ∷ methods.Play ∷
+    methods.Pause ∷ methods.Teardown ∷ methods.GetParameter ∷ methods.SetParameter ∷ []
 
 abbrev pub name_of_method : Method → List ℕ
 name_of_method methods.Options = codes "OPTIONS"
@@ -231,7 +232,8 @@ pub record ShowsSession : Type 0 where
   pub steps_in : (a : Asking) (plan : StepPlan) → plan_of a ≡ plans.Step plan → StepsIn a.view plan.step
   pub done : (a : Asking) (plan : StepPlan) (v : Living) (receipt : List Record) → plan_of a ≡ plans.Step plan → a.view ≡ Some v
       → sessions_in (step_answer plan (Ok receipt)) ≡ left_of v plan.step
-  pub undone : (a : Asking) (plan : StepPlan) (r : Refusal) → plan_of a ≡ plans.Step plan → sessions_in (step_answer plan (Err r)) ≡ still_shown a.view r
+  pub undone : (a : Asking) (plan : StepPlan) (r : Refusal) → plan_of a ≡ plans.Step plan
+      → sessions_in (step_answer plan (Err r)) ≡ still_shown a.view r
   -- an admission opens a session exactly where none lives, and shows the one that it opened or found
   pub sets_up : (a : Asking) (plan : SetupPlan) → plan_of a ≡ plans.Admit plan → SetsUpIn a.view plan.session
   pub set_up : (a : Asking) (plan : SetupPlan) (drawn : SessionKey) (made : Admitted) → plan_of a ≡ plans.Admit plan

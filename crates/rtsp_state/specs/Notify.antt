@@ -26,19 +26,19 @@ media_uri text = option_map (λ url. record { text = text; base = with_slash (ba
 abbrev pub IsEnded : Phase → Type 0
 IsEnded (phases.Ended at sent) = Unit {0}
 IsEnded (phases.Ready at sent) = ⊥
-IsEnded (phases.Playing since from stop sent) = ⊥
+IsEnded (phases.Playing from stop sent since) = ⊥
 
 -- the unit at which an ended play stopped
 abbrev pub stop_of : Phase → ℕ
 stop_of (phases.Ended at sent) = at
 stop_of (phases.Ready at sent) = 0
-stop_of (phases.Playing since from stop sent) = 0
+stop_of (phases.Playing from stop sent since) = 0
 
 -- how many units were sent before it and in it
 abbrev pub sent_of : Phase → ℕ
 sent_of (phases.Ended at sent) = sent
 sent_of (phases.Ready at sent) = 0
-sent_of (phases.Playing since from stop sent) = 0
+sent_of (phases.Playing from stop sent since) = 0
 
 -- why the request is sent (RFC 7826 section 18.32)
 abbrev pub reason_line : HeaderText

@@ -8,18 +8,18 @@ ghost use Rattle.rtsp_state.specs.Describe.{describe, describe_presentation};
 
 use crate::context::Context;
 use crate::fault::Fault;
+use crate::media_base::MediaBase;
 use crate::plan::Plan;
 use crate::reply::Reply;
 use crate::request::Target;
 use crate::status::Status;
-use rtsp_content::write_sdp;
 use rtsp_grammar::Text;
 use std::alloc::Global;
 
 fn describe_presentation(
     alloc: Global,
     context: &Context<'_>,
-    base: Text,
+    base: MediaBase,
     presentation: u16,
 ) -> Result<Plan, Fault>
     ensures value { Gives result (describe_presentation (context_value context.now) base presentation) }
@@ -28,9 +28,8 @@ fn describe_presentation(
     let Some(presentation) = context.table.presentation(presentation) else {
         return Err(Fault::Refused(Status::NotFound));
     };
-    let mut sdp = Vec::new(alloc);
-    write_sdp(&mut sdp, presentation)?;
-    Ok(Plan::Answer(Reply::described(context.start, base, Text::from_vec(sdp))))
+    let sdp = Text::from_slice(alloc, presentation.sdp())?;
+    Ok(Plan::Answer(Reply::described(context.start, base, sdp)))
 }
 
 /// DESCRIBE is answered in each state. A track has no description of its own.

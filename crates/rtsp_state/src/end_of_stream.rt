@@ -15,6 +15,7 @@ use crate::words::{Field, name_of_field};
 use rtsp_book::SessionView;
 use rtsp_content::Presentation;
 use rtsp_grammar::{Headers, HeadersBuilder, Method, Request, Text, Version};
+use rtsp_npt::UnitLength;
 use rtsp_record::Phase;
 use std::alloc::{AllocError, Global};
 
@@ -27,7 +28,7 @@ struct EndedPlay {
     play_cseq: u32,
     /// The unit that it stopped before.
     stop: u32,
-    unit_ms: u32,
+    unit_ms: UnitLength,
     /// How many units were sent, in earlier plays too.
     sent: u32,
     info: RtpInfo,
@@ -91,7 +92,7 @@ fn push_stop(
     headers: &mut HeadersBuilder,
     value: &mut Room,
     stop: u32,
-    unit_ms: u32,
+    unit_ms: UnitLength,
 ) -> Result<(), AllocError>
     ensures { OnOk result (headers.new.headers ≡ headers.old.headers ++ stop_line stop unit_ms ∷ []) }
 {
@@ -156,7 +157,7 @@ pub fn notify(
 {
     let (stop, sent) = end_of(view.phase());
     let streams = streams_of(alloc, view)?;
-    let Ok(info) = rtp_info(alloc, uri.base.as_bytes(), &streams, presentation.tracks()) else {
+    let Ok(info) = rtp_info(alloc, &uri.base, &streams, presentation.tracks()) else {
         return Err(AllocError);
     };
     let play = EndedPlay {

@@ -1,6 +1,6 @@
 //! GET_PARAMETER (RFC 7826 section 13.8).
 
-ghost use Rattle.std.specs.Prelude.{◌≡◌, option_map, not, ◌<◌, IfOk};
+ghost use Rattle.std.specs.Prelude.{◌≡◌, option_map, not, IfOk};
 ghost use Rattle.rtsp_state.specs.Fault.{Gives};
 ghost use Rattle.rtsp_state.specs.Conduct.{IsConducted};
 ghost use Rattle.rtsp_state.specs.Context.{context_value};
@@ -15,15 +15,15 @@ use crate::request::Target;
 use crate::status::Status;
 use rtsp_book::SessionView;
 use rtsp_grammar::Text;
+use rtsp_npt::UnitLength;
 use std::alloc::Global;
 
 /// The point of the session, where there is one.
-fn point_of(context: &Context<'_>, view: Option<&SessionView>, unit_ms: u32) -> u32
-    requires { 0 < unit_ms }
+fn point_of(context: &Context<'_>, view: Option<&SessionView>, unit_ms: UnitLength) -> u32
     ensures { result ≡ point_of (context_value context.now) (option_map (λ v. v.now) view.entry) unit_ms }
 {
     match view {
-        Some(view) => view.phase().point(unit_ms, context.moment),
+        Some(view) => view.phase().point(unit_ms.ms(), context.moment),
         None => 0,
     }
 }

@@ -10,10 +10,12 @@ ghost use Rattle.rtsp_state.specs.Words.{name_of_field, text_of};
 ghost use Rattle.rtsp_state.specs.Lines.{cseq_line, session_line, opened_line, public_line, allow_line, unsupported_line, granted_of, granted_text, transport_line, accept_ranges_line, properties_line, media_range_line, range_line, seek_line, base_line, type_line, length_line, session_lines, start_lines};
 ghost use Rattle.rtsp_state.specs.declared.words.Word.TheVariants as words;
 
+use crate::media_base::MediaBase;
 use crate::response_start::ResponseStart;
 use crate::room::Room;
 use crate::timing::Timing;
 use crate::words::{Field, Word, text_of};
+use rtsp_npt::UnitLength;
 use rtsp_record::{Stream, Thing};
 
 // A header's name, with the colon and the space before its value.
@@ -193,7 +195,7 @@ pub fn put_accept_ranges(room: &mut Room)
     put_fixed(room, Field::AcceptRanges, Word::Npt);
 }
 
-fn put_properties_value(room: &mut Room, unit_ms: u32)
+fn put_properties_value(room: &mut Room, unit_ms: UnitLength)
     requires { 57 ≤ room.old.spare }
     ensures text { room.new.text ≡ room.old.text ++ (text_of words.RandomAccess ++ time_text 1 unit_ms ++ text_of words.Immutable) }
     ensures room { Takes room.old room.new 57 }
@@ -204,7 +206,7 @@ fn put_properties_value(room: &mut Room, unit_ms: u32)
 }
 
 #[tactic(auto, using(crate::proofs::MessageLemmas::line_of))]
-pub fn put_properties(room: &mut Room, unit_ms: u32)
+pub fn put_properties(room: &mut Room, unit_ms: UnitLength)
     requires { 77 ≤ room.old.spare }
     ensures text { room.new.text ≡ room.old.text ++ header_text (properties_line unit_ms) }
     ensures room { Takes room.old room.new 77 }
@@ -226,7 +228,7 @@ pub fn put_media_range(room: &mut Room, timing: Timing)
 }
 
 #[tactic(auto, using(crate::proofs::MessageLemmas::line_of))]
-pub fn put_range(room: &mut Room, from: u32, stop: u32, unit_ms: u32)
+pub fn put_range(room: &mut Room, from: u32, stop: u32, unit_ms: UnitLength)
     requires { 67 ≤ room.old.spare }
     ensures text { room.new.text ≡ room.old.text ++ header_text (range_line from stop unit_ms) }
     ensures room { Takes room.old room.new 67 }
@@ -244,12 +246,25 @@ pub fn put_seek_style(room: &mut Room)
     put_fixed(room, Field::SeekStyle, Word::Rap);
 }
 
-pub fn put_base(room: &mut Room, base: &[u8])
+fn put_base_value(room: &mut Room, base: &MediaBase)
+    requires { length base.now ≤ room.old.spare }
+    ensures text { room.new.text ≡ room.old.text ++ base.now }
+    ensures room { Takes room.old room.new (length base.now) }
+{
+    let (bytes, slash) = base.parts();
+    room.put(bytes);
+    room.put(slash);
+}
+
+#[tactic(auto, using(crate::proofs::MessageLemmas::line_of))]
+pub fn put_base(room: &mut Room, base: &MediaBase)
     requires { length base.now + 20 ≤ room.old.spare }
     ensures text { room.new.text ≡ room.old.text ++ header_text (base_line base.now) }
     ensures room { Takes room.old room.new (length base.now + 20) }
 {
-    put_given(room, Field::ContentBase, base);
+    put_name(room, Field::ContentBase);
+    put_base_value(room, base);
+    put_end(room);
 }
 
 pub fn put_type(room: &mut Room, media: Word)

@@ -9,6 +9,7 @@ mod fault;
 mod get_parameter;
 mod headers;
 mod laws;
+mod media_base;
 mod media_uri;
 mod method;
 mod options;
@@ -45,6 +46,7 @@ pub use laws::{
     law_allowed_is_valid, law_answers_in_order, law_answers_refusal, law_reads_once,
     law_shows_allowed, law_shows_session,
 };
+pub use media_base::MediaBase;
 pub use media_uri::MediaUri;
 pub use plan::{Details, Plan, RtpInfo, StepPlan, StreamInfo};
 pub use renewals::{renewal, renewal_refused};
@@ -57,14 +59,3 @@ pub use setup_plan::{Delivery, Drawn, SessionKey, SetupPlan, SetupSession};
 pub use state_table::decide;
 pub use status::Status;
 pub use timing::Timing;
-
-#[cfg(test)]
-mod end_of_stream_tests;
-#[cfg(test)]
-mod fixture;
-#[cfg(test)]
-mod response_tests;
-#[cfg(test)]
-mod tests;
-#[cfg(test)]
-mod walk_tests;

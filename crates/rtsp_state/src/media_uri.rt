@@ -3,7 +3,8 @@
 ghost use Rattle.std.specs.Prelude.{◌≡◌, IfOk};
 ghost use Rattle.rtsp_state.specs.Notify.{media_uri};
 
-use crate::uri::{base_of, read_uri};
+use crate::media_base::MediaBase;
+use crate::uri::read_uri;
 use rtsp_grammar::Text;
 use std::alloc::{AllocError, Global};
 
@@ -12,7 +13,7 @@ use std::alloc::{AllocError, Global};
 #[derive(Debug, Drop)]
 pub struct MediaUri {
     pub text: Text,
-    pub base: Text,
+    pub base: MediaBase,
 }
 
 impl MediaUri {
@@ -23,8 +24,8 @@ impl MediaUri {
         let Some(url) = read_uri(alloc, text)? else {
             return Ok(None);
         };
-        let base = Text::from_vec(base_of(alloc, &url)?);
         let text = Text::from_slice(alloc, text)?;
+        let base = MediaBase::new(url);
         Ok(Some(MediaUri { text, base }))
     }
 }

@@ -9,10 +9,11 @@ ghost use Rattle.rtsp_state.specs.OrderOfRefusals.{unless_unknown, cseq_of, vers
 ghost use Rattle.rtsp_state.specs.Method.{takes_star};
 
 use crate::fault::{Fault, must};
+use crate::media_base::MediaBase;
 use crate::method::{Method, needs_session};
 use crate::request::{Name, Target};
 use crate::status::Status;
-use crate::uri::{base_of, read_uri};
+use crate::uri::read_uri;
 use crate::values::{
     cseq_number, id_of, joined_in, put_joined, session_name, single_value, startup_number, tags_in,
     unknown_tags,
@@ -76,7 +77,7 @@ fn require_rule(alloc: Global, headers: &Headers) -> Result<(), Fault>
 {
     match joined_in(alloc, headers, b"Require")? {
         None => Ok(()),
-        Some(value) => require_of_value(alloc, &value),
+        Some(value) => require_of_value(alloc, value.as_slice()),
     }
 }
 
@@ -95,12 +96,10 @@ fn media_of(alloc: Global, table: &Table, text: &[u8]) -> Result<Target, Fault>
     match table.find(url.path().as_bytes()) {
         Found::Nothing => Err(Fault::Refused(Status::NotFound)),
         Found::Presentation(presentation) => {
-            let base = Text::from_vec(base_of(alloc, &url)?);
-            Ok(Target::Presentation(base, presentation))
+            Ok(Target::Presentation(MediaBase::new(url), presentation))
         }
         Found::Track(presentation, track) => {
-            let base = Text::from_vec(base_of(alloc, &url)?);
-            Ok(Target::Track(base, presentation, track))
+            Ok(Target::Track(MediaBase::new(url), presentation, track))
         }
     }
 }

@@ -78,20 +78,21 @@ pub fn has_position(names: &[Parameter]) -> bool
 #[tactic(auto, unfolding(crate::specs::GetParameter::parameter_line))]
 fn put_parameter(
     out: &mut Vec<u8>,
-    timing: Timing,
+    timing: &Timing,
     at: u32,
     name: Parameter,
 ) -> Result<(), AllocError>
-    ensures { OnOk result (out.new.items ≡ out.old.items ++ parameter_line timing at name) }
+    ensures { OnOk result (out.new.items ≡ out.old.items ++ parameter_line timing.now at name) }
 {
+    let unit_ms = timing.unit_ms;
     match name {
         Parameter::Position => {
             out.extend_from_slice(text_of(Word::PositionIs))?;
-            write_time(out, at, timing.unit_ms)?;
+            write_time(out, at, unit_ms)?;
         }
         Parameter::Duration => {
             out.extend_from_slice(text_of(Word::DurationIs))?;
-            write_time(out, timing.units, timing.unit_ms)?;
+            write_time(out, timing.units, unit_ms)?;
         }
     }
     out.extend_from_slice(text_of(Word::LineEnd))
@@ -108,7 +109,7 @@ pub fn parameters_body(
 {
     let mut body = Vec::new(alloc);
     for name in names {
-        put_parameter(&mut body, timing, at, *name)?;
+        put_parameter(&mut body, &timing, at, *name)?;
     }
     Ok(body)
 }

@@ -29,7 +29,7 @@ fn pause_presentation(
     let Some(presentation) = context.table.presentation(presentation) else {
         return Err(Fault::Refused(Status::NotFound));
     };
-    let unit_ms = presentation.unit_ms();
+    let unit_ms = presentation.unit_ms().ms();
     Ok(Plan::Step(StepPlan {
         start: context.start,
         done: context.start,

@@ -8,6 +8,7 @@ ghost use Rattle.rtsp_state.specs.Play.{fault_of, range_in, from_of, units_in, u
 
 use crate::context::{Context, is_other, streams_of, timing_of};
 use crate::fault::{Fault, must};
+use crate::media_base::MediaBase;
 use crate::plan::{Details, Plan, RtpInfo, StepPlan, StreamInfo};
 use crate::request::Target;
 use crate::status::Status;
@@ -83,7 +84,7 @@ fn units_asked(
     let value = single_value(context.headers, b"Range")?;
     let range = range_in(value)?;
     let unit_ms = presentation.unit_ms();
-    let resume = view.phase().point(unit_ms, context.moment);
+    let resume = view.phase().point(unit_ms.ms(), context.moment);
     units_in(range, resolve(range, resume, unit_ms, presentation.units()))
 }
 
@@ -101,15 +102,22 @@ fn stream_of(track: usize, streams: &[Stream]) -> Option<Stream>
 
 fn stream_info(
     alloc: Global,
-    base: &[u8],
+    base: &MediaBase,
     track: &Track,
     stream: Stream,
 ) -> Result<StreamInfo, Fault>
     ensures { Gives result (Ok (stream_info base.now track.now stream)) }
 {
-    let mut url = Vec::new(alloc);
-    url.extend_from_slice(base)?;
-    url.extend_from_slice(track.name().as_bytes())?;
+    let (bytes, slash) = base.parts();
+    let name = track.name().as_bytes();
+    let size = bytes
+        .len()
+        .saturating_add(slash.len())
+        .saturating_add(name.len());
+    let mut url = Vec::with_capacity(alloc, size)?;
+    url.extend_from_slice(bytes)?;
+    url.extend_from_slice(slash)?;
+    url.extend_from_slice(name)?;
     Ok(StreamInfo {
         url: Text::from_vec(url),
         ssrc: stream.ssrc,
@@ -122,7 +130,7 @@ fn stream_info(
 /// What RTP-Info shows, in the order of the tracks.
 pub fn rtp_info(
     alloc: Global,
-    base: &[u8],
+    base: &MediaBase,
     streams: &[Stream],
     tracks: &[Track],
 ) -> Result<RtpInfo, Fault>
@@ -141,7 +149,7 @@ fn play_presentation(
     alloc: Global,
     context: &Context<'_>,
     view: &SessionView,
-    base: &[u8],
+    base: &MediaBase,
     presentation: u16,
 ) -> Result<Plan, Fault>
     ensures value { Gives result (play_presentation (context_value context.now) view.now base.now presentation) }
@@ -162,7 +170,7 @@ fn play_presentation(
             session: view.session(),
             from: units.from,
             stop: units.stop,
-            unit_ms: presentation.unit_ms(),
+            unit_ms: presentation.unit_ms().ms(),
             now: context.moment,
         }),
         details: Details::Played {
@@ -185,7 +193,7 @@ pub fn play(
     match target {
         Target::Track(..) => Err(Fault::Refused(Status::OnlyAggregateAllowed)),
         Target::Presentation(base, presentation) => {
-            play_presentation(alloc, context, view, base.as_bytes(), *presentation)
+            play_presentation(alloc, context, view, base, *presentation)
         }
         Target::Server | Target::Star => Err(Fault::Refused(Status::BadRequest)),
     }

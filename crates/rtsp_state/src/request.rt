@@ -2,13 +2,13 @@
 
 ghost use Rattle.std.specs.Prelude.{◌≡◌};
 
+use crate::media_base::MediaBase;
 use crate::method::Method;
 use crate::reply::Reply;
-use rtsp_grammar::{Headers, Text};
+use rtsp_grammar::Headers;
 use std::marker::Model;
 
-/// What the URI of a request names. Media comes with its URI, as it is written without query and fragment and with a
-/// slash at its end.
+/// What the URI of a request names. Media comes with its URI.
 #[derive(Debug, Drop)]
 pub enum Target {
     /// OPTIONS is about the server, whatever its URI.
@@ -16,9 +16,9 @@ pub enum Target {
     /// `*`, which GET_PARAMETER and SET_PARAMETER take.
     Star,
     /// A presentation, by its place in the table.
-    Presentation(Text, u16),
+    Presentation(MediaBase, u16),
     /// A track, by the places of its presentation and of itself.
-    Track(Text, u16, u16),
+    Track(MediaBase, u16, u16),
 }
 
 /// How a request names a session: by its id, or by a startup number of the connection (RFC 7826 section 18.33).

@@ -8,7 +8,7 @@ ghost use Rattle.rtsp_npt.specs.Printed.{time_text, range_text, stop_text};
 ghost use Rattle.rtsp_state.specs.Room.{Takes};
 
 use itoa::Buffer;
-use rtsp_npt::{write_range, write_stop, write_time};
+use rtsp_npt::{UnitLength, write_range, write_stop, write_time};
 use rtsp_transport::{Granted, write_session_id, write_ssrc, write_transport};
 use std::alloc::{AllocError, Global};
 use std::marker::Model;
@@ -145,7 +145,7 @@ impl Room {
 
     /// Writes the time at which a unit begins, in seconds.
     #[tactic(auto, using(crate::proofs::RoomLemmas::appended, crate::proofs::RoomLemmas::time_most))]
-    pub(crate) fn put_time(&mut self, unit: u32, unit_ms: u32)
+    pub(crate) fn put_time(&mut self, unit: u32, unit_ms: UnitLength)
         requires { 21 ≤ self.old.spare }
         ensures text { self.new.text ≡ self.old.text ++ time_text unit unit_ms }
         ensures room { Takes self.old self.new 21 }
@@ -155,7 +155,7 @@ impl Room {
 
     /// Writes the range of the units from `from` on and before `stop`.
     #[tactic(auto, using(crate::proofs::RoomLemmas::appended, crate::proofs::RoomLemmas::range_most))]
-    pub(crate) fn put_range(&mut self, from: u32, stop: u32, unit_ms: u32)
+    pub(crate) fn put_range(&mut self, from: u32, stop: u32, unit_ms: UnitLength)
         requires { 47 ≤ self.old.spare }
         ensures text { self.new.text ≡ self.old.text ++ range_text from stop unit_ms }
         ensures room { Takes self.old self.new 47 }
@@ -165,7 +165,7 @@ impl Room {
 
     /// Writes the range that has a stop alone.
     #[tactic(auto, using(crate::proofs::RoomLemmas::appended, crate::proofs::RoomLemmas::stop_most))]
-    pub(crate) fn put_stop(&mut self, stop: u32, unit_ms: u32)
+    pub(crate) fn put_stop(&mut self, stop: u32, unit_ms: UnitLength)
         requires { 26 ≤ self.old.spare }
         ensures text { self.new.text ≡ self.old.text ++ stop_text stop unit_ms }
         ensures room { Takes self.old self.new 26 }

@@ -16,6 +16,7 @@ use crate::setup_plan::{Delivery, SessionKey, SetupPlan, SetupSession};
 use crate::status::Status;
 use crate::values::{joined_in, specs_in};
 use rtsp_book::SessionView;
+use rtsp_grammar::Headers;
 use rtsp_record::Phase;
 use rtsp_transport::{Pick, Spec, pick};
 use std::alloc::Global;
@@ -68,6 +69,16 @@ fn delivery_in(alloc: Global, peer: u32, value: &[u8]) -> Result<Delivery, Fault
     delivery_of(pick_of(&specs, peer))
 }
 
+// How the packets are sent, by the Transport headers of a request.
+fn delivery_asked(alloc: Global, peer: u32, headers: &Headers) -> Result<Delivery, Fault>
+    ensures { Gives result (delivery_in peer (joined_in (codes "Transport") headers.now)) }
+{
+    match joined_in(alloc, headers, b"Transport")? {
+        None => Err(Fault::Refused(Status::BadRequest)),
+        Some(value) => delivery_in(alloc, peer, value.as_slice()),
+    }
+}
+
 // The session that the track is set up in: the one that lives, else a new one.
 fn session_of(context: &Context<'_>, view: Option<&SessionView>, name: Option<Name>) -> SetupSession
     ensures { result ≡ session_of (context_value context.now) (option_map (λ v. v.now) view.entry) name }
@@ -100,11 +111,7 @@ fn setup_track(
     ensures conducted { IfOk result IsConducted }
 {
     may_set_up(alloc, presentation, view)?;
-    let value = joined_in(alloc, context.headers, b"Transport")?;
-    let Some(value) = value else {
-        return Err(Fault::Refused(Status::BadRequest));
-    };
-    let delivery = delivery_in(alloc, context.peer, &value)?;
+    let delivery = delivery_asked(alloc, context.peer, context.headers)?;
     let Some(shown) = context.table.presentation(presentation) else {
         return Err(Fault::Refused(Status::NotFound));
     };

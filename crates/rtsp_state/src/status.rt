@@ -1,7 +1,7 @@
 //! The statuses of responses (RFC 7826 section 17).
 
 ghost use Rattle.std.specs.Prelude.{◌≡◌};
-ghost use Rattle.rtsp_state.specs.Status.{code, reason, status_of};
+ghost use Rattle.rtsp_state.specs.Status.{code, status_of};
 
 use rtsp_book::Refusal;
 
@@ -49,31 +49,6 @@ pub fn code(status: Status) -> u16
         Status::Unavailable => 503,
         Status::VersionNotSupported => 505,
         Status::OptionNotSupported => 551,
-    }
-}
-
-pub fn reason(status: Status) -> &'static [u8]
-    ensures { result.now ≡ reason status }
-{
-    match status {
-        Status::Success => b"OK",
-        Status::BadRequest => b"Bad Request",
-        Status::NotFound => b"Not Found",
-        Status::ParameterNotUnderstood => b"Parameter Not Understood",
-        Status::NotEnoughBandwidth => b"Not Enough Bandwidth",
-        Status::SessionNotFound => b"Session Not Found",
-        Status::MethodNotValid => b"Method Not Valid in This State",
-        Status::HeaderNotValid => b"Header Field Not Valid for Resource",
-        Status::InvalidRange => b"Invalid Range",
-        Status::AggregateNotAllowed => b"Aggregate Operation Not Allowed",
-        Status::OnlyAggregateAllowed => b"Only Aggregate Operation Allowed",
-        Status::UnsupportedTransport => b"Unsupported Transport",
-        Status::DestinationProhibited => b"Destination Prohibited",
-        Status::ServerError => b"Internal Server Error",
-        Status::NotImplemented => b"Not Implemented",
-        Status::Unavailable => b"Service Unavailable",
-        Status::VersionNotSupported => b"RTSP Version Not Supported",
-        Status::OptionNotSupported => b"Option Not Supported",
     }
 }
 

@@ -74,14 +74,14 @@ fn paused_at(at: u32, phase: Option<Phase>) -> u32
 
 // What is played, and how many units were sent in earlier plays.
 #[derive(Clone, Copy)]
-struct Play {
+pub struct Played {
     from: u32,
     stop: u32,
     sent: u32,
 }
 
-fn played_in(phase: Option<Phase>) -> Play
-    ensures { record { from = result.from; stop = result.stop; sent = result.sent } ≡ played_in phase }
+fn played_in(phase: Option<Phase>) -> Played
+    ensures { result ≡ played_in phase }
 {
     match phase {
         Some(
@@ -91,8 +91,8 @@ fn played_in(phase: Option<Phase>) -> Play
                 sent,
                 ..
             },
-        ) => Play { from, stop, sent },
-        _ => Play {
+        ) => Played { from, stop, sent },
+        _ => Played {
             from: 0,
             stop: 0,
             sent: 0,
@@ -101,9 +101,9 @@ fn played_in(phase: Option<Phase>) -> Play
 }
 
 #[tactic(auto, using(crate::proofs::MessageLemmas::headers_three))]
-fn put_played(room: &mut Room, timing: Timing, streams: &[StreamInfo], play: Play)
+fn put_played(room: &mut Room, timing: Timing, streams: &[StreamInfo], play: Played)
     requires { info_room streams.now + 110 ≤ room.old.spare }
-    ensures text { room.new.text ≡ room.old.text ++ headers_text (played_lines timing streams.now (record { from = play.from; stop = play.stop; sent = play.sent })) }
+    ensures text { room.new.text ≡ room.old.text ++ headers_text (played_lines timing streams.now play) }
     ensures room { Takes room.old room.new (info_room streams.now + 110) }
 {
     put_range(room, play.from, play.stop, timing.unit_ms);

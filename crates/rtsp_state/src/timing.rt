@@ -1,8 +1,10 @@
 //! How long a presentation lasts.
 
-/// How many units a presentation has, and how many milliseconds each lasts.
+use rtsp_npt::UnitLength;
+
+/// How many units a presentation has, and how long each lasts.
 #[derive(Clone, Copy, Debug)]
 pub struct Timing {
     pub units: u32,
-    pub unit_ms: u32,
+    pub unit_ms: UnitLength,
 }

@@ -1,11 +1,11 @@
 //! Request URIs.
 
-ghost use Rattle.std.specs.Prelude.{◌≡◌, ◌++◌, IfOk};
-ghost use Rattle.rtsp_state.specs.Values.{rtsp_url, uri_of, bare_text, with_slash};
+ghost use Rattle.std.specs.Prelude.{◌≡◌, IfOk};
+ghost use Rattle.rtsp_state.specs.Values.{rtsp_url, uri_of};
 
 use std::alloc::{AllocError, Global};
 use std::str;
-use url::{ParseError, Position, Url};
+use url::{ParseError, Url};
 
 /// The rtsp URL that a text spells, or `None`.
 fn read_url(alloc: Global, text: &str) -> Result<Option<Url>, AllocError>
@@ -33,17 +33,4 @@ pub fn read_uri(alloc: Global, text: &[u8]) -> Result<Option<Url>, AllocError>
         Ok(text) => read_url(alloc, text),
         Err(_) => Ok(None),
     }
-}
-
-/// The URL without query and fragment, with one slash at its end: the names of tracks are appended to it.
-#[tactic(auto, unfolding(crate::specs::Values::with_slash))]
-pub fn base_of(alloc: Global, url: &Url) -> Result<Vec<u8>, AllocError>
-    ensures { IfOk result (λ text. text.items ≡ with_slash (bare_text url.now)) }
-{
-    let base = url.slice(Position::BeforeScheme, Position::AfterPath);
-    let mut text = Vec::from_slice(alloc, base.as_bytes())?;
-    if !base.ends_with('/') {
-        text.push(b'/')?;
-    }
-    Ok(text)
 }

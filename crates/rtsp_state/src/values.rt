@@ -1,6 +1,7 @@
 //! Values of a request's headers, as the lower crates read them.
 
 ghost use Rattle.std.specs.Prelude.{◌≡◌, ◌++◌, ◌∷◌, [], IfOk, OnOk, option_map};
+ghost use Rattle.std.specs.Cow.{cow_slice_items};
 ghost use Rattle.std.specs.List.{flat_map};
 ghost use Rattle.rtsp_grammar.specs.Header.{values_of};
 ghost use Rattle.rtsp_text.specs.Decimal.{number_of};
@@ -16,6 +17,7 @@ use rtsp_transport::{
     session_id,
 };
 use std::alloc::{AllocError, Global};
+use std::borrow::CowSlice;
 
 /// The value of a header that may be given once.
 pub fn single_value<'a>(headers: &'a Headers, name: &[u8]) -> Result<Option<&'a [u8]>, Fault>
@@ -59,21 +61,31 @@ fn values_of<'a>(
     Ok(values)
 }
 
-/// The values of the headers of a name, joined into one.
-pub fn joined_in(
-    alloc: Global,
-    headers: &Headers,
-    name: &[u8],
-) -> Result<Option<Vec<u8>>, AllocError>
-    ensures { IfOk result (λ o. option_map (λ v. v.items) o ≡ joined_in name.now headers.now) }
+// The values of several headers of a name, joined into one.
+fn several_joined(alloc: Global, headers: &Headers, name: &[u8]) -> Result<Vec<u8>, AllocError>
+    ensures { IfOk result (λ v. v.items ≡ joined (values_of name.now headers.now)) }
 {
     let values = values_of(alloc, headers, name)?;
-    if values.is_empty() {
-        return Ok(None);
-    }
     let mut joined = Vec::new(alloc);
     put_joined(&mut joined, &values)?;
-    Ok(Some(joined))
+    Ok(joined)
+}
+
+/// The values of the headers of a name, joined into one. A single one is lent.
+pub fn joined_in<'a>(
+    alloc: Global,
+    headers: &'a Headers,
+    name: &[u8],
+) -> Result<Option<CowSlice<'a, u8>>, AllocError>
+    ensures { IfOk result (λ o. option_map (λ v. cow_slice_items v) o ≡ joined_in name.now headers.now) }
+{
+    let Some(first) = headers.nth_value(name, 0) else {
+        return Ok(None);
+    };
+    if headers.count_of(name) == 1 {
+        return Ok(Some(CowSlice::Borrowed(first)));
+    }
+    Ok(Some(CowSlice::Owned(several_joined(alloc, headers, name)?)))
 }
 
 /// The number of a CSeq header.

@@ -19,6 +19,3 @@ pub use list::List;
 pub use split::split_once;
 pub use text::Text;
 pub use trim::{trim_end, trim_start, trimmed};
-
-#[cfg(test)]
-mod tests;

@@ -25,6 +25,3 @@ pub use spec::{Parameter, Spec};
 pub use tags::{is_known, read_tags};
 pub use transports::{pick, read_transports};
 pub use write::{Granted, write_ssrc, write_transport};
-
-#[cfg(test)]
-mod tests;

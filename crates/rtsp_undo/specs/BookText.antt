@@ -2,6 +2,7 @@
 use Rattle.std.specs.Prelude.{ℕ, ◌-◌, List, [], ◌∷◌, ◌++◌, Option, Some, None, codes, decimal}
 use Rattle.std.specs.List.{flat_map}
 use Rattle.std.specs.FinMap.{entries}
+use Rattle.rtsp_text.specs.Hexadecimal.{hex_text}
 use Rattle.rtsp_record.specs.declared.holdings.Admission.{Admission}
 use Rattle.rtsp_record.specs.declared.holdings.Thing.{Thing}
 use Rattle.rtsp_record.specs.declared.holdings.Whole.{Whole}
@@ -10,7 +11,7 @@ use Rattle.rtsp_record.specs.Books.{Session, Book}
 use Rattle.rtsp_record.specs.Records.{holds, binds}
 use Rattle.rtsp_record.specs.Rules.{as_rate}
 use Rattle.rtsp_record.specs.Sums.{amount, held_rate}
-use Rattle.rtsp_record.specs.JournalText.{hex_digits, line_text, phase_text, setup_fields, record_line}
+use Rattle.rtsp_record.specs.JournalText.{line_text, phase_text, setup_fields, record_line}
 use Rattle.rtsp_undo.specs.Pools.{pairs, free_pairs}
 
 -- the line of the thing that a session holds under an admission, where there is one
@@ -34,7 +35,7 @@ binding_lines s (Some k) = record_line (binds s k.0 k.1)
 
 -- the first line of a session: its number, id, connection, expiry and phase
 abbrev pub session_line : ℕ → Session → List ℕ
-session_line s f = line_text (codes "session" ∷ decimal s ∷ hex_digits 32 f.id ∷ decimal f.conn ∷ decimal f.expires ∷ phase_text f.phase ∷ [])
+session_line s f = line_text (codes "session" ∷ decimal s ∷ hex_text 32 f.id ∷ decimal f.conn ∷ decimal f.expires ∷ phase_text f.phase ∷ [])
 
 -- the lines of a session: its own, those of its admissions in ascending order, and its binding's
 abbrev pub session_text : ℕ × Session → List ℕ

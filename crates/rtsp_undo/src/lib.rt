@@ -23,6 +23,3 @@ pub use replays::{AuditFault, replay, replay_without_admission, replay_without_s
 pub use rewinds::{Cut, rewind};
 pub use strands::same_strands;
 pub use text::book_text;
-
-#[cfg(test)]
-mod tests;

@@ -2,10 +2,10 @@
 
 ghost use Rattle.std.specs.Prelude.{◌≡◌, ◌++◌, ◌≤◌, OnOk, OnErr};
 ghost use Rattle.std.specs.List.{AllByRecursion};
+ghost use Rattle.rtsp_text.specs.Appending.{Appends};
 ghost use Rattle.rtsp_record.specs.Records.{session_of};
 ghost use Rattle.rtsp_record.specs.Books.{book_of};
 ghost use Rattle.rtsp_record.specs.Choices.{HasPorts};
-ghost use Rattle.rtsp_record.specs.JournalWriting.{Appends};
 ghost use Rattle.rtsp_undo.specs.Pools.{free_pairs};
 ghost use Rattle.rtsp_undo.specs.BookText.{book_text};
 
@@ -14,6 +14,7 @@ mod sessions;
 
 use rtsp_book::{BookRep, Kept};
 use rtsp_record::{Entry, Field, write_line};
+use rtsp_text::all_or_nothing;
 use sessions::write_sessions;
 use std::alloc::AllocError;
 
@@ -25,10 +26,7 @@ pub fn book_text<B: BookRep>(out: &mut Vec<u8>, kept: &Kept<B>) -> Result<(), Al
 {
     let len = out.len();
     let written = write_book(out, kept);
-    if written.is_err() {
-        out.truncate(len);
-    }
-    written
+    all_or_nothing(out, len, written)
 }
 
 // How many pairs of ports are free, counted from the least on.

@@ -1,5 +1,1 @@
-pub mod Known
-pub mod Going
-pub mod Sizes
-pub mod HoldLemmas
 pub mod Numbers

@@ -1,9 +1,4 @@
-pub mod Streams
-pub mod FaultResponses
-pub mod Served
-pub mod Causes
-pub mod Admitting
-pub mod Conversing
-pub mod Desk
+pub mod CountedWords
+pub mod PairSet
 pub mod CommandLine
 pub mod Exits

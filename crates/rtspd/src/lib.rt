@@ -1,39 +1,25 @@
 //! The server's programs: a conversation over a reader and a writer, and the audit of a journal.
 //!
-//! `serving` is the loop that moves bytes; `conversing` answers one request; `admitting` is the chain of an admission;
-//! `running` puts them together for a command line.
+//! `running` runs a command line; `one_connection` is the server behind standard input and output, over the devices that
+//! it has in place of a clock, random words and sockets.
 #![tactic(auto)]
 
-mod admitting;
 mod command_line;
-mod conducting;
-mod conversing;
-mod desk;
+mod counted_words;
+mod devices;
 mod example;
 mod exit;
-mod fault_responses;
-mod given_ids;
+mod one_connection;
+mod pair_set;
 mod running;
-mod serving;
-mod streams;
 
-pub use admitting::admit;
 pub use command_line::{CommandLine, read_words};
-pub use conversing::{Asker, respond};
-pub use desk::{Desk, stdio_core};
+pub use counted_words::CountedWords;
+pub use devices::{NoPlays, StandingClock};
 pub use example::EXAMPLE;
 pub use exit::Exit;
-pub use fault_responses::fault_response;
-pub use given_ids::GivenIds;
+pub use pair_set::PairSet;
 pub use running::run_words;
-pub use serving::{Answerer, ServeEnd, TURNS, serve_turns};
-pub use streams::{ByteIn, ByteOut, CountedReader, CountedWriter, StreamFault};
 
-#[cfg(test)]
-mod audit_tests;
-#[cfg(test)]
-mod command_line_tests;
-#[cfg(test)]
-mod conversation_tests;
 #[cfg(test)]
 mod tests;

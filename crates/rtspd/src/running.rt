@@ -1,30 +1,23 @@
 //! The programs that need no socket: a conversation over standard input and output, and the audit of a journal.
-ghost use Rattle.rtsp_record.specs.Choices.{HasPorts};
-
 use crate::command_line::{CommandLine, read_words};
-use crate::conversing::Asker;
-use crate::desk::{Desk, stdio_core};
 use crate::example::EXAMPLE;
 use crate::exit::Exit;
-use crate::given_ids::GivenIds;
-use crate::serving::ServeEnd;
-use crate::streams::{ByteOut, CountedReader, CountedWriter, StreamFault};
-use rtsp_book::{Kept, PlainBook};
+use crate::one_connection::{OneConnection, whole_of};
+use rtsp_book::PlainBook;
 use rtsp_content::{Table, TableFault};
+use rtsp_engine::{ByteOut, CountedReader, CountedWriter, ServeEnd, StreamFault, TURNS};
 use rtsp_grammar::MessageFault;
-use rtsp_record::{Entry, JournalFault, Whole, read_journal, write_journal};
+use rtsp_record::{Entry, JournalFault, read_journal, write_journal};
 use rtsp_undo::{AuditFault, book_text, replay, rewind, without_admission, without_session};
 use std::alloc::Global;
 use std::fs;
 use std::io::{self, ErrorKind, Read, Write};
 use std::rt::Files;
-
-/// The address of the player at standard input: 127.0.0.1.
-const PEER: u32 = 0x7f00_0001;
+use std::sync::Wait;
 
 /// Runs a command line, and returns how that ended. First the words are read, then the configuration, then the
 /// journal or the conversation; the first fault met is returned.
-pub fn run_words<R: Files + AllocGlobal, I: Read + Drop, O: Write + Drop>(
+pub fn run_words<R: Files + AllocGlobal + Wait, I: Read + Drop, O: Write + Drop>(
     rt: &R,
     words: &[&str],
     reader: I,
@@ -94,43 +87,7 @@ pub(crate) fn read_table<R: Files + AllocGlobal>(
     }
 }
 
-// What there is to hold by a configuration.
-fn whole_of(table: &Table) -> Whole
-    ensures { HasPorts result }
-{
-    let server = table.server();
-    Whole {
-        first_port: server.first_port,
-        pairs: server.pairs,
-        uplink: server.uplink,
-        sessions: server.sessions,
-        journal: server.journal,
-    }
-}
-
-// A desk at which nothing was asked yet. Its connection has the first number.
-pub(crate) fn open_desk(alloc: Global, table: Table) -> Result<Desk<PlainBook>, Exit> {
-    let whole = whole_of(&table);
-    let Ok(mut kept) = Kept::open(alloc, &whole) else {
-        return Err(Exit::OutOfMemory);
-    };
-    let Ok(conn) = kept.draw() else {
-        return Err(Exit::OutOfMemory);
-    };
-    let asker = Asker {
-        conn,
-        peer: PEER,
-        moment: 0,
-    };
-    Ok(Desk {
-        kept,
-        given: GivenIds { ids: 0, ssrcs: 0 },
-        table,
-        asker,
-    })
-}
-
-fn run_stdio<R: Files + AllocGlobal, I: Read + Drop, O: Write + Drop>(
+fn run_stdio<R: Files + AllocGlobal + Wait, I: Read + Drop, O: Write + Drop>(
     rt: &R,
     config: Option<&str>,
     journal: Option<&str>,
@@ -138,16 +95,16 @@ fn run_stdio<R: Files + AllocGlobal, I: Read + Drop, O: Write + Drop>(
     writer: O,
 ) -> Result<(), Exit> {
     let table = read_table(rt, config)?;
-    let mut desk = open_desk(rt.alloc(), table)?;
+    let mut connection = OneConnection::open(rt, rt.alloc(), table)?;
     let mut reader = CountedReader::new(reader);
     let mut writer = CountedWriter::new(writer);
-    let served = served(&stdio_core(rt.alloc(), &mut desk, &mut reader, &mut writer));
+    let end = connection.serve(rt, rt.alloc(), &mut reader, &mut writer, TURNS);
     // The journal is written however serving ended; the first fault is returned.
     let written = match journal {
-        Some(path) => write_out(rt, path, desk.kept.journal()),
+        Some(path) => write_out(rt, path, connection.finish(rt).journal()),
         None => Ok(()),
     };
-    served?;
+    served(&end)?;
     written
 }
 

@@ -1,10 +1,14 @@
-use crate::desk::{Desk, stdio_core};
-use crate::running::{open_desk, read_table};
-use crate::{CountedReader, CountedWriter, Exit, ServeEnd, run_words, serve_turns};
-use rtsp_book::{BookRep, PlainBook};
+use crate::one_connection::OneConnection;
+use crate::running::read_table;
+use crate::{Exit, run_words};
+use rtsp_book::{BookRep, Kept};
+use rtsp_engine::{CountedReader, CountedWriter, ServeEnd, TURNS};
 use rtsp_grammar::MessageFault;
+use rtsp_lock::LockBook;
 use rtsp_record::write_journal;
 use rtsp_undo::{book_text, rewind};
+use std::rt::Files;
+use std::sync::Wait;
 use std::test::Fail;
 
 const OPTIONS: &str = "OPTIONS * RTSP/2.0\r\nCSeq: 1\r\n\r\n";
@@ -30,41 +34,42 @@ pub(crate) const JOURNAL: &str = "0 open 2 00000000000000000000000000000001 1 60
 const TEARDOWN: &str = "TEARDOWN rtsp://h/tone RTSP/2.0\r\nCSeq: 3\r\n\
     Session: 00000000000000000000000000000001\r\n\r\n";
 
-// What a conversation of the example's server says, and how it leaves the desk.
+// What a conversation of the example's server says, and the book that it leaves.
 #[derive(Drop)]
 struct Conversation {
     said: Vec<u8>,
-    desk: Desk<PlainBook>,
+    kept: Kept<LockBook>,
     end: ServeEnd,
 }
 
-fn talk(rt: &HostRuntime, input: &[&str]) -> Result<Conversation, Fail> {
+fn talk<R: Files + AllocGlobal + Wait>(rt: &R, input: &[&str]) -> Result<Conversation, Fail> {
     let mut text: Vec<u8> = Vec::new(rt.alloc());
     for part in input {
         text.extend_from_slice(part.as_bytes())?;
     }
     let table = read_table(rt, None)?;
-    let mut desk = open_desk(rt.alloc(), table)?;
+    let mut connection = OneConnection::open(rt, rt.alloc(), table)?;
     let mut said: Vec<u8> = Vec::new(rt.alloc());
     let mut reader = CountedReader::new(text.as_slice());
     let end = {
         let mut writer = CountedWriter::new(&mut said);
-        stdio_core(rt.alloc(), &mut desk, &mut reader, &mut writer)
+        connection.serve(rt, rt.alloc(), &mut reader, &mut writer, TURNS)
     };
-    Ok(Conversation { said, desk, end })
+    let kept = connection.finish(rt);
+    Ok(Conversation { said, kept, end })
 }
 
-// The journal of a desk as a text, and its book after this many entries are undone.
-fn journal_of(rt: &HostRuntime, desk: &Desk<PlainBook>) -> Result<Vec<u8>, Fail> {
+// A journal as a text, and its book after this many entries are undone.
+fn journal_of(rt: &HostRuntime, kept: &Kept<LockBook>) -> Result<Vec<u8>, Fail> {
     let mut text: Vec<u8> = Vec::new(rt.alloc());
-    write_journal(&mut text, desk.kept.journal())?;
+    write_journal(&mut text, kept.journal())?;
     Ok(text)
 }
 
-fn book_of(rt: &HostRuntime, desk: &mut Desk<PlainBook>, back: usize) -> Result<Vec<u8>, Fail> {
-    rewind(&mut desk.kept, back)?;
+fn book_of(rt: &HostRuntime, kept: &mut Kept<LockBook>, back: usize) -> Result<Vec<u8>, Fail> {
+    rewind(kept, back)?;
     let mut text: Vec<u8> = Vec::new(rt.alloc());
-    book_text(&mut text, &desk.kept)?;
+    book_text(&mut text, kept)?;
     Ok(text)
 }
 
@@ -91,11 +96,11 @@ fn three_messages_leave_eight_entries(rt: HostRuntime) -> Result<(), Fail> {
         expected.extend_from_slice(answer.as_bytes())?;
     }
     assert_eq!(rt; talk.said.as_slice(), expected.as_slice());
-    assert_eq!(rt; talk.desk.kept.journal().len(), 8);
+    assert_eq!(rt; talk.kept.journal().len(), 8);
     for _ in 0..8 {
-        assert!(rt; talk.desk.kept.undo_last()?.is_some());
+        assert!(rt; talk.kept.undo_last()?.is_some());
     }
-    assert!(rt; talk.desk.kept.undo_last()?.is_none());
+    assert!(rt; talk.kept.undo_last()?.is_none());
     Ok(())
 }
 
@@ -103,8 +108,8 @@ fn three_messages_leave_eight_entries(rt: HostRuntime) -> Result<(), Fail> {
 fn a_first_setup_is_four_entries(rt: HostRuntime) -> Result<(), Fail> {
     let mut talk = talk(&rt, [SETUP].as_slice())?;
     assert_eq!(rt; talk.said.as_slice(), SETUP_ANSWER.as_bytes());
-    assert_eq!(rt; journal_of(&rt, &talk.desk)?.as_slice(), JOURNAL.as_bytes());
-    let book = book_of(&rt, &mut talk.desk, 0)?;
+    assert_eq!(rt; journal_of(&rt, &talk.kept)?.as_slice(), JOURNAL.as_bytes());
+    let book = book_of(&rt, &mut talk.kept, 0)?;
     let lines = "session 2 00000000000000000000000000000001 1 60000 ready:0:0\n\
         hold 2 3 rate 80000\n\
         hold 2 3 chan 1 0\n\
@@ -112,7 +117,7 @@ fn a_first_setup_is_four_entries(rt: HostRuntime) -> Result<(), Fail> {
         rate 80000 80000\n\
         pairs 0 2\n";
     assert_eq!(rt; book.as_slice(), lines.as_bytes());
-    let undone = book_of(&rt, &mut talk.desk, 9)?;
+    let undone = book_of(&rt, &mut talk.kept, 9)?;
     assert_eq!(rt; undone.as_slice(), b"rate 0 160000\npairs 0 2\n".as_slice());
     Ok(())
 }
@@ -126,8 +131,8 @@ fn a_refused_setup_leaves_nothing_held(rt: HostRuntime) -> Result<(), Fail> {
     let mut talk = talk(&rt, [SETUP, narrow, third].as_slice())?;
     let refused = "RTSP/2.0 453 Not Enough Bandwidth\r\nCSeq: 3\r\n\r\n";
     assert!(rt; talk.said.as_slice().ends_with(refused.as_bytes()));
-    assert_eq!(rt; talk.desk.kept.journal().len(), 10);
-    let book = book_of(&rt, &mut talk.desk, 0)?;
+    assert_eq!(rt; talk.kept.journal().len(), 10);
+    let book = book_of(&rt, &mut talk.kept, 0)?;
     assert!(rt;
         book.as_slice()
             .ends_with(b"rate 160000 0\npairs 0 2\n".as_slice())
@@ -164,7 +169,7 @@ fn each_refusal_has_its_status(rt: HostRuntime) -> Result<(), Fail> {
         ),
         (
             "SETUP rtsp://h/tone/a RTSP/2.0\r\nCSeq: 1\r\n\
-            Transport: RTP/AVP;unicast;dest_addr=\":8000\"/\":8001\"\r\n\r\n",
+            Transport: RTP/SAVP;unicast;dest_addr=\":8000\"/\":8001\"\r\n\r\n",
             "RTSP/2.0 461 Unsupported Transport\r\nCSeq: 1\r\n\r\n",
         ),
         (
@@ -176,7 +181,7 @@ fn each_refusal_has_its_status(rt: HostRuntime) -> Result<(), Fail> {
     for (request, answer) in cases.iter() {
         let talk = talk(&rt, [*request].as_slice())?;
         assert_eq!(rt; talk.said.as_slice(), answer.as_bytes());
-        assert_eq!(rt; talk.desk.kept.journal().len(), 0);
+        assert_eq!(rt; talk.kept.journal().len(), 0);
     }
     Ok(())
 }
@@ -193,13 +198,13 @@ fn a_bare_line_feed_ends_the_conversation(rt: HostRuntime) -> Result<(), Fail> {
 }
 
 // How many bytes are written, and how it ends, with this many reads.
-fn served_in(rt: &HostRuntime, turns: u64) -> Result<(usize, ServeEnd), Fail> {
-    let mut desk = open_desk(rt.alloc(), read_table(rt, None)?)?;
+fn served_in<R: Files + AllocGlobal + Wait>(rt: &R, turns: u64) -> Result<(usize, ServeEnd), Fail> {
+    let mut connection = OneConnection::open(rt, rt.alloc(), read_table(rt, None)?)?;
     let mut said: Vec<u8> = Vec::new(rt.alloc());
     let mut reader = CountedReader::new(OPTIONS.as_bytes());
     let end = {
         let mut writer = CountedWriter::new(&mut said);
-        serve_turns(rt.alloc(), &mut desk, &mut reader, &mut writer, turns)
+        connection.serve(rt, rt.alloc(), &mut reader, &mut writer, turns)
     };
     Ok((said.len(), end))
 }

@@ -2,9 +2,10 @@
 #![tactic(auto)]
 
 use rtspd::{Exit, run_words};
-use std::io::ErrorKind;
+use std::io::{ErrorKind, Read, Write};
 use std::process::ExitCode;
-use std::rt::Env;
+use std::rt::{Env, Files};
+use std::sync::Wait;
 use std::{env, io};
 
 // The words after the program's name.
@@ -24,17 +25,21 @@ fn words_fault(error: &io::Error) -> Exit {
     }
 }
 
-fn run(rt: &HostRuntime) -> io::Result<Exit> {
+fn run<R: Env + Files + AllocGlobal + Wait, I: Read + Drop, O: Write + Drop>(
+    rt: &R,
+    reader: I,
+    writer: O,
+) -> io::Result<Exit> {
     let words = words(rt)?;
     let mut texts = Vec::new(rt.alloc());
     for word in &words {
         texts.push(word.as_str())?;
     }
-    Ok(run_words(rt, &texts, rt.stdin(), rt.stdout()))
+    Ok(run_words(rt, &texts, reader, writer))
 }
 
 fn main(rt: HostRuntime) -> ExitCode {
-    let exit = match run(&rt) {
+    let exit = match run(&rt, rt.stdin(), rt.stdout()) {
         Ok(exit) => exit,
         Err(error) => words_fault(&error),
     };

@@ -1,10 +1,13 @@
 //! The replies to HoldRate, HoldPair, HoldChan and Return.
 
-ghost use Rattle.std.specs.Prelude.{◌≡◌, [], is_some};
-ghost use Rattle.rtsp_record.specs.Rules.{alike, is_this};
+ghost use Rattle.std.specs.Prelude.{◌≡◌, ◌+◌, ◌≤◌, [], Some, is_some};
+ghost use Rattle.std.specs.FinMap.{get};
+ghost use Rattle.rtsp_record.specs.Sums.{owed};
+ghost use Rattle.rtsp_record.specs.Rules.{alike, is_this, IsFree};
+ghost use Rattle.rtsp_record.specs.Sound.{Sound};
 ghost use Rattle.rtsp_book.specs.Receipts.{filled};
 ghost use Rattle.rtsp_record.specs.Choices.{IsWish};
-ghost use Rattle.rtsp_book.specs.Replies.{answer, is_wrong_hold};
+ghost use Rattle.rtsp_book.specs.Replies.{answer, hold_answer, is_wrong_hold};
 
 use crate::receipts::Receipt;
 use crate::refusals::Refusal;
@@ -48,6 +51,22 @@ fn is_wrong(view: &SessionView, admission: u64, thing: &Thing) -> bool
 }
 
 impl<'a, B: BookRep> Case<'a, B> {
+    // The session that is seen is to hold a thing that is free.
+    fn hold(&self, view: &SessionView, holding: Holding, made: &mut Receipt) -> Result<(), Refusal>
+        requires lives { get self.now.book holding.session ≡ Some view.now.1 }
+        requires free { IsFree self.now.whole self.now.book holding.thing }
+        requires sound { Sound self.now.whole self.now.book }
+        requires room { self.now.entries + owed self.now.book ≤ self.now.whole.journal }
+        requires empty { made.old ≡ [] }
+        ensures { filled result made.new ≡ hold_answer self.now.whole self.now.entries self.now.book holding view.now.1 }
+    {
+        if is_wrong(view, holding.admission, &holding.thing) {
+            return Err(Refusal::WrongState);
+        }
+        made.push(Record::Hold(holding));
+        self.unless_full(made)
+    }
+
     pub(super) fn hold_rate(
         &self,
         session: u64,
@@ -62,16 +81,12 @@ impl<'a, B: BookRep> Case<'a, B> {
         if self.exceeds_uplink(bits) {
             return Err(Refusal::NoBandwidth);
         }
-        let thing = Thing::Rate(bits);
-        if is_wrong(view, admission, &thing) {
-            return Err(Refusal::WrongState);
-        }
-        made.push(Record::Hold(Holding {
+        let holding = Holding {
             session,
             admission,
-            thing,
-        }));
-        self.unless_full(made)
+            thing: Thing::Rate(bits),
+        };
+        self.hold(view, holding, made)
     }
 
     pub(super) fn hold_pair(
@@ -88,16 +103,12 @@ impl<'a, B: BookRep> Case<'a, B> {
         let Some(port) = self.least_pair(from) else {
             return Err(Refusal::NoPair);
         };
-        let thing = Thing::Pair(port);
-        if is_wrong(view, admission, &thing) {
-            return Err(Refusal::WrongState);
-        }
-        made.push(Record::Hold(Holding {
+        let holding = Holding {
             session,
             admission,
-            thing,
-        }));
-        self.unless_full(made)
+            thing: Thing::Pair(port),
+        };
+        self.hold(view, holding, made)
     }
 
     pub(super) fn hold_chan(&self, hold: ChannelHold, made: &mut Receipt) -> Result<(), Refusal>
@@ -109,16 +120,12 @@ impl<'a, B: BookRep> Case<'a, B> {
         let Some(channel) = self.least_chan(hold.conn, hold.wish) else {
             return Err(Refusal::NoChannel);
         };
-        let thing = Thing::Chan(hold.conn, channel);
-        if is_wrong(view, hold.admission, &thing) {
-            return Err(Refusal::WrongState);
-        }
-        made.push(Record::Hold(Holding {
+        let holding = Holding {
             session: hold.session,
             admission: hold.admission,
-            thing,
-        }));
-        self.unless_full(made)
+            thing: Thing::Chan(hold.conn, channel),
+        };
+        self.hold(view, holding, made)
     }
 
     pub(super) fn return_thing(

@@ -44,10 +44,10 @@ impl<'a, B: BookRep> Case<'a, B> {
             return Err(Refusal::WrongState);
         }
         let new = Phase::Playing {
-            since: play.now,
             from: start,
             stop: play.stop,
             sent: old.sent_with_due(play.unit_ms, play.now),
+            since: play.now,
         };
         made.push(Record::Move(Transition {
             session: play.session,

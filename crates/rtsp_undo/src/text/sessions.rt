@@ -3,8 +3,8 @@
 ghost use Rattle.std.specs.Prelude.{◌≡◌, ℕ, ◌≤◌, ◌<◌, ◌^◌, ◌++◌, length, take, None, IfOk, OnOk, OnErr, nat_le};
 ghost use Rattle.std.specs.List.{flat_map};
 ghost use Rattle.std.specs.FinMap.{get, entries};
+ghost use Rattle.rtsp_text.specs.Appending.{Appends};
 ghost use Rattle.rtsp_record.specs.Sums.{amount, of_admission, of_session};
-ghost use Rattle.rtsp_record.specs.JournalWriting.{Appends};
 ghost use Rattle.rtsp_sessions.specs.Lookups.{as_binding};
 ghost use Rattle.rtsp_sessions.specs.Searches.{first_with};
 ghost use Rattle.rtsp_undo.specs.Pools.{pairs};
@@ -28,6 +28,7 @@ fn write_admissions(
     Ok(())
 }
 
+#[tactic(auto, using(rtsp_text::proofs::AppendLemmas::appends_whole))]
 fn write_binding(
     out: &mut Vec<u8>,
     session: u64,
@@ -48,6 +49,7 @@ fn write_binding(
     }
 }
 
+#[tactic(auto, using(rtsp_text::proofs::AppendLemmas::appends_whole))]
 fn write_own(out: &mut Vec<u8>, view: &SessionView) -> Result<(), AllocError>
     ensures { Appends result out.old.items out.new.items (session_line view.now.0 view.now.1) }
 {

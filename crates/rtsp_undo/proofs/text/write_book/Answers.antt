@@ -5,8 +5,8 @@ use Rattle.rtsp_record.specs.Books.{Book, book_of}
 use Rattle.rtsp_record.specs.Sums.{amount, held_rate}
 use Rattle.rtsp_record.specs.declared.holdings.Whole.{Whole}
 use Rattle.rtsp_record.specs.JournalText.{line_text}
-use Rattle.rtsp_record.specs.JournalWriting.{Appends}
-use Rattle.rtsp_record.proofs.WriteLemmas.{appends_then, part_of_line}
+use Rattle.rtsp_text.specs.Appending.{Appends}
+use Rattle.rtsp_text.proofs.AppendLemmas.{appends_then, appends_whole}
 use Rattle.rtsp_record.specs.Choices.{HasPorts}
 use Rattle.rtsp_undo.specs.Pools.{pairs, free_pairs}
 use Rattle.rtsp_undo.specs.BookText.{session_text, rate_line, pairs_line}
@@ -50,10 +50,10 @@ returns g c =
     let sessions : first ≡ old ++ flat_map session_text (entries b) = c.in_ok-pairs.ensures.text ∙ ap (λ (b : Book). old ++ flat_map session_text (entries b)) contents in
     let bits : c.held_rate-rate.result ≡ held_rate b = c.held_rate-rate.ensures ∙ ap held_rate contents in
     let uplink : c.whole-whole.result.now.uplink ≡ w.uplink = ap (λ (w : Whole). w.uplink) c.whole-whole.ensures.value in
-    let rates : second ≡ first ++ rate_line w b = c.in_ok-write_line.ensures.text ∙ (λ i. first ++ line_text (codes "rate" ∷ decimal (bits i) ∷ decimal (uplink i - bits i) ∷ [])) in
+    let rates : second ≡ first ++ rate_line w b = c.in_ok-write_line.ensures.ok ∙ (λ i. first ++ line_text (codes "rate" ∷ decimal (bits i) ∷ decimal (uplink i - bits i) ∷ [])) in
     let held : c.from.result ≡ amount pairs b = omega (arith, c.from.ensures, c.in_ok-pairs.ensures.held, ap (amount pairs) contents) in
     let free : c.from-2.result ≡ free_pairs w b =
     c.from-2.ensures ∙ c.free_pairs.ensures ∙ (λ i. free_pairs (c.book-book.ensures.whole i) (contents i)) in
-    let ends : Appends result second new (pairs_line w b) = subst (λ t. Appends result second new t) (λ i. line_text (codes "pairs" ∷ decimal (held i) ∷ decimal (free i) ∷ [])) (part_of_line result second new _ c.write_line-2.ensures.text) in
+    let ends : Appends result second new (pairs_line w b) = subst (λ t. Appends result second new t) (λ i. line_text (codes "pairs" ∷ decimal (held i) ∷ decimal (free i) ∷ [])) (appends_whole result second new _ c.write_line-2.ensures.ok c.write_line-2.ensures.err) in
     appends_then result old first new (flat_map session_text (entries b)) (rate_line w b ++ pairs_line w b) sessions
     (appends_then result first second new (rate_line w b) (pairs_line w b) rates ends)

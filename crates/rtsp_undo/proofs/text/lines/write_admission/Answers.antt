@@ -1,6 +1,6 @@
 use Rattle.std.proofs.Common.{◌++◌}
 use Rattle.rtsp_record.specs.Rules.{as_rate}
-use Rattle.rtsp_record.proofs.WriteLemmas.{appends_then}
+use Rattle.rtsp_text.proofs.AppendLemmas.{appends_then}
 use Rattle.rtsp_undo.specs.BookText.{hold_lines, stream_lines}
 use Rattle.rtsp_undo.proofs.text.lines.write_admission.Goals as goal
 

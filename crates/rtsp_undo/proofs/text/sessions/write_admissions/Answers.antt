@@ -1,6 +1,6 @@
 use Rattle.std.specs.FinMap.{entries}
 use Rattle.std.proofs.lemmas.Result.{err_from_is_err_and}
-use Rattle.rtsp_record.proofs.WriteLemmas.{kept_front}
+use Rattle.rtsp_text.proofs.AppendLemmas.{kept_front}
 use Rattle.rtsp_undo.proofs.Walks.{lines_more}
 use Rattle.rtsp_undo.proofs.text.sessions.write_admissions.Goals as goal
 

@@ -1,8 +1,8 @@
 use Rattle.std.proofs.Common.{◌≡◌, ◌++◌}
 use Rattle.std.specs.List.{flat_map}
 use Rattle.std.specs.FinMap.{entries}
-use Rattle.rtsp_record.specs.JournalWriting.{Appends}
-use Rattle.rtsp_record.proofs.WriteLemmas.{appends_then}
+use Rattle.rtsp_text.specs.Appending.{Appends}
+use Rattle.rtsp_text.proofs.AppendLemmas.{appends_then}
 use Rattle.rtsp_undo.specs.BookText.{admission_text, binding_lines, session_line}
 use Rattle.rtsp_undo.proofs.text.sessions.write_session.Goals as goal
 

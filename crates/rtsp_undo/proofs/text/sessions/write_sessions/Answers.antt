@@ -1,7 +1,7 @@
 use Rattle.std.proofs.Common.{◌≡◌, ◌+◌, Some, arith, sym, ◌∙◌}
 use Rattle.std.specs.FinMap.{entries}
 use Rattle.std.proofs.lemmas.Result.{err_from_is_err_and}
-use Rattle.rtsp_record.proofs.WriteLemmas.{kept_front}
+use Rattle.rtsp_text.proofs.AppendLemmas.{kept_front}
 use Rattle.rtsp_undo.proofs.Walks.{first_at, walk_begins, walk_goes, walk_within, walk_shorter, walk_stops, walk_ends}
 use Rattle.rtsp_undo.proofs.text.sessions.write_sessions.Goals as goal
 

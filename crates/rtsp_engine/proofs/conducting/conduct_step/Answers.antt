@@ -1,0 +1,23 @@
+use Rattle.std.proofs.Common.{◌++◌, List, ℕ, Ok, refl, ap, ◌∙◌}
+use Rattle.rtsp_grammar.specs.Writing.{response_text}
+use Rattle.rtsp_state.specs.Answer.{step_answer}
+use Rattle.rtsp_engine.proofs.conducting.conduct_step.Goals as goal
+
+pub returns-in-Ok-clause-ok : goal.returns-in-Ok-clause-ok
+returns-in-Ok-clause-ok g c =
+    let made = Ok c.act_step.new.made in
+    record {
+      response = step_answer c.args.plan.now made;
+      is = record {
+        between = c.note.new.plays;
+        noted = c.in_ok-note.ensures.ok;
+        made = made;
+        acted = c.in-Ok.ensures.acted;
+        unbound = c.in-Ok.ensures.unbound;
+        settled = c.settle.ensures;
+        answer = refl;
+        words = refl;
+        clock = refl;
+      };
+      text = c.answer.ensures.text ∙ ap (λ (t : List ℕ). t ++ response_text (step_answer c.args.plan.now made)) c.in_ok-make_room.ensures.text;
+    }

@@ -1,0 +1,109 @@
+-- How a plan is conducted.
+use Rattle.std.specs.Prelude.{◌≡◌, ◌⊎◌, ℕ, Bool, true, false, List, [], Option, Some, None, Result, Ok, Err}
+use Rattle.rtsp_grammar.specs.declared.message.Response.{Response}
+use Rattle.rtsp_record.specs.declared.changes.Record.{Record}
+use Rattle.rtsp_book.specs.declared.asks.Admitted.{Admitted}
+use Rattle.rtsp_book.specs.declared.refusals.Refusal.{Refusal}
+use Rattle.rtsp_book.specs.declared.steps.Step.{Step}
+use Rattle.rtsp_book.specs.declared.steps.Step.TheVariants as step
+use Rattle.rtsp_book.specs.Receipts.{freed_pairs}
+use Rattle.rtsp_lock.specs.declared.view.View.{View}
+use Rattle.rtsp_lock.specs.Calls.{Acted}
+use Rattle.rtsp_admit.specs.Binder.{Calls, UnboundAll}
+use Rattle.rtsp_admit.specs.Runs.{Admits}
+use Rattle.rtsp_state.specs.declared.fault.Fault.TheVariants as faults
+use Rattle.rtsp_state.specs.declared.plan.Plan.{Plan}
+use Rattle.rtsp_state.specs.declared.plan.Plan.TheVariants as plans
+use Rattle.rtsp_state.specs.declared.plan.StepPlan.{StepPlan}
+use Rattle.rtsp_state.specs.declared.setup_plan.Drawn.{Drawn}
+use Rattle.rtsp_state.specs.declared.setup_plan.SetupPlan.{SetupPlan}
+use Rattle.rtsp_state.specs.declared.status.Status.TheVariants.{ServerError, Unavailable}
+use Rattle.rtsp_state.specs.Answer.{step_answer, setup_answer}
+use Rattle.rtsp_state.specs.Response.{refused}
+use Rattle.rtsp_state.specs.SetupPlan.{setup_start, ask_of}
+use Rattle.rtsp_engine.specs.Desk.{State}
+use Rattle.rtsp_engine.specs.Devices.{Devices, Noted, NotNoted, Settled}
+use Rattle.rtsp_engine.specs.Drawing.{opens, GivesWords, LacksWord, DrawsNumbers, LacksNumber}
+use Rattle.rtsp_engine.specs.declared.conducting.SetUp.{SetUp}
+use Rattle.rtsp_engine.specs.declared.conducting.SetUp.TheVariants.{NoWord, NoNumber, Tried}
+use Rattle.rtsp_engine.specs.declared.drawing.GivenWords.{GivenWords}
+use Rattle.rtsp_engine.specs.declared.drawing.Numbers.{Numbers}
+
+-- the session of a play that a step begins
+abbrev pub played : Step → Option ℕ
+played (step.Play play) = Some play.session
+played other = None
+
+-- the pairs that a step freed
+abbrev pub freed_by : Result (List Record) Refusal → List (ℕ × ℕ)
+freed_by (Ok made) = freed_pairs made
+freed_by (Err refusal) = []
+
+abbrev pub is_accepted : Result (List Record) Refusal → Bool
+is_accepted (Ok made) = true
+is_accepted (Err refusal) = false
+
+-- what is drawn for an admission
+abbrev pub drawn_with : ℕ → GivenWords → Numbers → Drawn
+drawn_with conn given n = record {
+  conn = conn;
+  key = n.key;
+  admission = n.admission;
+  ssrc = given.ssrc;
+  seq = given.seq;
+  rtptime = given.rtptime;
+}
+
+-- the response to a track that was to be set up: 500 without words, 503 without numbers
+abbrev pub setup_response : SetupPlan → SetUp → Response
+setup_response plan (NoWord at) = refused (setup_start plan) (faults.Refused ServerError)
+setup_response plan (NoNumber at) = refused (setup_start plan) (faults.Refused Unavailable)
+setup_response plan (Tried n made) = setup_answer plan n.key made
+
+module _ {B W C P : Type 0} (d : Devices B W C P) where
+  -- a play is noted; the step is acted, and the pairs that it freed are unbound; the play is settled, and the outcome answered
+  pub record ConductsStep (uri : List ℕ) (plan : StepPlan) (response : Response) (s t : State B W C P) : Type 0 where
+    pub between : P
+    pub noted : Noted d.plays (played plan.step) plan.start.cseq uri s.plays between
+    pub made : Result (List Record) Refusal
+    pub acted : Acted s.view t.view plan.step made
+    pub unbound : UnboundAll d.binder (freed_by made) s.binder t.binder
+    pub settled : Settled d.plays (played plan.step) (is_accepted made) between t.plays
+    pub answer : response ≡ step_answer plan made
+    pub words : t.words ≡ s.words
+    pub clock : t.clock ≡ s.clock
+
+  -- words are drawn, then numbers, and the admission is made with them
+  pub record Tries (conn : ℕ) (plan : SetupPlan) (n : Numbers) (made : Result Admitted Refusal) (s t : State B W C P) : Type 0 where
+    pub given : GivenWords
+    pub words : GivesWords d.words (opens plan.session) given s.words t.words
+    pub between : View
+    pub numbers : DrawsNumbers plan.session given.id n s.view between
+    pub admits : Admits d.binder (ask_of plan (drawn_with conn given n)) made (record { view = between; binder = s.binder }) (record { view = t.view; binder = t.binder })
+
+  -- how far a track that is to be set up comes
+  abbrev pub SetsUp : ℕ → SetupPlan → SetUp → State B W C P → State B W C P → Type 0
+  SetsUp conn plan (NoWord at) s t = LacksWord d.words (opens plan.session) at s.words t.words × (t.view ≡ s.view) × (t.binder ≡ s.binder)
+  SetsUp conn plan (NoNumber at) s t =
+      (given : GivenWords) × GivesWords d.words (opens plan.session) given s.words t.words × LacksNumber plan.session at s.view t.view × (t.binder ≡ s.binder)
+  SetsUp conn plan (Tried n made) s t = Tries conn plan n made s t
+
+  pub record ConductsSetup (conn : ℕ) (plan : SetupPlan) (response : Response) (s t : State B W C P) : Type 0 where
+    pub outcome : SetUp
+    pub comes : SetsUp conn plan outcome s t
+    pub answer : response ≡ setup_response plan outcome
+    pub clock : t.clock ≡ s.clock
+    pub plays : t.plays ≡ s.plays
+
+  abbrev pub Conducts : ℕ → List ℕ → Plan → Response → State B W C P → State B W C P → Type 0
+  Conducts conn uri (plans.Answer given) response s t = (response ≡ given) × (t ≡ s)
+  Conducts conn uri (plans.Step plan) response s t = ConductsStep uri plan response s t
+  Conducts conn uri (plans.Admit plan) response s t = ConductsSetup conn plan response s t
+
+  -- nothing is done, for want of memory; perhaps a play could not be noted
+  pub record DoesNothing (s t : State B W C P) : Type 0 where
+    pub view : t.view ≡ s.view
+    pub binder : t.binder ≡ s.binder
+    pub words : t.words ≡ s.words
+    pub clock : t.clock ≡ s.clock
+    pub plays : (t.plays ≡ s.plays) ⊎ d.plays.lacks s.plays t.plays

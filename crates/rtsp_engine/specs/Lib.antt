@@ -1,0 +1,11 @@
+pub mod Streams
+pub mod FaultResponses
+pub mod Devices
+pub mod Desk
+pub mod Drawing
+pub mod Renewing
+pub mod Conducting
+pub mod Conversing
+pub mod DeskAnswers
+pub mod Served
+pub mod Causes

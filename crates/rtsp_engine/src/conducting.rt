@@ -1,0 +1,249 @@
+//! How a plan is conducted: its response gets room first; then the step is acted, or the admission
+//! is made; and what came of it is written, which takes no memory.
+
+ghost use Rattle.std.specs.Prelude.{◌≡◌, ◌≤◌, ◌++◌, OnOk, OnErr};
+ghost use Rattle.rtsp_grammar.specs.Writing.{response_text};
+ghost use Rattle.rtsp_book.specs.Receipts.{filled};
+ghost use Rattle.rtsp_book.specs.Replies.{IsAskable};
+ghost use Rattle.rtsp_lock.specs.Calls.{seat_view, IsSeatOf, SameSeat, Acted};
+ghost use Rattle.rtsp_admit.specs.Binder.{UnboundAll};
+ghost use Rattle.rtsp_state.specs.Answer.{setup_answer};
+ghost use Rattle.rtsp_state.specs.Bounds.{setup_room};
+ghost use Rattle.rtsp_state.specs.Conduct.{IsConducted};
+ghost use Rattle.rtsp_engine.specs.Conducting.{played, freed_by, drawn_with, setup_response, SetsUp, ConductsStep, ConductsSetup, Conducts, DoesNothing};
+ghost use Rattle.rtsp_engine.specs.Conversing.{Writes};
+ghost use Rattle.rtsp_engine.specs.Desk.{state, SameParts};
+ghost use Rattle.rtsp_engine.specs.Devices.{devices, Noted, NotNoted, Settled};
+
+use crate::clock::Clock;
+use crate::desk::Desk;
+use crate::drawing::{GivenWords, Lacking, Numbers, Spent, draw_numbers, draw_words, opens};
+use crate::plays::Plays;
+use crate::words::Words;
+use rtsp_admit::{Binder, admit, unbind_all};
+use rtsp_book::{Admitted, Receipt, Refusal, Step};
+use rtsp_lock::{BookLock, BookSeat};
+use rtsp_state::{Drawn, Plan, Reply, Room, SessionKey, SetupPlan, Status, StepPlan};
+use std::alloc::{AllocError, Global};
+use std::sync::Wait;
+
+// How far a track that is to be set up comes.
+#[derive(Clone, Copy)]
+pub(crate) enum SetUp {
+    NoWord(Lacking),
+    NoNumber(Spent),
+    // What came of its admission.
+    Tried(Numbers, Result<Admitted, Refusal>),
+}
+
+// The session of a play that a step begins.
+fn played(step: &Step) -> Option<u64>
+    ensures { result ≡ played step.now }
+{
+    match step {
+        Step::Play(play) => Some(play.session),
+        _ => None,
+    }
+}
+
+// Notes the play that a step begins.
+fn note<P: Plays>(
+    alloc: Global,
+    plays: &mut P,
+    step: &Step,
+    cseq: u32,
+    uri: &[u8],
+) -> Result<(), AllocError>
+    ensures ok { OnOk result (Noted P.calls (played step.now) cseq uri.now plays.old plays.new) }
+    ensures err { OnErr result (NotNoted P.calls (played step.now) plays.old plays.new) }
+{
+    match played(step) {
+        Some(session) => plays.note(alloc, session, cseq, uri),
+        None => Ok(()),
+    }
+}
+
+// Settles it.
+fn settle<P: Plays>(plays: &mut P, step: &Step, accepted: bool)
+    ensures { Settled P.calls (played step.now) accepted plays.old plays.new }
+{
+    if played(step).is_some() {
+        plays.settle(accepted);
+    }
+}
+
+// Acts a step, and unbinds the pairs that it freed.
+fn act_step<R: Wait, B: Binder>(
+    rt: &R,
+    seat: &mut BookSeat,
+    lock: &BookLock,
+    binder: &mut B,
+    step: &Step,
+    made: &mut Receipt,
+) -> Result<(), Refusal>
+    requires own { IsSeatOf seat.old lock.now }
+    requires askable { IsAskable step.now }
+    ensures same { SameSeat seat.old seat.new }
+    ensures acted { Acted (seat_view seat.old) (seat_view seat.new) step.now (filled result made.new) }
+    ensures unbound { UnboundAll B.calls (freed_by (filled result made.new)) binder.old binder.new }
+{
+    match seat.act_into(rt, lock, step, made) {
+        Ok(()) => {
+            unbind_all(binder, made.freed_pairs().as_slice());
+            Ok(())
+        }
+        Err(refusal) => Err(refusal),
+    }
+}
+
+// Notes a play, acts the step, writes what came of it, and settles the play.
+fn conduct_step<R: Wait, B: Binder, W: Words, C: Clock, P: Plays>(
+    alloc: Global,
+    desk: &mut Desk<'_, R, B, W, C, P>,
+    uri: &[u8],
+    plan: &StepPlan,
+    room: &mut Room,
+) -> Result<(), AllocError>
+    requires { IsAskable plan.now.step }
+    ensures same { SameParts desk.old desk.new }
+    ensures ok { OnOk result (Writes (λ r. ConductsStep (devices B.calls W.calls C.tells P.calls) uri.now plan.now r (state desk.old) (state desk.new)) room.old.text room.new.text) }
+    ensures err { OnErr result (DoesNothing (devices B.calls W.calls C.tells P.calls) (state desk.old) (state desk.new)) }
+    ensures mute { OnErr result (room.new.text ≡ room.old.text) }
+{
+    plan.make_room(room)?;
+    note(alloc, desk.plays, &plan.step, plan.start.cseq, uri)?;
+    let mut made = Receipt::new();
+    match act_step(
+        desk.rt,
+        desk.seat,
+        desk.lock,
+        desk.binder,
+        &plan.step,
+        &mut made,
+    ) {
+        Ok(()) => {
+            plan.answer(room, Ok(&made));
+            settle(desk.plays, &plan.step, true);
+        }
+        Err(refusal) => {
+            plan.answer(room, Err(refusal));
+            settle(desk.plays, &plan.step, false);
+        }
+    }
+    Ok(())
+}
+
+fn drawn_with(conn: u64, given: GivenWords, numbers: Numbers) -> Drawn
+    ensures { result ≡ drawn_with conn given numbers }
+{
+    Drawn {
+        conn,
+        key: numbers.key,
+        admission: numbers.admission,
+        ssrc: given.ssrc,
+        seq: given.seq,
+        rtptime: given.rtptime,
+    }
+}
+
+// Sets a track up: words are drawn first, then numbers, and the admission is made with them.
+fn set_up<R: Wait, B: Binder, W: Words, C: Clock, P: Plays>(
+    desk: &mut Desk<'_, R, B, W, C, P>,
+    plan: &SetupPlan,
+) -> SetUp
+    ensures same { SameParts desk.old desk.new }
+    ensures comes { SetsUp (devices B.calls W.calls C.tells P.calls) desk.old.asker.conn plan.now result (state desk.old) (state desk.new) }
+    ensures clock { desk.new.clock.now ≡ desk.old.clock.now }
+    ensures plays { desk.new.plays.now ≡ desk.old.plays.now }
+{
+    let given = match draw_words(desk.words, opens(plan.session)) {
+        Ok(given) => given,
+        Err(at) => return SetUp::NoWord(at),
+    };
+    match draw_numbers(desk.rt, desk.seat, desk.lock, plan.session, given.id) {
+        Ok(numbers) => {
+            let ask = plan.ask(drawn_with(desk.asker.conn, given, numbers));
+            SetUp::Tried(
+                numbers,
+                admit(desk.rt, desk.seat, desk.lock, desk.binder, &ask),
+            )
+        }
+        Err(at) => SetUp::NoNumber(at),
+    }
+}
+
+// Writes what came of an admission.
+fn answer_admission(
+    plan: &SetupPlan,
+    key: SessionKey,
+    made: Result<Admitted, Refusal>,
+    room: &mut Room,
+)
+    requires { setup_room ≤ room.old.spare }
+    ensures { room.new.text ≡ room.old.text ++ response_text (setup_answer plan.now key made) }
+{
+    match made {
+        Ok(made) => plan.answer(room, key, Ok(&made)),
+        Err(refusal) => plan.answer(room, key, Err(refusal)),
+    }
+}
+
+// Writes what came of setting a track up.
+fn answer_setup(plan: &SetupPlan, outcome: SetUp, room: &mut Room)
+    requires { setup_room ≤ room.old.spare }
+    ensures { room.new.text ≡ room.old.text ++ response_text (setup_response plan.now outcome) }
+{
+    match outcome {
+        SetUp::NoWord(_) => plan.refuse(room, Status::ServerError),
+        SetUp::NoNumber(_) => plan.refuse(room, Status::Unavailable),
+        SetUp::Tried(numbers, made) => answer_admission(plan, numbers.key, made, room),
+    }
+}
+
+fn conduct_setup<R: Wait, B: Binder, W: Words, C: Clock, P: Plays>(
+    desk: &mut Desk<'_, R, B, W, C, P>,
+    plan: &SetupPlan,
+    room: &mut Room,
+) -> Result<(), AllocError>
+    ensures same { SameParts desk.old desk.new }
+    ensures ok { OnOk result (Writes (λ r. ConductsSetup (devices B.calls W.calls C.tells P.calls) desk.old.asker.conn plan.now r (state desk.old) (state desk.new)) room.old.text room.new.text) }
+    ensures err { OnErr result (state desk.new ≡ state desk.old) }
+    ensures mute { OnErr result (room.new.text ≡ room.old.text) }
+{
+    plan.make_room(room)?;
+    let outcome = set_up(desk, plan);
+    answer_setup(plan, outcome, room);
+    Ok(())
+}
+
+// Writes a response before which nothing has to be done.
+pub(crate) fn reply_with(reply: &Reply, room: &mut Room) -> Result<(), AllocError>
+    ensures ok { OnOk result (room.new.text ≡ room.old.text ++ response_text reply.now) }
+    ensures err { OnErr result (room.new.text ≡ room.old.text) }
+{
+    reply.make_room(room)?;
+    reply.answer(room);
+    Ok(())
+}
+
+/// Conducts the plan of a request. Memory is taken for its response, and to note a play, before
+/// anything else is done.
+pub(crate) fn conduct<R: Wait, B: Binder, W: Words, C: Clock, P: Plays>(
+    alloc: Global,
+    desk: &mut Desk<'_, R, B, W, C, P>,
+    uri: &[u8],
+    plan: &Plan,
+    room: &mut Room,
+) -> Result<(), AllocError>
+    requires { IsConducted plan.now }
+    ensures same { SameParts desk.old desk.new }
+    ensures ok { OnOk result (Writes (λ r. Conducts (devices B.calls W.calls C.tells P.calls) desk.old.asker.conn uri.now plan.now r (state desk.old) (state desk.new)) room.old.text room.new.text) }
+    ensures err { OnErr result (DoesNothing (devices B.calls W.calls C.tells P.calls) (state desk.old) (state desk.new)) }
+    ensures mute { OnErr result (room.new.text ≡ room.old.text) }
+{
+    match plan {
+        Plan::Answer(reply) => reply_with(reply, room),
+        Plan::Step(plan) => conduct_step(alloc, desk, uri, plan, room),
+        Plan::Admit(plan) => conduct_setup(desk, plan, room),
+    }
+}

@@ -1,0 +1,128 @@
+//! How one request is answered.
+
+ghost use Rattle.std.specs.Prelude.{◌≡◌, ◌++◌, ℕ, List, OnOk, OnErr};
+ghost use Rattle.rtsp_engine.specs.Conducting.{DoesNothing};
+ghost use Rattle.rtsp_engine.specs.Conversing.{Writes, ConductsRenewed, RespondsFound, LacksFound, RespondsParsed, Responds, OnlyFinds, Lacks};
+ghost use Rattle.rtsp_engine.specs.DeskAnswers.{AnswersAt, GivesUpAt};
+ghost use Rattle.rtsp_engine.specs.Desk.{state, service, SameParts};
+ghost use Rattle.rtsp_engine.specs.Devices.{devices};
+
+use crate::clock::Clock;
+use crate::conducting::{conduct, reply_with};
+use crate::connection::Answerer;
+use crate::desk::Desk;
+use crate::plays::Plays;
+use crate::renewing::{look, renew};
+use crate::words::Words;
+use rtsp_admit::Binder;
+use rtsp_book::SessionView;
+use rtsp_grammar::{Item, Request};
+use rtsp_state::{ParsedRequest, Room, Screen, decide, screen};
+use std::alloc::{AllocError, Global};
+use std::sync::Wait;
+
+// Conducts a request with its session as it is after its renewal.
+fn respond_renewed<R: Wait, B: Binder, W: Words, C: Clock, P: Plays>(
+    alloc: Global,
+    desk: &mut Desk<'_, R, B, W, C, P>,
+    uri: &[u8],
+    request: ParsedRequest<'_>,
+    moment: u64,
+    view: Option<SessionView>,
+    room: &mut Room,
+) -> Result<(), AllocError>
+    ensures same { SameParts desk.old desk.new }
+    ensures ok { OnOk result (Writes (λ r. ConductsRenewed (devices B.calls W.calls C.tells P.calls) (service desk.old) uri.now request.entry view moment r (state desk.old) (state desk.new)) room.old.text room.new.text) }
+    ensures err { OnErr result (DoesNothing (devices B.calls W.calls C.tells P.calls) (state desk.old) (state desk.new)) }
+    ensures mute { OnErr result (room.new.text ≡ room.old.text) }
+{
+    match decide(
+        alloc,
+        request,
+        view.as_ref(),
+        desk.table,
+        desk.asker.peer,
+        moment,
+    ) {
+        Ok(plan) => conduct(alloc, desk, uri, &plan, room),
+        Err(AllocError) => Err(AllocError),
+    }
+}
+
+// Answers a request with the session that was found at this moment.
+fn respond_found<R: Wait, B: Binder, W: Words, C: Clock, P: Plays>(
+    alloc: Global,
+    desk: &mut Desk<'_, R, B, W, C, P>,
+    uri: &[u8],
+    request: ParsedRequest<'_>,
+    moment: u64,
+    found: Option<SessionView>,
+    room: &mut Room,
+) -> Result<(), AllocError>
+    ensures same { SameParts desk.old desk.new }
+    ensures ok { OnOk result (Writes (λ r. RespondsFound (devices B.calls W.calls C.tells P.calls) (service desk.old) uri.now request.entry found moment r (state desk.old) (state desk.new)) room.old.text room.new.text) }
+    ensures err { OnErr result (LacksFound (devices B.calls W.calls C.tells P.calls) (service desk.old) request.entry found moment (state desk.old) (state desk.new)) }
+    ensures mute { OnErr result (room.new.text ≡ room.old.text) }
+{
+    let asker = desk.asker;
+    match renew(
+        desk.rt, desk.seat, desk.lock, desk.table, asker, &request, moment, found,
+    ) {
+        Ok(view) => respond_renewed(alloc, desk, uri, request, moment, view, room),
+        Err(reply) => reply_with(&reply, room),
+    }
+}
+
+// Answers a request that nothing refuses before its session is looked up.
+fn respond_parsed<R: Wait, B: Binder, W: Words, C: Clock, P: Plays>(
+    alloc: Global,
+    desk: &mut Desk<'_, R, B, W, C, P>,
+    uri: &[u8],
+    request: ParsedRequest<'_>,
+    room: &mut Room,
+) -> Result<(), AllocError>
+    ensures same { SameParts desk.old desk.new }
+    ensures ok { OnOk result (Writes (λ r. RespondsParsed (devices B.calls W.calls C.tells P.calls) (service desk.old) uri.now request.entry r (state desk.old) (state desk.new)) room.old.text room.new.text) }
+    ensures err { OnErr result (OnlyFinds (devices B.calls W.calls C.tells P.calls) (service desk.old) request.entry (state desk.old) (state desk.new)) }
+    ensures mute { OnErr result (room.new.text ≡ room.old.text) }
+{
+    let name = request.session_name();
+    let found = look(desk.rt, desk.seat, desk.lock, desk.asker.conn, name);
+    let moment = desk.clock.now();
+    respond_found(alloc, desk, uri, request, moment, found, room)
+}
+
+/// Answers a request: its response is written behind what is in the room. Where memory runs out,
+/// nothing has happened, or the session that the request names was renewed and nothing else was
+/// done.
+pub fn respond<R: Wait, B: Binder, W: Words, C: Clock, P: Plays>(
+    alloc: Global,
+    desk: &mut Desk<'_, R, B, W, C, P>,
+    request: &Request,
+    room: &mut Room,
+) -> Result<(), AllocError>
+    ensures same { SameParts desk.old desk.new }
+    ensures ok { OnOk result (Writes (λ r. Responds (devices B.calls W.calls C.tells P.calls) (service desk.old) request.now r (state desk.old) (state desk.new)) room.old.text room.new.text) }
+    ensures err { OnErr result (Lacks (devices B.calls W.calls C.tells P.calls) (service desk.old) request.now (state desk.old) (state desk.new)) }
+    ensures mute { OnErr result (room.new.text ≡ room.old.text) }
+{
+    match screen(alloc, request, desk.table)? {
+        Screen::Answered(reply) => reply_with(&reply, room),
+        Screen::Asks(parsed) => {
+            respond_parsed(alloc, desk, request.uri.as_bytes(), parsed, room)
+        }
+    }
+}
+
+impl<R: Wait, B: Binder, W: Words, C: Clock, P: Plays> Answerer for Desk<'_, R, B, W, C, P> {
+    ghost answers = { AnswersAt (devices B.calls W.calls C.tells P.calls) };
+
+    ghost gives_up = { GivesUpAt (devices B.calls W.calls C.tells P.calls) };
+
+    fn answer(&mut self, alloc: Global, item: &Item, room: &mut Room) -> Result<(), AllocError> {
+        match item {
+            Item::Request(request) => respond(alloc, self, request, room),
+            Item::Response(_) | Item::Frame(_) => Ok(()),
+        }
+    }
+}

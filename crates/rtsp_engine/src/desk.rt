@@ -1,0 +1,29 @@
+//! What the requests of a connection are answered from.
+
+ghost use Rattle.rtsp_lock.specs.Calls.{IsSeatOf};
+
+use rtsp_content::Table;
+use rtsp_lock::{BookLock, BookSeat};
+
+/// Who asks: the connection's number, and the player's IPv4 address.
+#[derive(Clone, Copy, Debug)]
+pub struct Asker {
+    pub conn: u64,
+    pub peer: u32,
+}
+
+/// The parts that are lent to a connection: its seat of the lock, the binder of its ports, the
+/// source of its words, the clock, who learns of its plays, the content, and who asks.
+#[derive(Drop)]
+pub struct Desk<'a, R, B, W, C, P> {
+    pub rt: &'a R,
+    pub seat: &'a mut BookSeat,
+    pub lock: &'a BookLock,
+    pub binder: &'a mut B,
+    pub words: &'a mut W,
+    pub clock: &'a mut C,
+    pub plays: &'a mut P,
+    pub table: &'a Table,
+    pub asker: Asker,
+    ghost ours: { IsSeatOf seat.now lock.now },
+}

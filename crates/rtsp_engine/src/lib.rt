@@ -1,0 +1,40 @@
+//! Answers the items of a connection over a seat of a book that others use at the same time.
+//!
+//! `connection` takes the input of a connection in pieces, has each whole item answered, and gathers
+//! what is to be written; `serving` is the loop around it that reads and writes. `conversing`
+//! answers one request from a `Desk`, the parts that are lent to a connection.
+//!
+//! The definitions of `specs/` read in this order: Devices (what clocks, words and plays do), Desk
+//! (what is before and after a request), Renewing, Conducting, Conversing (how one item is
+//! answered), Served (what a connection has written), Causes (faults are told where they were
+//! counted).
+
+#![tactic(auto)]
+
+mod clock;
+mod conducting;
+mod connection;
+mod conversing;
+mod desk;
+mod drawing;
+mod fault_responses;
+mod plays;
+mod renewing;
+mod serving;
+mod streams;
+mod visits;
+mod words;
+
+pub use clock::Clock;
+pub use connection::{Answerer, Connection};
+pub use conversing::respond;
+pub use desk::{Asker, Desk};
+pub use fault_responses::fault_response;
+pub use plays::Plays;
+pub use rtsp_admit::{BindFault, Binder};
+pub use serving::{ServeEnd, TURNS, serve, serve_turns};
+pub use streams::{ByteIn, ByteOut, CountedReader, CountedWriter, StreamFault};
+pub use words::{Words, WordsFault};
+
+#[cfg(test)]
+mod tests;

@@ -1,0 +1,141 @@
+//! Serves a connection that is read and written by blocking calls.
+
+ghost use Rattle.std.specs.Prelude.{◌≡◌, ◌≤◌, ◌<◌, ◌++◌, ℕ, List, [], Option, length, take, drop, Some, IfSome, IfNone, OnOk, OnErr};
+ghost use Rattle.rtsp_engine.specs.Served.{Answered, Progress, EndsFrom, EndsHere, Written};
+ghost use Rattle.rtsp_engine.specs.Causes.{ReadFails, WriteFails, TurnReadFails, TurnWriteFails, ClosesAtEnd, TurnClosesAtEnd, SpendsTurns, TurnReads};
+ghost use Rattle.rtsp_grammar.specs.Answer.{IsUndecided};
+
+use crate::connection::{Answerer, Connection};
+use crate::fault_responses::fault_response;
+use crate::streams::{ByteIn, ByteOut, StreamFault};
+use rtsp_grammar::MessageFault;
+use rtsp_state::Room;
+use std::alloc::Global;
+
+/// How the serving of a connection has ended.
+#[derive(Clone, Copy, Debug, PartialEq, Eq)]
+pub enum ServeEnd {
+    /// The input is at its end, perhaps inside an item.
+    Closed,
+    ReadFault,
+    WriteFault,
+    /// A message cannot be read, or memory ran out. The client was told.
+    Fault(MessageFault),
+    /// The limit of reads is reached.
+    TurnsSpent,
+}
+
+/// The greatest number of reads of one connection.
+pub const TURNS: u64 = 1 << 32;
+
+// Writes the answers to a piece, and then what is said of a fault.
+fn write_all<W: ByteOut>(
+    room: &Room,
+    pushed: Result<(), MessageFault>,
+    writer: &mut W,
+) -> Option<ServeEnd>
+    ensures told { Written result pushed room.now.text (W.contents writer.old) (W.contents writer.new) }
+    ensures cause { TurnWriteFails result (W.failures writer.old) (W.failures writer.new) }
+{
+    match writer.write(room.as_bytes()) {
+        Ok(()) => match pushed {
+            Ok(()) => None,
+            Err(fault) => match writer.write(fault_response(fault)) {
+                Ok(()) => Some(ServeEnd::Fault(fault)),
+                Err(StreamFault) => Some(ServeEnd::WriteFault),
+            },
+        },
+        Err(StreamFault) => Some(ServeEnd::WriteFault),
+    }
+}
+
+// Has the items answered that a piece makes whole, and writes the answers at once.
+fn take_piece<A: Answerer, W: ByteOut>(
+    alloc: Global,
+    answerer: &mut A,
+    connection: &mut Connection,
+    piece: &[u8],
+    room: &mut Room,
+    writer: &mut W,
+) -> Option<ServeEnd>
+    ensures goes_on { IfNone result (Answered A.answers A.gives_up (connection.old ++ piece.now) connection.new (W.contents writer.old) (W.contents writer.new) answerer.old answerer.new) }
+    ensures undecided { IfNone result (IsUndecided connection.new) }
+    ensures ends { IfSome result (λ e. EndsHere A.answers A.gives_up (connection.old ++ piece.now) e (W.contents writer.old) (W.contents writer.new) answerer.old answerer.new) }
+    ensures cause { TurnWriteFails result (W.failures writer.old) (W.failures writer.new) }
+    ensures open { (left : Option (List ℕ)) → TurnClosesAtEnd result left }
+{
+    room.clear();
+    let pushed = connection.push(alloc, answerer, piece, room);
+    write_all(room, pushed, writer)
+}
+
+// Reads once, and has the items answered that are whole then.
+fn turn<A: Answerer, R: ByteIn, W: ByteOut>(
+    alloc: Global,
+    answerer: &mut A,
+    connection: &mut Connection,
+    reader: &mut R,
+    room: &mut Room,
+    writer: &mut W,
+) -> Option<ServeEnd>
+    requires { IsUndecided connection.old }
+    ensures goes_on { IfNone result (Progress A.answers A.gives_up connection.old (R.remaining reader.old) (R.remaining reader.new) connection.new (W.contents writer.old) (W.contents writer.new) answerer.old answerer.new) }
+    ensures undecided { IfNone result (IsUndecided connection.new) }
+    ensures ends { IfSome result (λ e. EndsFrom A.answers A.gives_up connection.old e (R.remaining reader.old) (R.remaining reader.new) (W.contents writer.old) (W.contents writer.new) answerer.old answerer.new) }
+    ensures reads { TurnReadFails result (R.failures reader.old) (R.failures reader.new) }
+    ensures writes { TurnWriteFails result (W.failures writer.old) (W.failures writer.new) }
+    ensures closed { TurnClosesAtEnd result (R.remaining reader.new) }
+    ensures something { TurnReads result (R.remaining reader.old) (R.remaining reader.new) }
+{
+    let mut piece = [0u8; 4096];
+    match reader.read(&mut piece) {
+        Err(StreamFault) => Some(ServeEnd::ReadFault),
+        Ok(0) => Some(ServeEnd::Closed),
+        Ok(n) => take_piece(alloc, answerer, connection, &piece[..n], room, writer),
+    }
+}
+
+/// Serves a connection to its end, with at most this many reads. What has been written is, in
+/// order, the answers to the items that the bytes read spell.
+pub fn serve_turns<A: Answerer, R: ByteIn, W: ByteOut>(
+    alloc: Global,
+    answerer: &mut A,
+    reader: &mut R,
+    writer: &mut W,
+    turns: u64,
+) -> ServeEnd
+    ensures served { EndsFrom A.answers A.gives_up [] result (R.remaining reader.old) (R.remaining reader.new) (W.contents writer.old) (W.contents writer.new) answerer.old answerer.new }
+    // A fault of the reader or of the writer is told where it was counted, and nowhere else.
+    ensures read_fault { ReadFails result (R.failures reader.old) (R.failures reader.new) }
+    ensures write_fault { WriteFails result (W.failures writer.old) (W.failures writer.new) }
+    // The end of the input is told where the reader is at its end.
+    ensures closed { ClosesAtEnd result (R.remaining reader.new) }
+    // So are spent turns, where each has read something.
+    ensures spent { SpendsTurns result turns (R.remaining reader.old) (R.remaining reader.new) }
+{
+    let mut connection = Connection::new(alloc);
+    let mut room = Room::new(alloc);
+    for _count in 0..turns {
+        match turn(alloc, answerer, &mut connection, reader, &mut room, writer) {
+            Some(end) => return end,
+            None => {}
+        }
+    }
+    ServeEnd::TurnsSpent
+}
+
+/// Serves a connection to its end.
+pub fn serve<A: Answerer, R: ByteIn, W: ByteOut>(
+    alloc: Global,
+    answerer: &mut A,
+    reader: &mut R,
+    writer: &mut W,
+) -> ServeEnd
+    ensures served { EndsFrom A.answers A.gives_up [] result (R.remaining reader.old) (R.remaining reader.new) (W.contents writer.old) (W.contents writer.new) answerer.old answerer.new }
+    ensures read_fault { ReadFails result (R.failures reader.old) (R.failures reader.new) }
+    ensures write_fault { WriteFails result (W.failures writer.old) (W.failures writer.new) }
+    ensures closed { ClosesAtEnd result (R.remaining reader.new) }
+    ensures spent { SpendsTurns result TURNS (R.remaining reader.old) (R.remaining reader.new) }
+{
+    serve_turns(alloc, answerer, reader, writer, TURNS)
+}

@@ -1,0 +1,60 @@
+//! The engine over a desk.
+
+ghost use Rattle.std.specs.Prelude.{◌≡◌, ◌++◌, [], Some, IfErr, OnOk};
+ghost use Rattle.rtsp_grammar.specs.Answer.{IsUndecided};
+ghost use Rattle.rtsp_engine.specs.Causes.{ReadFails, WriteFails, ClosesAtEnd, SpendsTurns};
+ghost use Rattle.rtsp_engine.specs.Desk.{SameParts};
+ghost use Rattle.rtsp_engine.specs.DeskAnswers.{AnswersAt, GivesUpAt};
+ghost use Rattle.rtsp_engine.specs.Devices.{devices};
+ghost use Rattle.rtsp_engine.specs.Served.{Answered, FaultedAfter, EndsFrom};
+
+use crate::clock::Clock;
+use crate::connection::Connection;
+use crate::desk::Desk;
+use crate::plays::Plays;
+use crate::serving::{ServeEnd, serve_turns};
+use crate::streams::{ByteIn, ByteOut};
+use crate::words::Words;
+use rtsp_admit::Binder;
+use rtsp_grammar::MessageFault;
+use rtsp_state::Room;
+use std::alloc::Global;
+use std::sync::Wait;
+
+impl<R: Wait, B: Binder, W: Words, C: Clock, P: Plays> Desk<'_, R, B, W, C, P> {
+    /// Takes a piece of a connection's input as `Connection::push` does.
+    pub fn push(
+        &mut self,
+        alloc: Global,
+        connection: &mut Connection,
+        piece: &[u8],
+        room: &mut Room,
+    ) -> Result<(), MessageFault>
+        ensures same { SameParts self.old self.new }
+        ensures seat { self.new.seat.ghost_name ≡ self.old.seat.ghost_name }
+        ensures goes_on { OnOk result (Answered (AnswersAt (devices B.calls W.calls C.tells P.calls)) (GivesUpAt (devices B.calls W.calls C.tells P.calls)) (connection.old ++ piece.now) connection.new (Some room.old.text) (Some room.new.text) self.old self.new) }
+        ensures undecided { OnOk result (IsUndecided connection.new) }
+        ensures ends { IfErr result (λ f. FaultedAfter (AnswersAt (devices B.calls W.calls C.tells P.calls)) (GivesUpAt (devices B.calls W.calls C.tells P.calls)) (connection.old ++ piece.now) f (Some room.old.text) (Some room.new.text) self.old self.new) }
+    {
+        connection.push(alloc, self, piece, room)
+    }
+
+    /// Serves a connection to its end, with at most this many reads, as `serve_turns` does.
+    pub fn serve<I: ByteIn, O: ByteOut>(
+        &mut self,
+        alloc: Global,
+        reader: &mut I,
+        writer: &mut O,
+        turns: u64,
+    ) -> ServeEnd
+        ensures same { SameParts self.old self.new }
+        ensures seat { self.new.seat.ghost_name ≡ self.old.seat.ghost_name }
+        ensures served { EndsFrom (AnswersAt (devices B.calls W.calls C.tells P.calls)) (GivesUpAt (devices B.calls W.calls C.tells P.calls)) [] result (I.remaining reader.old) (I.remaining reader.new) (O.contents writer.old) (O.contents writer.new) self.old self.new }
+        ensures read_fault { ReadFails result (I.failures reader.old) (I.failures reader.new) }
+        ensures write_fault { WriteFails result (O.failures writer.old) (O.failures writer.new) }
+        ensures closed { ClosesAtEnd result (I.remaining reader.new) }
+        ensures spent { SpendsTurns result turns (I.remaining reader.old) (I.remaining reader.new) }
+    {
+        serve_turns(alloc, self, reader, writer, turns)
+    }
+}

@@ -1,0 +1,53 @@
+use Rattle.std.proofs.Common.{◌∙◌, ◌∷◌, ℕ, List, subst, refl, arith, Err}
+use Rattle.rtsp_admit.specs.Binder.{UnboundAll}
+use Rattle.rtsp_admit.specs.Runs.{state_of}
+use Rattle.rtsp_book.specs.declared.refusals.Refusal.{Refusal}
+use Rattle.rtsp_lock.specs.Calls.{seat_view, Acted}
+use Rattle.rtsp_expiry.proofs.Finding.{only_nothing}
+use Rattle.rtsp_expiry.proofs.sweeping.act_all.Goals as goal
+
+pub loop-ended-preserved : goal.loop-ended-preserved
+loop-ended-preserved g c =
+    let was = c.loop-ended.invariant in
+    let same = c.act_into.ensures.same in (
+      (same.0 ∙ was.0.0, same.1 ∙ was.0.1),
+      (
+        c.act_into.new.made ∷ was.1.0,
+        record {
+          between = state_of c.loop-ended.seat c.loop-ended.binder;
+          before = was.1.1;
+          acted = c.in-Ok.ensures.acted;
+          unbound = subst (λ (l : List (ℕ × ℕ)). UnboundAll g.B.Binder.calls l c.loop-ended.binder c.unbind_all.new.binder) (c.as_slice.ensures.value ∙ c.freed_pairs.ensures) c.unbind_all.ensures;
+        },
+        omega (arith, was.1.2),
+      ),
+    )
+
+pub returns-in-Err-clause-run : goal.returns-in-Err-clause-run
+returns-in-Err-clause-run g c =
+    let was = c.loop-ended.invariant in
+    let acted = c.in-Err.ensures.acted in
+    let v = seat_view c.loop-ended.seat in
+    let nothing = only_nothing v.whole acted.journal c.args.step.now c.in-Err.field-0 c.requires.step acted.answers in
+    record {
+      made = was.1.0;
+      last = state_of c.loop-ended.seat c.loop-ended.binder;
+      accepted = was.1.1;
+      count = was.1.2;
+      stops = record {
+        below = c.loop-ended-test.true;
+        refused = subst (λ (r : Refusal). Acted v (seat_view c.act_into.new.self) c.args.step.now (Err r)) nothing acted;
+        binder = refl;
+      };
+    }
+
+pub returns-clause-run : goal.returns-clause-run
+returns-clause-run g c =
+    let was = c.loop-ended.invariant in
+    record {
+      made = was.1.0;
+      last = state_of c.loop-ended.seat c.loop-ended.binder;
+      accepted = was.1.1;
+      count = omega (arith, was.1.2, c.loop-ended-test.false, c.loop-ended.auto.ended-end);
+      stops = (refl, refl);
+    }

@@ -1,0 +1,84 @@
+//! Sweeps over the lock.
+
+ghost use Rattle.std.specs.Prelude.{◌≡◌, true, false};
+ghost use Rattle.rtsp_book.specs.declared.steps.Step.TheVariants.{Expire, Hangup};
+ghost use Rattle.rtsp_lock.specs.Calls.{seat_view, IsSeatOf, SameSeat};
+ghost use Rattle.rtsp_admit.specs.Runs.{state_of};
+ghost use Rattle.rtsp_expiry.specs.Sweeps.{IsSweeping, Sweeps};
+ghost use Rattle.rtsp_expiry.specs.Endings.{EndsExpired, NoneExpired, EndsOn, NoneOn};
+
+use crate::swept::Swept;
+use rtsp_admit::{Binder, unbind_all};
+use rtsp_book::{Receipt, Step};
+use rtsp_lock::{BookLock, BookSeat};
+use std::sync::Wait;
+
+// Acts the step until nothing is due, or until it was accepted so often, and unbinds the pairs that
+// each step freed.
+#[tactic(auto, using(crate::proofs::Finding::askable))]
+fn act_all<R: Wait, B: Binder>(
+    rt: &R,
+    seat: &mut BookSeat,
+    lock: &BookLock,
+    binder: &mut B,
+    step: &Step,
+    limit: u32,
+) -> Swept
+    requires own { IsSeatOf seat.old lock.now }
+    requires step { IsSweeping step.now }
+    ensures same { SameSeat seat.old seat.new }
+    ensures run { Sweeps B.calls step.now limit result (state_of seat.old binder.old) (state_of seat.new binder.new) }
+{
+    let mut made = Receipt::new();
+    for ended in 0..limit {
+        match seat.act_into(rt, lock, step, &mut made) {
+            Ok(()) => unbind_all(binder, made.freed_pairs().as_slice()),
+            Err(_) => return Swept { ended, more: false },
+        }
+    }
+    Swept {
+        ended: limit,
+        more: true,
+    }
+}
+
+/// Ends sessions whose expiry is at most `now`, in milliseconds, the least number first, and unbinds
+/// the pairs of ports that each frees. It ends at most `limit` sessions; then there may be more.
+/// Otherwise none that has expired is left in the journal last seen.
+pub fn sweep<R: Wait, B: Binder>(
+    rt: &R,
+    seat: &mut BookSeat,
+    lock: &BookLock,
+    binder: &mut B,
+    now: u64,
+    limit: u32,
+) -> Swept
+    requires { IsSeatOf seat.old lock.now }
+    ensures same { SameSeat seat.old seat.new }
+    ensures run { Sweeps B.calls (Expire now) limit result (state_of seat.old binder.old) (state_of seat.new binder.new) }
+    ensures ended { EndsExpired now result.ended (seat_view seat.old) (seat_view seat.new) }
+    ensures none { result.more ≡ false → NoneExpired now (seat_view seat.new) }
+{
+    act_all(rt, seat, lock, binder, &Step::Expire { now }, limit)
+}
+
+/// Takes leave of a connection that has ended: ends the sessions that hold channels of it, takes its
+/// startup numbers away from the others, the least session first, and unbinds the pairs of ports
+/// that each frees. It takes at most `limit` steps; then there may be more. Otherwise no session is
+/// on the connection in the journal last seen.
+pub fn hang_up<R: Wait, B: Binder>(
+    rt: &R,
+    seat: &mut BookSeat,
+    lock: &BookLock,
+    binder: &mut B,
+    conn: u64,
+    limit: u32,
+) -> Swept
+    requires { IsSeatOf seat.old lock.now }
+    ensures same { SameSeat seat.old seat.new }
+    ensures run { Sweeps B.calls (Hangup conn) limit result (state_of seat.old binder.old) (state_of seat.new binder.new) }
+    ensures ended { EndsOn conn result.ended (seat_view seat.old) (seat_view seat.new) }
+    ensures none { result.more ≡ false → NoneOn conn (seat_view seat.new) }
+{
+    act_all(rt, seat, lock, binder, &Step::Hangup { conn }, limit)
+}

@@ -1,0 +1,111 @@
+//! A set of numbers, in which the least from a number on is found by looking at few words.
+
+ghost use Rattle.std.specs.Prelude.{◌≡◌, ◌≢◌, ℕ, ◌+◌, ◌==◌, ◌<◌, ◌≤◌, ◌^◌, IfOk, IfSome, IfNone};
+ghost use Rattle.rtsp_pools.specs.Bits.{bit_of, count_below, IsSummed};
+
+use crate::words::{lowest_bit, lowest_number, write_bit};
+use std::alloc::{AllocError, Global};
+
+/// A set of numbers below a limit. For each word of its bits a summary has one bit, which is on
+/// where the word is not 0. So of 65,536 numbers the least from one on is found in 18 words at
+/// most.
+#[derive(Drop)]
+pub(crate) struct BitSet {
+    limit: usize,
+    words: Vec<u64>,
+    summary: Vec<u64>,
+    count: usize,
+    ghost summed: { IsSummed limit words.items summary.items count },
+}
+
+impl BitSet {
+    /// The empty set.
+    fn empty(alloc: Global, limit: usize) -> Result<Self, AllocError>
+        requires { limit ≤ 2 ^ 16 }
+        ensures limit { IfOk result (λ s. s.limit ≡ limit) }
+        ensures empty { IfOk result (λ s. (k : ℕ) → bit_of s.words.items k ≡ 0) }
+    {
+        let long = limit.div_ceil(64);
+        let words = vec![in alloc; 0; long]?;
+        let summary = vec![in alloc; 0; long.div_ceil(64)]?;
+        Ok(BitSet {
+            limit,
+            words,
+            summary,
+            count: 0,
+        })
+    }
+
+    /// The set of all numbers below the limit.
+    pub(crate) fn full(alloc: Global, limit: usize) -> Result<Self, AllocError>
+        requires { limit ≤ 2 ^ 16 }
+        ensures limit { IfOk result (λ s. s.limit ≡ limit) }
+        ensures full { IfOk result (λ s. (k : ℕ) → k < limit → bit_of s.words.items k ≡ 1) }
+    {
+        let mut all = BitSet::empty(alloc, limit)?;
+        for number in 0..limit {
+            all.insert(number);
+        }
+        Ok(all)
+    }
+
+    /// Puts a number in.
+    pub(crate) fn insert(&mut self, number: usize)
+        requires within { number < self.old.limit }
+        requires new { bit_of self.old.words.items number ≡ 0 }
+        ensures limit { self.new.limit ≡ self.old.limit }
+        ensures there { bit_of self.new.words.items number ≡ 1 }
+        ensures others { (k : ℕ) → k ≢ number → bit_of self.new.words.items k ≡ bit_of self.old.words.items k }
+    {
+        write_bit(&mut self.words, number, true);
+        write_bit(&mut self.summary, number / 64, true);
+        self.count += 1;
+    }
+
+    /// Takes a number out.
+    pub(crate) fn remove(&mut self, number: usize)
+        requires within { number < self.old.limit }
+        requires there { bit_of self.old.words.items number ≡ 1 }
+        ensures limit { self.new.limit ≡ self.old.limit }
+        ensures gone { bit_of self.new.words.items number ≡ 0 }
+        ensures others { (k : ℕ) → k ≢ number → bit_of self.new.words.items k ≡ bit_of self.old.words.items k }
+    {
+        write_bit(&mut self.words, number, false);
+        let has_more = self.words[number / 64] != 0;
+        write_bit(&mut self.summary, number / 64, has_more);
+        self.count -= 1;
+    }
+
+    /// Whether a number is there.
+    pub(crate) fn contains(&self, number: usize) -> bool
+        requires { number < self.now.limit }
+        ensures { result ≡ (bit_of self.now.words.items number == 1) }
+    {
+        (self.words[number / 64] >> (number % 64)) & 1 == 1
+    }
+
+    /// The least number from one on.
+    pub(crate) fn least_from(&self, from: usize) -> Option<usize>
+        ensures found { IfSome result (λ k. (k < self.now.limit) × (from ≤ k) × (bit_of self.now.words.items k ≡ 1)) }
+        ensures least { IfSome result (λ k. (j : ℕ) → from ≤ j → j < k → bit_of self.now.words.items j ≡ 0) }
+        ensures none { IfNone result ((j : ℕ) → from ≤ j → bit_of self.now.words.items j ≡ 0) }
+    {
+        let index = from / 64;
+        if index >= self.words.len() {
+            return None;
+        }
+        if let Some(bit) = lowest_bit(self.words[index], (from % 64) as u32) {
+            return Some(index * 64 + bit as usize);
+        }
+        let next = lowest_number(&self.summary, index + 1)?;
+        let bit = lowest_bit(self.words[next], 0)?;
+        Some(next * 64 + bit as usize)
+    }
+
+    /// How many there are.
+    pub(crate) fn len(&self) -> usize
+        ensures { result ≡ count_below self.now.words.items self.now.limit }
+    {
+        self.count
+    }
+}

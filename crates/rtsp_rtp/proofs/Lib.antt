@@ -1,0 +1,5 @@
+pub mod Placing
+pub mod Counting
+pub mod Scheduling
+pub mod Turning
+pub mod Dues

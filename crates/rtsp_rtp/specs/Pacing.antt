@@ -1,0 +1,94 @@
+-- What a pacer knows of its play.
+use Rattle.std.specs.Prelude.{◌≡◌, ℕ, ◌+◌, ◌-◌, ◌*◌, ◌<◌, ◌≤◌, zero, suc, Bool, true, false, if◌then◌else◌, List, [], ◌∷◌, ◌++◌, length, map, All, option_map, option_and_then, Option, Some, None}
+use Rattle.std.specs.FinMap.{entries}
+use Rattle.rtsp_record.specs.declared.phases.Phase.{Phase}
+use Rattle.rtsp_record.specs.declared.phases.Phase.TheVariants.{Ready, Playing, Ended}
+use Rattle.rtsp_record.specs.declared.holdings.Admission.{Admission}
+use Rattle.rtsp_record.specs.Books.{Session}
+use Rattle.rtsp_sessions.specs.Searches.{first_with, is_of_track}
+use Rattle.rtsp_content.specs.TrackValue.{TrackValue}
+use Rattle.rtsp_content.specs.PresentationValue.{PresentationValue}
+use Rattle.rtsp_content.specs.Limits.{max_octets, max_tracks, max_unit_ms}
+use Rattle.rtsp_rtp.specs.declared.source.Source.{Source}
+use Rattle.rtsp_rtp.specs.Packets.{source_of}
+
+-- the play of a session, and how many of its packets have been sent
+pub record Pacing : Type 0 where
+  pub session : ℕ
+  pub phase : Phase
+  pub unit_ms : ℕ
+  pub sources : List Source
+  pub done : ℕ
+
+-- The parts of a play; without one, nothing.
+
+-- the session plays
+abbrev pub is_playing : Phase → Bool
+is_playing (Ready at sent) = false
+is_playing (Playing from stop sent since) = true
+is_playing (Ended at sent) = false
+
+-- the moment at which it began
+abbrev pub begun_at : Phase → ℕ
+begun_at (Ready at sent) = 0
+begun_at (Playing from stop sent since) = since
+begun_at (Ended at sent) = 0
+
+-- the first unit of the media that it has
+abbrev pub first_unit : Phase → ℕ
+first_unit (Ready at sent) = 0
+first_unit (Playing from stop sent since) = from
+first_unit (Ended at sent) = 0
+
+-- how many units it has
+abbrev pub units_in : Phase → ℕ
+units_in (Ready at sent) = 0
+units_in (Playing from stop sent since) = stop - from
+units_in (Ended at sent) = 0
+
+-- The sources of a play: the first stream of each track, in the order of the tracks.
+
+-- the source of a track whose stream stands under an admission
+abbrev pub source_under : TrackValue → Option (ℕ × Admission) → Option Source
+source_under t o = option_map (source_of t) (option_and_then (λ e. e.1.stream) o)
+
+-- with a source before others, where there is one
+abbrev pub with_source : Option Source → List Source → List Source
+with_source None xs = xs
+with_source (Some x) xs = x ∷ xs
+
+-- the sources of tracks that are counted from i
+abbrev pub sources_from : Session → ℕ → List TrackValue → List Source
+sources_from f i [] = []
+sources_from f i (t ∷ ts) = with_source (source_under t (first_with (is_of_track i) (entries f.admissions))) (sources_from f (i + 1) ts)
+
+-- the pacer of a session's play, where it plays
+abbrev pub started : ℕ × Session → PresentationValue → Option Pacing
+started v p =
+    if is_playing v.1.phase
+    then Some (record { session = v.0; phase = v.1.phase; unit_ms = p.unit_ms; sources = sources_from v.1 0 p.tracks; done = 0 })
+    else None
+
+-- the view has the session and the phase that the pacer was made for
+abbrev pub IsOfPlay : Pacing → ℕ × Session → Type 0
+IsOfPlay p v = (v.0 ≡ p.session) × (v.1.phase ≡ p.phase)
+
+-- how many packets the whole play has
+abbrev pub packets_in : Pacing → ℕ
+packets_in p = units_in p.phase * length p.sources
+
+-- what is true of every pacer
+pub record IsPacing (p : Pacing) : Type 0 where
+  pub playing : is_playing p.phase ≡ true
+  pub unit : 0 < p.unit_ms
+  pub unit_most : p.unit_ms ≤ max_unit_ms
+  pub few : length p.sources ≤ max_tracks
+  pub short : All (λ x. x.octets ≤ max_octets) p.sources
+  pub sent : p.done ≤ packets_in p
+
+-- What is sent of a play, a packet each: the unit of the play, and the source.
+
+-- of n units from the unit i on: by unit, and then in the order of the sources
+abbrev pub schedule : List Source → ℕ → ℕ → List (ℕ × Source)
+schedule sources i zero = []
+schedule sources i (suc n) = map (λ x. (i, x)) sources ++ schedule sources (i + 1) n

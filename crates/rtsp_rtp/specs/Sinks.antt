@@ -1,0 +1,29 @@
+-- What the calls of a sink do.
+use Rattle.std.specs.Prelude.{◌≡◌, ℕ, ◌+◌, ◌-◌, ◌^◌, min, List}
+
+-- a sink before and after it gave the octets of a unit of a track, after it sent a packet of a track, and after a call that failed; and how many calls have failed, up to the greatest u64
+pub record Calls (S : Type 0) : Type 1 where
+  pub octets : S → ℕ → ℕ → List ℕ → S → Type 0
+  pub sends : S → ℕ → List ℕ → S → Type 0
+  pub fails : S → S → Type 0
+  pub failures : S → ℕ
+
+-- one more, up to the greatest u64
+abbrev pub raised : ℕ → ℕ
+raised n = min (n + 1) (2 ^ 64 - 1)
+
+module _ {S : Type 0} (calls : Calls S) where
+  -- it gave the octets of a unit, and no failure was counted
+  pub record Took (track unit : ℕ) (octets : List ℕ) (s u : S) : Type 0 where
+    pub call : calls.octets s track unit octets u
+    pub count : calls.failures u ≡ calls.failures s
+
+  -- it sent a packet, and no failure was counted
+  pub record Sent (track : ℕ) (packet : List ℕ) (s u : S) : Type 0 where
+    pub call : calls.sends s track packet u
+    pub count : calls.failures u ≡ calls.failures s
+
+  -- a call failed, and that was counted
+  pub record Failed (s u : S) : Type 0 where
+    pub call : calls.fails s u
+    pub count : calls.failures u ≡ raised (calls.failures s)

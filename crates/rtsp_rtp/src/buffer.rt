@@ -1,0 +1,94 @@
+//! A packet in a buffer of fixed size.
+
+ghost use Rattle.std.specs.Prelude.{◌≡◌, ◌≤◌, ◌++◌, [], length, OnOk, OnErr};
+ghost use Rattle.rtsp_grammar.specs.Frame.{frame_text};
+ghost use Rattle.rtsp_content.specs.Limits.{max_octets};
+ghost use Rattle.rtsp_rtp.specs.Buffers.{framed, Filled};
+ghost use Rattle.rtsp_rtp.specs.Sinks.{Failed};
+
+use crate::sink::{Sink, SinkFault};
+use crate::source::Source;
+use std::marker::Model;
+
+const DOLLAR: u8 = 0x24;
+
+/// An RTP packet (RFC 3550 section 5.1) with a payload of at most 1,400 bytes, in a buffer of fixed
+/// size. Before it is room for the head of an interleaved frame, so it is sent either way from
+/// where it stands. Its value is the bytes of the datagram.
+#[derive(Drop)]
+pub struct Packet {
+    buffer: [u8; 1416],
+    len: usize,
+}
+
+impl Model for Packet {
+    ghost use Rattle.std.specs.Prelude.{ℕ, List, ◌≤◌};
+    ghost use Rattle.rtsp_rtp.specs.Buffers.{datagram_in};
+
+    ghost Value = { List ℕ };
+
+    ghost view = { λ p. datagram_in p.buffer p.len };
+
+    ghost invariant = { λ p. p.len ≤ 1412 };
+}
+
+impl Packet {
+    /// A buffer without a packet yet.
+    pub fn new() -> Self
+        ensures { result ≡ [] }
+    {
+        Packet {
+            buffer: [0; 1416],
+            len: 0,
+        }
+    }
+
+    /// The packet as it is sent over UDP.
+    pub fn datagram(&self) -> &[u8]
+        ensures value { result.now ≡ self.now }
+        ensures short { length result.now ≤ 1412 }
+    {
+        &self.buffer[4..4 + self.len]
+    }
+
+    /// The packet as a frame of a channel (RFC 7826 section 14). It stands where the datagram does.
+    pub fn frame(&mut self, channel: u8) -> &[u8]
+        ensures { result.now ≡ frame_text (framed channel self.old) }
+    {
+        let [high, low] = (self.len as u16).to_be_bytes();
+        self.buffer[0] = DOLLAR;
+        self.buffer[1] = channel;
+        self.buffer[2] = high;
+        self.buffer[3] = low;
+        &self.buffer[..4 + self.len]
+    }
+
+    // Puts a packet of this header and payload in place of what is there.
+    pub(crate) fn put(&mut self, header: &[u8; 12], payload: &[u8])
+        requires { length payload.now ≤ max_octets }
+        ensures { self.new ≡ header.now ++ payload.now }
+    {
+        self.buffer[4..16].copy_from_slice(header);
+        self.buffer[16..16 + payload.len()].copy_from_slice(payload);
+        self.len = 12 + payload.len();
+    }
+
+    // Puts a packet of this header in place of what is there, with the octets of a unit that the
+    // sink gives.
+    pub(crate) fn fill<S: Sink>(
+        &mut self,
+        header: &[u8; 12],
+        source: &Source,
+        unit: u32,
+        sink: &mut S,
+    ) -> Result<(), SinkFault>
+        requires { source.now.octets ≤ max_octets }
+        ensures ok { OnOk result (Filled S.calls source.now unit header.now self.new sink.old sink.new) }
+        ensures err { OnErr result (Failed S.calls sink.old sink.new) }
+    {
+        let octets = usize::from(source.octets);
+        self.len = 12 + octets;
+        self.buffer[4..16].copy_from_slice(header);
+        sink.octets(source.track, unit, &mut self.buffer[16..16 + octets])
+    }
+}

@@ -1,0 +1,30 @@
+//! RTP packets, and the pace at which those of a play are sent. It takes no memory and never waits.
+//!
+//! A packet stands in a buffer of fixed size with room before it for the head of an interleaved
+//! frame, so that datagram and frame are slices of one buffer. A `Pacer` is one play of one
+//! session: each turn sends what is due and unsent, and goes on after a failure where it stopped.
+//!
+//! The definitions of `specs/` read in this order: Packets (the bytes of a packet), Buffers, Sinks
+//! (where packets go), Pacing (what is sent of a play, in which order), Turns (what a turn does),
+//! Moments (when the next packet is due).
+
+#![tactic(auto)]
+
+mod buffer;
+mod pacer;
+mod play;
+mod sink;
+mod source;
+mod sources;
+mod turn;
+mod unit;
+
+pub use buffer::Packet;
+pub use pacer::Pacer;
+pub use sink::{Sink, SinkFault};
+pub use source::Source;
+pub use turn::Turn;
+pub use unit::packet;
+
+#[cfg(test)]
+mod tests;

@@ -1,0 +1,14 @@
+//! What comes of a turn.
+
+/// What comes of a turn of a pacer.
+#[derive(Clone, Copy, Debug, PartialEq, Eq)]
+pub enum Turn {
+    /// All that was due is sent, and more will be due.
+    More,
+    /// The last packet of the play is sent, in this turn or before.
+    AtEnd,
+    /// The session isn't in the play that the pacer was made for. Nothing was sent.
+    OtherPlay,
+    /// The sink failed at a packet. The next turn goes on with that one.
+    SinkFailed,
+}

@@ -1,0 +1,318 @@
+//! One answer of each kind, from each public call.
+
+use crate::world::{PLAY, play_it, request, sessions, setup_texts, step_text, stream, tone};
+use rtsp_book::{Admitted, BookRep, Kept, Opening, PlainBook, Refusal, SessionView, Step};
+use rtsp_content::Table;
+use rtsp_grammar::{HeadersBuilder, Request};
+use rtsp_record::Thing;
+use rtsp_state::{
+    Drawn, Name, Plan, Reply, Room, Screen, SessionKey, SetupPlan, Status, decide,
+    law_allowed_is_valid, law_answers_in_order, law_answers_refusal, law_reads_once,
+    law_shows_allowed, law_shows_session, renewal, renewal_refused, screen,
+};
+use std::alloc::{AllocError, Global};
+use std::process::Abort;
+use std::test::Fail;
+
+const TONE: &str = "rtsp://h/tone";
+
+// The ids of the sessions 1, 2 and 4.
+const BARE: &str = "00000000000000000000000000000001";
+
+const READY: &str = "00000000000000000000000000000002";
+
+const ENDED: &str = "00000000000000000000000000000004";
+
+const PEER: u32 = 0x7f00_0001;
+
+// A session, its id, a method, a Range, a body, and the response to the request of the example's presentation.
+type Row = (
+    u64,
+    &'static str,
+    &'static str,
+    &'static str,
+    &'static str,
+    &'static str,
+);
+
+const ANSWERS: [Row; 6] = [
+    (
+        2,
+        READY,
+        "OPTIONS",
+        "",
+        "",
+        "RTSP/2.0 200 OK\r\nCSeq: 1\r\nSession: 00000000000000000000000000000002\r\n\
+        Public: OPTIONS, DESCRIBE, SETUP, PLAY, PAUSE, TEARDOWN, GET_PARAMETER, SET_PARAMETER\r\n\r\n",
+    ),
+    (
+        1,
+        BARE,
+        "PAUSE",
+        "",
+        "",
+        "RTSP/2.0 455 Method Not Valid in This State\r\nCSeq: 1\r\n\
+        Session: 00000000000000000000000000000001\r\n\
+        Allow: OPTIONS, DESCRIBE, GET_PARAMETER, SET_PARAMETER\r\n\r\n",
+    ),
+    (
+        2,
+        READY,
+        "PLAY",
+        "smpte=0-",
+        "",
+        "RTSP/2.0 456 Header Field Not Valid for Resource\r\nCSeq: 1\r\n\
+        Session: 00000000000000000000000000000002\r\nAccept-Ranges: npt\r\n\r\n",
+    ),
+    (
+        2,
+        READY,
+        "PLAY",
+        "npt=10-",
+        "",
+        "RTSP/2.0 457 Invalid Range\r\nCSeq: 1\r\n\
+        Session: 00000000000000000000000000000002\r\n\r\n",
+    ),
+    (
+        4,
+        ENDED,
+        "PLAY",
+        "",
+        "",
+        "RTSP/2.0 457 Invalid Range\r\nCSeq: 1\r\n\
+        Session: 00000000000000000000000000000004\r\n\r\n",
+    ),
+    (
+        4,
+        ENDED,
+        "GET_PARAMETER",
+        "",
+        "position\r\nduration",
+        "RTSP/2.0 200 OK\r\nCSeq: 1\r\nSession: 00000000000000000000000000000004\r\n\
+        Content-Type: text/parameters\r\nContent-Length: 36\r\n\r\n\
+        position: 10.000\r\nduration: 10.000\r\n",
+    ),
+];
+
+// What is written in a room.
+fn assert_written(rt: &impl Abort, room: &Room, expected: &str) -> Result<(), Fail> {
+    let written = std::str::from_utf8(room.as_bytes())?;
+    assert_eq!(rt; written, expected);
+    Ok(())
+}
+
+fn assert_replied(
+    rt: &impl Abort,
+    alloc: Global,
+    reply: &Reply,
+    expected: &str,
+) -> Result<(), Fail> {
+    let mut room = Room::new(alloc);
+    reply.make_room(&mut room)?;
+    reply.answer(&mut room);
+    assert_written(rt, &room, expected)
+}
+
+// The plan of a request that nothing refuses before its session is looked up.
+fn plan_of(
+    alloc: Global,
+    request: &Request,
+    view: Option<&SessionView>,
+    table: &Table,
+) -> Result<Option<Plan>, AllocError> {
+    match screen(alloc, request, table)? {
+        Screen::Answered(_) => Ok(None),
+        Screen::Asks(parsed) => Ok(Some(decide(alloc, parsed, view, table, PEER, 0)?)),
+    }
+}
+
+fn assert_answered(
+    rt: &impl Abort,
+    alloc: Global,
+    table: &Table,
+    kept: &Kept<PlainBook>,
+    row: &Row,
+) -> Result<(), Fail> {
+    let (session, id, method, range, body, expected) = row;
+    let request = request(alloc, (method, TONE), id, range, body)?;
+    let view = kept.book().session(*session);
+    let plan = plan_of(alloc, &request, view.as_ref(), table)?;
+    assert!(rt; matches!(&plan, Some(Plan::Answer(_))), "{method} {range}");
+    if let Some(Plan::Answer(reply)) = &plan {
+        assert_replied(rt, alloc, reply, expected)?;
+    }
+    Ok(())
+}
+
+#[test]
+fn some_requests_are_answered_at_once(rt: HostRuntime) -> Result<(), Fail> {
+    let table = tone(&rt)?;
+    let kept = sessions(rt.alloc())?;
+    for row in ANSWERS.iter() {
+        assert_answered(&rt, rt.alloc(), &table, &kept, row)?;
+    }
+    Ok(())
+}
+
+// The key that is drawn for a new session.
+const DRAWN: SessionKey = SessionKey { session: 9, id: 9 };
+
+fn made() -> Admitted {
+    Admitted {
+        session: 9,
+        admission: 30,
+        address: Thing::Chan(1, 0),
+        stream: stream(0, 0, 1),
+    }
+}
+
+#[test]
+fn an_admission_shows_the_session_that_it_opened(rt: HostRuntime) -> Result<(), Fail> {
+    let alloc = rt.alloc();
+    let table = tone(&rt)?;
+    let request = request(alloc, ("SETUP", "rtsp://h/tone/a"), "", "", "")?;
+    let plan = plan_of(alloc, &request, None, &table)?;
+    assert!(rt; matches!(&plan, Some(Plan::Admit(_))));
+    if let Some(Plan::Admit(plan)) = &plan {
+        assert!(rt; asks_as_drawn(plan));
+        let expected = "RTSP/2.0 200 OK\r\nCSeq: 1\r\n\
+            Session: 00000000000000000000000000000009;timeout=60\r\n\
+            Transport: RTP/AVP/TCP;unicast;interleaved=0-1;ssrc=00000001\r\n\
+            Accept-Ranges: npt\r\n\
+            Media-Properties: Random-Access=0.020, Immutable, Unlimited\r\n\
+            Media-Range: npt=0.000-10.000\r\n\r\n\
+            RTSP/2.0 453 Not Enough Bandwidth\r\nCSeq: 1\r\n\r\n\
+            RTSP/2.0 461 Unsupported Transport\r\nCSeq: 1\r\n\r\n";
+        let written = setup_texts(alloc, plan, DRAWN, &made(), Status::UnsupportedTransport)?;
+        assert!(rt; written.as_slice() == expected.as_bytes());
+    }
+    Ok(())
+}
+
+fn asks_as_drawn(plan: &SetupPlan) -> bool {
+    let ask = plan.ask(Drawn {
+        conn: 1,
+        key: DRAWN,
+        admission: 30,
+        ssrc: 1,
+        seq: 0,
+        rtptime: 0,
+    });
+    let opening = Opening {
+        id: 9,
+        conn: 1,
+        expires: 60_000,
+    };
+    ask.session == 9 && ask.admission == 30 && ask.opening == Some(opening)
+}
+
+// The plan of a PLAY of the session that is Ready.
+fn first_play(
+    alloc: Global,
+    table: &Table,
+    kept: &Kept<PlainBook>,
+) -> Result<Option<Plan>, AllocError> {
+    let request = request(alloc, ("PLAY", TONE), READY, "npt=2.505-", "")?;
+    let view = kept.book().session(2);
+    plan_of(alloc, &request, view.as_ref(), table)
+}
+
+#[test]
+fn a_play_shows_what_is_played(rt: HostRuntime) -> Result<(), Fail> {
+    let alloc = rt.alloc();
+    let table = tone(&rt)?;
+    let mut kept = sessions(alloc)?;
+    let plan = first_play(alloc, &table, &kept)?;
+    assert!(rt; matches!(&plan, Some(Plan::Step(plan)) if plan.step == Step::Play(PLAY)));
+    if let Some(Plan::Step(plan)) = &plan {
+        let expected = "RTSP/2.0 200 OK\r\nCSeq: 1\r\nSession: 00000000000000000000000000000002\r\n\
+            Range: npt=2.500-10.000\r\nSeek-Style: RAP\r\n\
+            RTP-Info: url=\"rtsp://h/tone/a\" ssrc=00000001:seq=0;rtptime=0\r\n\r\n";
+        let written = play_it(alloc, &mut kept, plan)?;
+        assert!(rt; written.as_slice() == expected.as_bytes());
+        let gone = "RTSP/2.0 454 Session Not Found\r\nCSeq: 1\r\n\r\n";
+        let written = step_text(alloc, plan, Err(Refusal::NoSession))?;
+        assert!(rt; written.as_slice() == gone.as_bytes());
+        let not_held = "RTSP/2.0 455 Method Not Valid in This State\r\nCSeq: 1\r\n\
+            Session: 00000000000000000000000000000002\r\n\
+            Allow: OPTIONS, DESCRIBE, GET_PARAMETER, SET_PARAMETER\r\n\r\n";
+        let written = step_text(alloc, plan, Err(Refusal::NotHeld))?;
+        assert!(rt; written.as_slice() == not_held.as_bytes());
+    }
+    Ok(())
+}
+
+// The session that a request names, where nothing refuses it before.
+fn session_named(
+    alloc: Global,
+    table: &Table,
+    given: &Request,
+) -> Result<Option<Name>, AllocError> {
+    match screen(alloc, given, table)? {
+        Screen::Asks(parsed) => Ok(parsed.session_name()),
+        Screen::Answered(_) => Ok(None),
+    }
+}
+
+#[test]
+fn what_has_no_number_is_screened(rt: HostRuntime) -> Result<(), Fail> {
+    let alloc = rt.alloc();
+    let table = tone(&rt)?;
+    let mut options = request(alloc, ("OPTIONS", "*"), READY, "", "")?;
+    assert!(rt; session_named(alloc, &table, &options)? == Some(Name::Id(2)));
+    options.headers = HeadersBuilder::new(alloc).into_headers();
+    match screen(alloc, &options, &table)? {
+        Screen::Answered(reply) => {
+            assert_replied(&rt, alloc, &reply, "RTSP/2.0 400 Bad Request\r\n\r\n")?;
+        }
+        Screen::Asks(_) => assert!(rt; false),
+    }
+    Ok(())
+}
+
+// The moment to which a request of the session that is Ready renews it, at the moment 1,000.
+fn renewed_until(alloc: Global, table: &Table, method: &str) -> Result<Option<u64>, AllocError> {
+    let request = request(alloc, (method, TONE), READY, "", "")?;
+    match screen(alloc, &request, table)? {
+        Screen::Answered(_) => Ok(None),
+        Screen::Asks(parsed) => Ok(renewal(&parsed, table, 1_000)),
+    }
+}
+
+#[test]
+fn a_session_is_renewed_but_by_its_teardown(rt: HostRuntime) -> Result<(), Fail> {
+    let table = tone(&rt)?;
+    let renewed = renewed_until(rt.alloc(), &table, "PLAY")?;
+    assert_eq!(rt; renewed, Some(61_000));
+    let ended = renewed_until(rt.alloc(), &table, "TEARDOWN")?;
+    assert_eq!(rt; ended, None);
+    Ok(())
+}
+
+#[test]
+fn a_refused_renewal_ends_the_request(rt: HostRuntime) -> Result<(), Fail> {
+    let alloc = rt.alloc();
+    let table = tone(&rt)?;
+    let kept = sessions(alloc)?;
+    let play = request(alloc, ("PLAY", TONE), READY, "", "")?;
+    let screened = screen(alloc, &play, &table)?;
+    let view = kept.book().session(2);
+    assert!(rt; matches!((&screened, &view), (Screen::Asks(_), Some(_))));
+    if let (Screen::Asks(parsed), Some(view)) = (&screened, &view) {
+        let reply = renewal_refused(parsed, view, Refusal::JournalFull);
+        let full = "RTSP/2.0 503 Service Unavailable\r\nCSeq: 1\r\n\
+            Session: 00000000000000000000000000000002\r\n\r\n";
+        assert_replied(&rt, alloc, &reply, full)?;
+    }
+    Ok(())
+}
+
+#[test]
+fn the_laws_hold() {
+    law_reads_once();
+    law_answers_refusal();
+    law_shows_allowed();
+    law_allowed_is_valid();
+    law_answers_in_order();
+    law_shows_session();
+}

@@ -1,0 +1,130 @@
+use rtsp_transport::{
+    ChannelPair, Granted, Pick, TextFault, is_known, pick, read_cseq, read_session, read_startup,
+    read_tags, read_transports, session_id, write_session_id, write_ssrc, write_transport,
+};
+use std::test::Fail;
+
+const LOCALHOST: u32 = 0x7f00_0001;
+
+fn picked(rt: &HostRuntime, text: &[u8]) -> Result<Pick, TextFault> {
+    Ok(pick(&read_transports(rt.alloc(), text)?, LOCALHOST))
+}
+
+const UDP: Pick = Pick::Udp {
+    rtp_port: 8000,
+    rtcp_port: 8001,
+};
+
+#[test]
+fn first_usable_transport(rt: HostRuntime) -> Result<(), Fail> {
+    let wish = ChannelPair::new(2);
+    assert!(rt; matches!(wish, Some(pair) if pair.rtp() == 2) && ChannelPair::new(3).is_none());
+    let own = b"rtp/avp/udp ; mode=\"play\";dest_addr=\"127.0.0.1:8000\"/\":8001\"";
+    let other = b"RTP/AVP;dest_addr=\"192.0.2.9:8000\"/\"192.0.2.9:8001\"";
+    let bracket = b"RTP/AVP;dest_addr=\"[x]:8000\"/\":8001\"";
+    let cases = [
+        (
+            b"RTP/SAVP;unicast, RTP/AVP/TCP;interleaved=2-3".as_slice(),
+            Pick::Inter { wish },
+        ),
+        (b"RTP/AVP/TCP;interleaved=1-2", Pick::Inter { wish: None }),
+        (b"RTP/AVP;unicast;dest_addr=\":8000\"/\":8001\"", UDP),
+        (own, UDP),
+        (other, Pick::Prohibited),
+        (bracket, Pick::Unsupported),
+        (
+            b"RTP/AVP/TCP;interleaved=0-1;mode=RECORD",
+            Pick::Unsupported,
+        ),
+    ];
+    for (text, expected) in cases.iter() {
+        assert_eq!(rt; picked(&rt, text)?, *expected);
+    }
+    Ok(())
+}
+
+#[test]
+fn transports_as_trees(rt: HostRuntime) -> Result<(), Fail> {
+    let specs = read_transports(rt.alloc(), b" RTP/AVP ; a=\";,\";b,X")?;
+    assert!(rt; specs.len() == 2 && specs[0].protocol.as_bytes() == b"RTP/AVP".as_slice());
+    let parameters = specs[0].parameters.as_slice();
+    assert!(rt; parameters.len() == 2 && parameters[1].name.as_bytes() == b"b".as_slice());
+    assert!(rt; parameters[1].value.is_none());
+    let seventeen = b"a,a,a,a,a,a,a,a,a,a,a,a,a,a,a,a,a".as_slice();
+    for text in [
+        b"".as_slice(),
+        b"RTP/AVP,",
+        b"RTP/AVP;;a",
+        b"RTP/AVP;a=\"",
+        seventeen,
+    ] {
+        assert!(rt; matches!(read_transports(rt.alloc(), text), Err(TextFault::Malformed)));
+    }
+    Ok(())
+}
+
+const OVER_UDP: Granted = Granted::Udp {
+    client_rtp: 8000,
+    client_rtcp: 8001,
+    server_rtp: 5000,
+    ssrc: 3,
+};
+
+const OVER_CHANNELS: Granted = Granted::Inter {
+    channel: 0,
+    ssrc: 1,
+};
+
+#[test]
+fn transports_of_answers(rt: HostRuntime) -> Result<(), Fail> {
+    let mut out = Vec::new(rt.alloc());
+    write_transport(&mut out, &OVER_UDP)?;
+    out.push(b'\n')?;
+    write_transport(&mut out, &OVER_CHANNELS)?;
+    out.push(b'\n')?;
+    write_ssrc(&mut out, 0xab)?;
+    let expected =
+        b"RTP/AVP;unicast;dest_addr=\":8000\"/\":8001\";src_addr=\":5000\"/\":5001\";ssrc=00000003
+RTP/AVP/TCP;unicast;interleaved=0-1;ssrc=00000001
+000000ab";
+    assert!(rt; out.as_slice() == expected.as_slice());
+    Ok(())
+}
+
+#[test]
+fn sessions(rt: HostRuntime) -> Result<(), Fail> {
+    assert!(rt; read_session(b"abc;timeout=9")? == b"abc".as_slice());
+    for text in [b"a b".as_slice(), b"", b"abc ;timeout=9"] {
+        assert!(rt; matches!(read_session(text), Err(TextFault::Malformed)));
+    }
+    let text = b"0000000000000000000000000000001f";
+    let ids = [
+        session_id(text),
+        session_id(b"0000000000000000000000000000001F"),
+        session_id(b"1f"),
+    ];
+    assert!(rt; ids == [Some(31), None, None]);
+    let mut out = Vec::new(rt.alloc());
+    write_session_id(&mut out, 31)?;
+    assert!(rt; out.as_slice() == text.as_slice());
+    Ok(())
+}
+
+#[test]
+fn numbers(rt: HostRuntime) {
+    assert!(rt; matches!(read_startup(b"00000007"), Ok(7)));
+    assert!(rt; matches!(read_startup(b"123456789"), Err(TextFault::Malformed)));
+    assert!(rt; matches!(read_cseq(b"123456789"), Ok(123_456_789)));
+    assert!(rt; matches!(read_cseq(b"1234567890"), Err(TextFault::Malformed)));
+}
+
+#[test]
+fn tags(rt: HostRuntime) -> Result<(), Fail> {
+    let tags = read_tags(rt.alloc(), b"play.basic, x.y ,z")?;
+    assert!(rt; tags.len() == 3 && tags[1].as_bytes() == b"x.y".as_slice());
+    assert!(rt; is_known(tags[0].as_bytes()) && !is_known(tags[1].as_bytes()));
+    assert!(rt; !is_known(b"Play.basic"));
+    let cut = read_tags(rt.alloc(), b"play.basic,");
+    assert!(rt; matches!(cut, Err(TextFault::Malformed)));
+    Ok(())
+}
