@@ -238,7 +238,7 @@ fn fed_bytewise(
     alloc: Global,
     text: &[u8],
 ) -> Result<(usize, Vec<u8>), MessageFault> {
-    let mut count = 0;
+    let mut count: usize = 0;
     let mut out = Vec::new(alloc);
     for byte in text {
         feed.push(&[*byte])?;
@@ -248,7 +248,7 @@ fn fed_bytewise(
             Some(Item::Frame(frame)) => write_frame(&mut out, &frame)?,
             None => continue,
         }
-        count += 1;
+        count = count.wrapping_add(1);
     }
     Ok((count, out))
 }
