@@ -8,3 +8,4 @@ pub mod Drawing
 pub mod Counting
 pub mod Sharing
 pub mod Freeing
+pub mod Adding

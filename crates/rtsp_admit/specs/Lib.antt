@@ -5,3 +5,4 @@ pub mod Refused
 pub mod Pairs
 pub mod Faults
 pub mod Numbers
+pub mod Additions

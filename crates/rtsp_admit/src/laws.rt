@@ -1,5 +1,6 @@
 //! Laws over admissions, each the contract of a function that does nothing.
 
+ghost use Rattle.rtsp_admit.specs.Additions.{AdmissionsGrow};
 ghost use Rattle.rtsp_admit.specs.Refused.{RefusalsLeaveNothing};
 ghost use Rattle.rtsp_admit.specs.Pairs.{RefusalsKeepPairs, AdmissionsGainPair};
 ghost use Rattle.rtsp_admit.specs.Faults.{AdmissionsCountFaults};
@@ -61,4 +62,10 @@ pub fn law_drawn_used_alone()
 /// such a number.
 pub fn law_admitted_keeps_drawn<B: Binder>(ask: &Ask)
     ensures { AdmissionsKeepDrawn B.calls ask.now }
+{}
+
+/// Over an admission its seat sees no less, and its entries grow by the records of the replies to
+/// its steps and by nothing else.
+pub fn law_admitted_grows<B: Binder>(ask: &Ask)
+    ensures { AdmissionsGrow B.calls ask.now }
 {}

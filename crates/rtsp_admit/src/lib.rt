@@ -9,7 +9,7 @@
 //! The definitions of `specs/` read in this order: Binder (what its calls do), Steps (the steps of
 //! an admission and what is unwound of them), Runs (the calls of an admission, one after another),
 //! Refused (what a refusal leaves), Pairs (what a binder has afterwards), Faults (binds that fail
-//! are counted), Numbers (the numbers that a seat uses).
+//! are counted), Numbers (the numbers that a seat uses), Additions (the records that it makes).
 
 #![tactic(auto)]
 
@@ -23,6 +23,7 @@ mod steps;
 pub use admission::admit;
 pub use binder::{BindFault, Binder, unbind_all};
 pub use laws::{
-    law_acts_use_drawn, law_admitted_keeps_drawn, law_admitted_pairs, law_drawn_is_unused,
-    law_drawn_used_alone, law_faults_counted, law_refused, law_refused_pairs, law_refused_unused,
+    law_acts_use_drawn, law_admitted_grows, law_admitted_keeps_drawn, law_admitted_pairs,
+    law_drawn_is_unused, law_drawn_used_alone, law_faults_counted, law_refused, law_refused_pairs,
+    law_refused_unused,
 };

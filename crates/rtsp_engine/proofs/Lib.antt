@@ -4,3 +4,4 @@ pub mod Sizes
 pub mod Keeping
 pub mod Parts
 pub mod Replies
+pub mod Adding

@@ -1,10 +1,10 @@
 -- A desk stays the same in its parts.
-use Rattle.std.proofs.Common.{ℕ, List, Option, Result, OnOk, IfErr, Ok, Err, refl, ◌∙◌}
+use Rattle.std.proofs.Common.{ℕ, List, Result, OnOk, IfErr, Ok, Err, refl, ◌∙◌}
 use Rattle.rtsp_grammar.specs.declared.fault.MessageFault.{MessageFault}
 use Rattle.rtsp_engine.specs.Desk.{SameParts}
-use Rattle.rtsp_engine.specs.DeskAnswers.{AnswersAt, GivesUpAt}
+use Rattle.rtsp_engine.specs.DeskAnswers.{AnswersAt, GivesUpAt, Takes, Faults}
 use Rattle.rtsp_engine.specs.Devices.{Devices}
-use Rattle.rtsp_engine.specs.Served.{Answered, FaultedAfter, EndsFrom}
+use Rattle.rtsp_engine.specs.Served.{Output, Line, EndsFrom}
 use Rattle.rtsp_engine.specs.declared.desk.Desk.{Desk}
 use Rattle.rtsp_engine.specs.declared.serving.ServeEnd.{ServeEnd}
 use Rattle.rtsp_engine.proofs.Keeping.{answered_keeps, fault_keeps, ends_keep}
@@ -26,14 +26,11 @@ module _ {R B W C P : Type 0} where
   }
 
   module _ (d : Devices B W C P) where
-    pub ended_same : (end : ServeEnd) (start : List ℕ) (n m a b : Option (List ℕ)) (s t : Desk R B W C P)
-        → EndsFrom (AnswersAt d) (GivesUpAt d) start end n m a b s t → SameParts s t
-    ended_same end start n m a b s t h =
-        ends_keep (AnswersAt d) (GivesUpAt d) SameParts same_parts same_again (λ s t item bytes h. h.1) (λ s t item h. h.1) end start n m a b s t h
+    pub ended_same : (end : ServeEnd) (start : List ℕ) (s t : Line (Desk R B W C P))
+        → EndsFrom (AnswersAt d) (GivesUpAt d) start end s t → SameParts s.output.answerer t.output.answerer
+    ended_same end start s t h = ends_keep (AnswersAt d) (GivesUpAt d) SameParts same_parts same_again (λ s t item bytes h. h.1) (λ s t item h. h.1) end start s t h
 
-    pub pushed_same : (pushed : Result (Unit {0}) MessageFault) (bytes rest : List ℕ) (a b : Option (List ℕ)) (s t : Desk R B W C P)
-        → OnOk pushed (Answered (AnswersAt d) (GivesUpAt d) bytes rest a b s t) → IfErr pushed (λ f. FaultedAfter (AnswersAt d) (GivesUpAt d) bytes f a b s t) → SameParts s t
-    pushed_same (Ok done) bytes rest a b s t ok err =
-        answered_keeps (AnswersAt d) (GivesUpAt d) SameParts same_parts same_again (λ s t item bytes h. h.1) (λ s t item h. h.1) bytes rest a b s t ok
-    pushed_same (Err fault) bytes rest a b s t ok err =
-        fault_keeps (AnswersAt d) (GivesUpAt d) SameParts same_parts same_again (λ s t item bytes h. h.1) (λ s t item h. h.1) bytes fault a b s t err
+    pub pushed_same : (pushed : Result (Unit {0}) MessageFault) (bytes rest : List ℕ) (s t : Output (Desk R B W C P))
+        → OnOk pushed (Takes d bytes rest s t) → IfErr pushed (λ f. Faults d bytes f s t) → SameParts s.answerer t.answerer
+    pushed_same (Ok done) bytes rest s t ok err = answered_keeps (AnswersAt d) (GivesUpAt d) SameParts same_parts same_again (λ s t item bytes h. h.1) (λ s t item h. h.1) bytes rest s t ok
+    pushed_same (Err fault) bytes rest s t ok err = fault_keeps (AnswersAt d) (GivesUpAt d) SameParts same_parts same_again (λ s t item bytes h. h.1) (λ s t item h. h.1) bytes fault s t err

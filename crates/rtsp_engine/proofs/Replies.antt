@@ -5,9 +5,10 @@ use Rattle.rtsp_grammar.specs.Writing.{response_text}
 use Rattle.rtsp_record.specs.Books.{Session}
 use Rattle.rtsp_state.specs.ParsedRequest.{ParsedValue}
 use Rattle.rtsp_engine.specs.Conducting.{DoesNothing}
-use Rattle.rtsp_engine.specs.Conversing.{Writes, Finds, OnlyRenews, ConductsRenewed, Ends, RespondsFound, RespondsParsed, LacksFound, OnlyFinds}
+use Rattle.rtsp_engine.specs.Conversing.{Finds, OnlyRenews, ConductsRenewed, Ends, RespondsFound, RespondsParsed, LacksFound, OnlyFinds}
 use Rattle.rtsp_engine.specs.Desk.{Service, State}
 use Rattle.rtsp_engine.specs.Devices.{Devices}
+use Rattle.rtsp_engine.specs.Writing.{Writes}
 
 module _ {B W C P : Type 0} (d : Devices B W C P) (service : Service) where
   -- a request that was conducted after the renewal of its session

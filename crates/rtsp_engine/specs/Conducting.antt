@@ -9,7 +9,7 @@ use Rattle.rtsp_book.specs.declared.steps.Step.TheVariants as step
 use Rattle.rtsp_book.specs.Receipts.{freed_pairs}
 use Rattle.rtsp_lock.specs.declared.view.View.{View}
 use Rattle.rtsp_lock.specs.Calls.{Acted}
-use Rattle.rtsp_admit.specs.Binder.{Calls, UnboundAll}
+use Rattle.rtsp_admit.specs.Binder.{UnboundAll}
 use Rattle.rtsp_admit.specs.Runs.{Admits}
 use Rattle.rtsp_state.specs.declared.fault.Fault.TheVariants as faults
 use Rattle.rtsp_state.specs.declared.plan.Plan.{Plan}
@@ -22,7 +22,7 @@ use Rattle.rtsp_state.specs.Answer.{step_answer, setup_answer}
 use Rattle.rtsp_state.specs.Response.{refused}
 use Rattle.rtsp_state.specs.SetupPlan.{setup_start, ask_of}
 use Rattle.rtsp_engine.specs.Desk.{State}
-use Rattle.rtsp_engine.specs.Devices.{Devices, Noted, NotNoted, Settled}
+use Rattle.rtsp_engine.specs.Devices.{Devices, Noted, Settled}
 use Rattle.rtsp_engine.specs.Drawing.{opens, GivesWords, LacksWord, DrawsNumbers, LacksNumber}
 use Rattle.rtsp_engine.specs.declared.conducting.SetUp.{SetUp}
 use Rattle.rtsp_engine.specs.declared.conducting.SetUp.TheVariants.{NoWord, NoNumber, Tried}

@@ -1,12 +1,11 @@
 -- How one item of a connection is answered. Other seats may act between any two of its calls.
-use Rattle.std.specs.Prelude.{◌≡◌, ◌⊎◌, ℕ, List, [], ◌++◌, Option}
+use Rattle.std.specs.Prelude.{◌≡◌, ◌⊎◌, ℕ, List, [], Option}
 use Rattle.rtsp_grammar.specs.declared.message.Item.{Item}
 use Rattle.rtsp_grammar.specs.declared.message.Item.TheVariants as items
 use Rattle.rtsp_grammar.specs.declared.message.Request.{Request}
 use Rattle.rtsp_grammar.specs.declared.message.Response.{Response}
 use Rattle.rtsp_grammar.specs.Writing.{response_text}
 use Rattle.rtsp_record.specs.Books.{Session}
-use Rattle.rtsp_lock.specs.declared.view.View.{View}
 use Rattle.rtsp_state.specs.declared.request.Screen.{Screen}
 use Rattle.rtsp_state.specs.declared.request.Screen.TheVariants.{Answered, Asks}
 use Rattle.rtsp_state.specs.ParsedRequest.{ParsedValue}
@@ -16,12 +15,6 @@ use Rattle.rtsp_engine.specs.Conducting.{Conducts, DoesNothing}
 use Rattle.rtsp_engine.specs.Desk.{Service, State}
 use Rattle.rtsp_engine.specs.Devices.{Devices}
 use Rattle.rtsp_engine.specs.Renewing.{Looks, Renews, RefusesRenewal}
-
--- such a response is written behind what is there
-pub record Writes (Is : Response → Type 0) (old new : List ℕ) : Type 0 where
-  pub response : Response
-  pub is : Is response
-  pub text : new ≡ old ++ response_text response
 
 module _ {B W C P : Type 0} (d : Devices B W C P) (service : Service) where
   -- the session that the request names is looked up, and the clock is read

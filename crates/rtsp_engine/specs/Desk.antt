@@ -1,8 +1,9 @@
 -- What is before and after a request.
-use Rattle.std.specs.Prelude.{◌≡◌, ℕ}
+use Rattle.std.specs.Prelude.{◌≡◌, ℕ, List}
 use Rattle.rtsp_content.specs.TableValue.{TableValue}
 use Rattle.rtsp_lock.specs.declared.view.View.{View}
 use Rattle.rtsp_lock.specs.Calls.{seat_view, SameSeat}
+use Rattle.rtsp_state.specs.Room.{RoomText}
 use Rattle.rtsp_engine.specs.declared.desk.Asker.{Asker}
 use Rattle.rtsp_engine.specs.declared.desk.Desk.{Desk}
 
@@ -19,6 +20,12 @@ pub record Service : Type 0 where
   pub table : TableValue
   pub asker : Asker
 
+-- a desk, and the text of the room into which it answers
+pub record Scene (B W C P : Type 0) : Type 0 where
+  pub service : Service
+  pub state : State B W C P
+  pub text : List ℕ
+
 abbrev pub served : TableValue → Asker → Service
 served table asker = record { table = table; asker = asker }
 
@@ -34,6 +41,9 @@ module _ {R B W C P : Type 0} where
 
   abbrev pub service : Desk R B W C P → Service
   service desk = served desk.table.now desk.asker
+
+  abbrev pub scene : Desk R B W C P → RoomText → Scene B W C P
+  scene desk room = record { service = service desk; state = state desk; text = room.text }
 
   -- the same parts are lent, and the seat is the same seat
   pub record SameParts (old new : Desk R B W C P) : Type 0 where

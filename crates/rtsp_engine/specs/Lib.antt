@@ -6,6 +6,8 @@ pub mod Drawing
 pub mod Renewing
 pub mod Conducting
 pub mod Conversing
+pub mod Writing
 pub mod DeskAnswers
 pub mod Served
+pub mod Additions
 pub mod Causes

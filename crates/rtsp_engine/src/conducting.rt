@@ -10,10 +10,10 @@ ghost use Rattle.rtsp_admit.specs.Binder.{UnboundAll};
 ghost use Rattle.rtsp_state.specs.Answer.{setup_answer};
 ghost use Rattle.rtsp_state.specs.Bounds.{setup_room};
 ghost use Rattle.rtsp_state.specs.Conduct.{IsConducted};
-ghost use Rattle.rtsp_engine.specs.Conducting.{played, freed_by, drawn_with, setup_response, SetsUp, ConductsStep, ConductsSetup, Conducts, DoesNothing};
-ghost use Rattle.rtsp_engine.specs.Conversing.{Writes};
-ghost use Rattle.rtsp_engine.specs.Desk.{state, SameParts};
+ghost use Rattle.rtsp_engine.specs.Conducting.{played, freed_by, drawn_with, setup_response, SetsUp, DoesNothing};
+ghost use Rattle.rtsp_engine.specs.Desk.{state, scene, SameParts};
 ghost use Rattle.rtsp_engine.specs.Devices.{devices, Noted, NotNoted, Settled};
+ghost use Rattle.rtsp_engine.specs.Writing.{WritesStep, WritesSetup, WritesOutcome};
 
 use crate::clock::Clock;
 use crate::desk::Desk;
@@ -106,7 +106,7 @@ fn conduct_step<R: Wait, B: Binder, W: Words, C: Clock, P: Plays>(
 ) -> Result<(), AllocError>
     requires { IsAskable plan.now.step }
     ensures same { SameParts desk.old desk.new }
-    ensures ok { OnOk result (Writes (λ r. ConductsStep (devices B.calls W.calls C.tells P.calls) uri.now plan.now r (state desk.old) (state desk.new)) room.old.text room.new.text) }
+    ensures ok { OnOk result (WritesStep (devices B.calls W.calls C.tells P.calls) uri.now plan.now (scene desk.old room.old) (scene desk.new room.new)) }
     ensures err { OnErr result (DoesNothing (devices B.calls W.calls C.tells P.calls) (state desk.old) (state desk.new)) }
     ensures mute { OnErr result (room.new.text ≡ room.old.text) }
 {
@@ -206,7 +206,7 @@ fn conduct_setup<R: Wait, B: Binder, W: Words, C: Clock, P: Plays>(
     room: &mut Room,
 ) -> Result<(), AllocError>
     ensures same { SameParts desk.old desk.new }
-    ensures ok { OnOk result (Writes (λ r. ConductsSetup (devices B.calls W.calls C.tells P.calls) desk.old.asker.conn plan.now r (state desk.old) (state desk.new)) room.old.text room.new.text) }
+    ensures ok { OnOk result (WritesSetup (devices B.calls W.calls C.tells P.calls) plan.now (scene desk.old room.old) (scene desk.new room.new)) }
     ensures err { OnErr result (state desk.new ≡ state desk.old) }
     ensures mute { OnErr result (room.new.text ≡ room.old.text) }
 {
@@ -237,7 +237,7 @@ pub(crate) fn conduct<R: Wait, B: Binder, W: Words, C: Clock, P: Plays>(
 ) -> Result<(), AllocError>
     requires { IsConducted plan.now }
     ensures same { SameParts desk.old desk.new }
-    ensures ok { OnOk result (Writes (λ r. Conducts (devices B.calls W.calls C.tells P.calls) desk.old.asker.conn uri.now plan.now r (state desk.old) (state desk.new)) room.old.text room.new.text) }
+    ensures ok { OnOk result (WritesOutcome (devices B.calls W.calls C.tells P.calls) uri.now plan.now (scene desk.old room.old) (scene desk.new room.new)) }
     ensures err { OnErr result (DoesNothing (devices B.calls W.calls C.tells P.calls) (state desk.old) (state desk.new)) }
     ensures mute { OnErr result (room.new.text ≡ room.old.text) }
 {

@@ -1,9 +1,9 @@
 //! Takes the input of a connection in pieces, and has each item answered once it is whole.
 
-ghost use Rattle.std.specs.Prelude.{◌≡◌, ℕ, List, [], None, length, ◌++◌, ◌==◌, Some, IfErr, IfSome, OnOk, OnErr};
+ghost use Rattle.std.specs.Prelude.{◌≡◌, ℕ, List, [], None, length, ◌++◌, ◌==◌, ◌≤◌, IfErr, IfSome, OnOk, OnErr};
 ghost use Rattle.rtsp_grammar.specs.Answer.{HasFault, IsUndecided};
 ghost use Rattle.rtsp_grammar.specs.declared.message.Item.{Item};
-ghost use Rattle.rtsp_engine.specs.Served.{Puts, Answered, FaultedAfter};
+ghost use Rattle.rtsp_engine.specs.Served.{Puts, Answered, FaultedAfter, at};
 
 use rtsp_grammar::{Feed, Item, MessageFault, law_stays};
 use rtsp_state::Room;
@@ -64,7 +64,8 @@ impl Connection {
 
     /// How many bytes of memory it holds.
     pub fn capacity(&self) -> usize
-        ensures { self.now ≡ [] → result ≡ 0 }
+        ensures enough { length self.now ≤ result }
+        ensures none { self.now ≡ [] → result ≡ 0 }
     {
         self.feed.capacity()
     }
@@ -81,9 +82,9 @@ impl Connection {
         piece: &[u8],
         room: &mut Room,
     ) -> Result<(), MessageFault>
-        ensures goes_on { OnOk result (Answered A.answers A.gives_up (self.old ++ piece.now) self.new (Some room.old.text) (Some room.new.text) answerer.old answerer.new) }
+        ensures goes_on { OnOk result (Answered A.answers A.gives_up (self.old ++ piece.now) self.new (at room.old answerer.old) (at room.new answerer.new)) }
         ensures undecided { OnOk result (IsUndecided self.new) }
-        ensures ends { IfErr result (λ f. FaultedAfter A.answers A.gives_up (self.old ++ piece.now) f (Some room.old.text) (Some room.new.text) answerer.old answerer.new) }
+        ensures ends { IfErr result (λ f. FaultedAfter A.answers A.gives_up (self.old ++ piece.now) f (at room.old answerer.old) (at room.new answerer.new)) }
     {
         law_stays();
         match self.feed.push(piece) {
@@ -115,9 +116,9 @@ fn answer_items<A: Answerer>(
     room: &mut Room,
 ) -> Result<(), MessageFault>
     requires { feed.old.fault ≡ None }
-    ensures goes_on { OnOk result (Answered A.answers A.gives_up feed.old.unread feed.new.unread (Some room.old.text) (Some room.new.text) answerer.old answerer.new) }
+    ensures goes_on { OnOk result (Answered A.answers A.gives_up feed.old.unread feed.new.unread (at room.old answerer.old) (at room.new answerer.new)) }
     ensures undecided { OnOk result (IsUndecided feed.new.unread) }
-    ensures ends { IfErr result (λ f. FaultedAfter A.answers A.gives_up feed.old.unread f (Some room.old.text) (Some room.new.text) answerer.old answerer.new) }
+    ensures ends { IfErr result (λ f. FaultedAfter A.answers A.gives_up feed.old.unread f (at room.old answerer.old) (at room.new answerer.new)) }
     ensures kept { IfSome feed.new.fault (λ f. HasFault feed.new.unread f) }
 {
     loop {

@@ -1,11 +1,12 @@
 //! How one request is answered.
 
-ghost use Rattle.std.specs.Prelude.{◌≡◌, ◌++◌, ℕ, List, OnOk, OnErr};
+ghost use Rattle.std.specs.Prelude.{◌≡◌, OnOk, OnErr};
 ghost use Rattle.rtsp_engine.specs.Conducting.{DoesNothing};
-ghost use Rattle.rtsp_engine.specs.Conversing.{Writes, ConductsRenewed, RespondsFound, LacksFound, RespondsParsed, Responds, OnlyFinds, Lacks};
+ghost use Rattle.rtsp_engine.specs.Conversing.{LacksFound, OnlyFinds, Lacks};
 ghost use Rattle.rtsp_engine.specs.DeskAnswers.{AnswersAt, GivesUpAt};
-ghost use Rattle.rtsp_engine.specs.Desk.{state, service, SameParts};
+ghost use Rattle.rtsp_engine.specs.Desk.{state, service, scene, SameParts};
 ghost use Rattle.rtsp_engine.specs.Devices.{devices};
+ghost use Rattle.rtsp_engine.specs.Writing.{WritesRenewed, WritesFound, WritesParsed, WritesResponse};
 
 use crate::clock::Clock;
 use crate::conducting::{conduct, reply_with};
@@ -32,7 +33,7 @@ fn respond_renewed<R: Wait, B: Binder, W: Words, C: Clock, P: Plays>(
     room: &mut Room,
 ) -> Result<(), AllocError>
     ensures same { SameParts desk.old desk.new }
-    ensures ok { OnOk result (Writes (λ r. ConductsRenewed (devices B.calls W.calls C.tells P.calls) (service desk.old) uri.now request.entry view moment r (state desk.old) (state desk.new)) room.old.text room.new.text) }
+    ensures ok { OnOk result (WritesRenewed (devices B.calls W.calls C.tells P.calls) uri.now request.entry view moment (scene desk.old room.old) (scene desk.new room.new)) }
     ensures err { OnErr result (DoesNothing (devices B.calls W.calls C.tells P.calls) (state desk.old) (state desk.new)) }
     ensures mute { OnErr result (room.new.text ≡ room.old.text) }
 {
@@ -60,7 +61,7 @@ fn respond_found<R: Wait, B: Binder, W: Words, C: Clock, P: Plays>(
     room: &mut Room,
 ) -> Result<(), AllocError>
     ensures same { SameParts desk.old desk.new }
-    ensures ok { OnOk result (Writes (λ r. RespondsFound (devices B.calls W.calls C.tells P.calls) (service desk.old) uri.now request.entry found moment r (state desk.old) (state desk.new)) room.old.text room.new.text) }
+    ensures ok { OnOk result (WritesFound (devices B.calls W.calls C.tells P.calls) uri.now request.entry found moment (scene desk.old room.old) (scene desk.new room.new)) }
     ensures err { OnErr result (LacksFound (devices B.calls W.calls C.tells P.calls) (service desk.old) request.entry found moment (state desk.old) (state desk.new)) }
     ensures mute { OnErr result (room.new.text ≡ room.old.text) }
 {
@@ -82,7 +83,7 @@ fn respond_parsed<R: Wait, B: Binder, W: Words, C: Clock, P: Plays>(
     room: &mut Room,
 ) -> Result<(), AllocError>
     ensures same { SameParts desk.old desk.new }
-    ensures ok { OnOk result (Writes (λ r. RespondsParsed (devices B.calls W.calls C.tells P.calls) (service desk.old) uri.now request.entry r (state desk.old) (state desk.new)) room.old.text room.new.text) }
+    ensures ok { OnOk result (WritesParsed (devices B.calls W.calls C.tells P.calls) uri.now request.entry (scene desk.old room.old) (scene desk.new room.new)) }
     ensures err { OnErr result (OnlyFinds (devices B.calls W.calls C.tells P.calls) (service desk.old) request.entry (state desk.old) (state desk.new)) }
     ensures mute { OnErr result (room.new.text ≡ room.old.text) }
 {
@@ -102,7 +103,7 @@ pub fn respond<R: Wait, B: Binder, W: Words, C: Clock, P: Plays>(
     room: &mut Room,
 ) -> Result<(), AllocError>
     ensures same { SameParts desk.old desk.new }
-    ensures ok { OnOk result (Writes (λ r. Responds (devices B.calls W.calls C.tells P.calls) (service desk.old) request.now r (state desk.old) (state desk.new)) room.old.text room.new.text) }
+    ensures ok { OnOk result (WritesResponse (devices B.calls W.calls C.tells P.calls) request.now (scene desk.old room.old) (scene desk.new room.new)) }
     ensures err { OnErr result (Lacks (devices B.calls W.calls C.tells P.calls) (service desk.old) request.now (state desk.old) (state desk.new)) }
     ensures mute { OnErr result (room.new.text ≡ room.old.text) }
 {

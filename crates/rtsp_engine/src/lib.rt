@@ -6,8 +6,9 @@
 //!
 //! The definitions of `specs/` read in this order: Devices (what clocks, words and plays do), Desk
 //! (what is before and after a request), Renewing, Conducting, Conversing (how one item is
-//! answered), Served (what a connection has written), Causes (faults are told where they were
-//! counted).
+//! answered), Writing (the same, in a room), Served (what a connection has written), DeskAnswers
+//! (the same from a desk), Additions (what it has recorded), Causes (faults are told where they
+//! were counted).
 
 #![tactic(auto)]
 
@@ -18,6 +19,7 @@ mod conversing;
 mod desk;
 mod drawing;
 mod fault_responses;
+mod laws;
 mod plays;
 mod renewing;
 mod serving;
@@ -30,11 +32,9 @@ pub use connection::{Answerer, Connection};
 pub use conversing::respond;
 pub use desk::{Asker, Desk};
 pub use fault_responses::fault_response;
+pub use laws::law_served_grows;
 pub use plays::Plays;
 pub use rtsp_admit::{BindFault, Binder};
 pub use serving::{ServeEnd, TURNS, serve, serve_turns};
 pub use streams::{ByteIn, ByteOut, CountedReader, CountedWriter, StreamFault};
 pub use words::{Words, WordsFault};
-
-#[cfg(test)]
-mod tests;

@@ -1,9 +1,8 @@
 //! Serves a connection that is read and written by blocking calls.
 
-ghost use Rattle.std.specs.Prelude.{◌≡◌, ◌≤◌, ◌<◌, ◌++◌, ℕ, List, [], Option, length, take, drop, Some, IfSome, IfNone, OnOk, OnErr};
-ghost use Rattle.rtsp_engine.specs.Served.{Answered, Progress, EndsFrom, EndsHere, Written};
-ghost use Rattle.rtsp_engine.specs.Causes.{ReadFails, WriteFails, TurnReadFails, TurnWriteFails, ClosesAtEnd, TurnClosesAtEnd, SpendsTurns, TurnReads};
-ghost use Rattle.rtsp_grammar.specs.Answer.{IsUndecided};
+ghost use Rattle.std.specs.Prelude.{◌≡◌};
+ghost use Rattle.rtsp_engine.specs.Served.{Ends, Written, parts};
+ghost use Rattle.rtsp_engine.specs.Causes.{ReadFails, WriteFails, TurnWriteFails, ClosesAtEnd, SpendsTurns};
 
 use crate::connection::{Answerer, Connection};
 use crate::fault_responses::fault_response;
@@ -49,52 +48,6 @@ fn write_all<W: ByteOut>(
     }
 }
 
-// Has the items answered that a piece makes whole, and writes the answers at once.
-fn take_piece<A: Answerer, W: ByteOut>(
-    alloc: Global,
-    answerer: &mut A,
-    connection: &mut Connection,
-    piece: &[u8],
-    room: &mut Room,
-    writer: &mut W,
-) -> Option<ServeEnd>
-    ensures goes_on { IfNone result (Answered A.answers A.gives_up (connection.old ++ piece.now) connection.new (W.contents writer.old) (W.contents writer.new) answerer.old answerer.new) }
-    ensures undecided { IfNone result (IsUndecided connection.new) }
-    ensures ends { IfSome result (λ e. EndsHere A.answers A.gives_up (connection.old ++ piece.now) e (W.contents writer.old) (W.contents writer.new) answerer.old answerer.new) }
-    ensures cause { TurnWriteFails result (W.failures writer.old) (W.failures writer.new) }
-    ensures open { (left : Option (List ℕ)) → TurnClosesAtEnd result left }
-{
-    room.clear();
-    let pushed = connection.push(alloc, answerer, piece, room);
-    write_all(room, pushed, writer)
-}
-
-// Reads once, and has the items answered that are whole then.
-fn turn<A: Answerer, R: ByteIn, W: ByteOut>(
-    alloc: Global,
-    answerer: &mut A,
-    connection: &mut Connection,
-    reader: &mut R,
-    room: &mut Room,
-    writer: &mut W,
-) -> Option<ServeEnd>
-    requires { IsUndecided connection.old }
-    ensures goes_on { IfNone result (Progress A.answers A.gives_up connection.old (R.remaining reader.old) (R.remaining reader.new) connection.new (W.contents writer.old) (W.contents writer.new) answerer.old answerer.new) }
-    ensures undecided { IfNone result (IsUndecided connection.new) }
-    ensures ends { IfSome result (λ e. EndsFrom A.answers A.gives_up connection.old e (R.remaining reader.old) (R.remaining reader.new) (W.contents writer.old) (W.contents writer.new) answerer.old answerer.new) }
-    ensures reads { TurnReadFails result (R.failures reader.old) (R.failures reader.new) }
-    ensures writes { TurnWriteFails result (W.failures writer.old) (W.failures writer.new) }
-    ensures closed { TurnClosesAtEnd result (R.remaining reader.new) }
-    ensures something { TurnReads result (R.remaining reader.old) (R.remaining reader.new) }
-{
-    let mut piece = [0u8; 4096];
-    match reader.read(&mut piece) {
-        Err(StreamFault) => Some(ServeEnd::ReadFault),
-        Ok(0) => Some(ServeEnd::Closed),
-        Ok(n) => take_piece(alloc, answerer, connection, &piece[..n], room, writer),
-    }
-}
-
 /// Serves a connection to its end, with at most this many reads. What has been written is, in
 /// order, the answers to the items that the bytes read spell.
 pub fn serve_turns<A: Answerer, R: ByteIn, W: ByteOut>(
@@ -104,7 +57,7 @@ pub fn serve_turns<A: Answerer, R: ByteIn, W: ByteOut>(
     writer: &mut W,
     turns: u64,
 ) -> ServeEnd
-    ensures served { EndsFrom A.answers A.gives_up [] result (R.remaining reader.old) (R.remaining reader.new) (W.contents writer.old) (W.contents writer.new) answerer.old answerer.new }
+    ensures served { Ends A.answers A.gives_up R.remaining W.contents result (parts reader.old writer.old answerer.old) (parts reader.new writer.new answerer.new) }
     // A fault of the reader or of the writer is told where it was counted, and nowhere else.
     ensures read_fault { ReadFails result (R.failures reader.old) (R.failures reader.new) }
     ensures write_fault { WriteFails result (W.failures writer.old) (W.failures writer.new) }
@@ -116,7 +69,15 @@ pub fn serve_turns<A: Answerer, R: ByteIn, W: ByteOut>(
     let mut connection = Connection::new(alloc);
     let mut room = Room::new(alloc);
     for _count in 0..turns {
-        match turn(alloc, answerer, &mut connection, reader, &mut room, writer) {
+        let mut piece = [0u8; 4096];
+        let read = match reader.read(&mut piece) {
+            Err(StreamFault) => return ServeEnd::ReadFault,
+            Ok(0) => return ServeEnd::Closed,
+            Ok(read) => read,
+        };
+        room.clear();
+        let pushed = connection.push(alloc, answerer, &piece[..read], &mut room);
+        match write_all(&room, pushed, writer) {
             Some(end) => return end,
             None => {}
         }
@@ -131,7 +92,7 @@ pub fn serve<A: Answerer, R: ByteIn, W: ByteOut>(
     reader: &mut R,
     writer: &mut W,
 ) -> ServeEnd
-    ensures served { EndsFrom A.answers A.gives_up [] result (R.remaining reader.old) (R.remaining reader.new) (W.contents writer.old) (W.contents writer.new) answerer.old answerer.new }
+    ensures served { Ends A.answers A.gives_up R.remaining W.contents result (parts reader.old writer.old answerer.old) (parts reader.new writer.new answerer.new) }
     ensures read_fault { ReadFails result (R.failures reader.old) (R.failures reader.new) }
     ensures write_fault { WriteFails result (W.failures writer.old) (W.failures writer.new) }
     ensures closed { ClosesAtEnd result (R.remaining reader.new) }

@@ -1,16 +1,18 @@
 //! The engine over a desk.
 
-ghost use Rattle.std.specs.Prelude.{◌≡◌, ◌++◌, [], Some, IfErr, OnOk};
+ghost use Rattle.std.specs.Prelude.{◌≡◌, ◌++◌, IfErr, OnOk};
 ghost use Rattle.rtsp_grammar.specs.Answer.{IsUndecided};
+ghost use Rattle.rtsp_engine.specs.Additions.{Grows};
 ghost use Rattle.rtsp_engine.specs.Causes.{ReadFails, WriteFails, ClosesAtEnd, SpendsTurns};
 ghost use Rattle.rtsp_engine.specs.Desk.{SameParts};
-ghost use Rattle.rtsp_engine.specs.DeskAnswers.{AnswersAt, GivesUpAt};
+ghost use Rattle.rtsp_engine.specs.DeskAnswers.{Takes, Faults, EndsAt};
 ghost use Rattle.rtsp_engine.specs.Devices.{devices};
-ghost use Rattle.rtsp_engine.specs.Served.{Answered, FaultedAfter, EndsFrom};
+ghost use Rattle.rtsp_engine.specs.Served.{at, parts};
 
 use crate::clock::Clock;
 use crate::connection::Connection;
 use crate::desk::Desk;
+use crate::laws::law_served_grows;
 use crate::plays::Plays;
 use crate::serving::{ServeEnd, serve_turns};
 use crate::streams::{ByteIn, ByteOut};
@@ -22,7 +24,8 @@ use std::alloc::Global;
 use std::sync::Wait;
 
 impl<R: Wait, B: Binder, W: Words, C: Clock, P: Plays> Desk<'_, R, B, W, C, P> {
-    /// Takes a piece of a connection's input as `Connection::push` does.
+    /// Takes a piece of a connection's input as `Connection::push` does. The entries of the seat
+    /// grow by what is recorded for the requests that are answered, as `law_served_grows` has it.
     pub fn push(
         &mut self,
         alloc: Global,
@@ -32,14 +35,17 @@ impl<R: Wait, B: Binder, W: Words, C: Clock, P: Plays> Desk<'_, R, B, W, C, P> {
     ) -> Result<(), MessageFault>
         ensures same { SameParts self.old self.new }
         ensures seat { self.new.seat.ghost_name ≡ self.old.seat.ghost_name }
-        ensures goes_on { OnOk result (Answered (AnswersAt (devices B.calls W.calls C.tells P.calls)) (GivesUpAt (devices B.calls W.calls C.tells P.calls)) (connection.old ++ piece.now) connection.new (Some room.old.text) (Some room.new.text) self.old self.new) }
+        ensures grows { Grows (devices B.calls W.calls C.tells P.calls) R self.old self.new }
+        ensures goes_on { OnOk result (Takes (devices B.calls W.calls C.tells P.calls) (connection.old ++ piece.now) connection.new (at room.old self.old) (at room.new self.new)) }
         ensures undecided { OnOk result (IsUndecided connection.new) }
-        ensures ends { IfErr result (λ f. FaultedAfter (AnswersAt (devices B.calls W.calls C.tells P.calls)) (GivesUpAt (devices B.calls W.calls C.tells P.calls)) (connection.old ++ piece.now) f (Some room.old.text) (Some room.new.text) self.old self.new) }
+        ensures ends { IfErr result (λ f. Faults (devices B.calls W.calls C.tells P.calls) (connection.old ++ piece.now) f (at room.old self.old) (at room.new self.new)) }
     {
+        law_served_grows::<R, B, W, C, P>();
         connection.push(alloc, self, piece, room)
     }
 
-    /// Serves a connection to its end, with at most this many reads, as `serve_turns` does.
+    /// Serves a connection to its end, with at most this many reads, as `serve_turns` does. The
+    /// entries of the seat grow by what is recorded for its requests, as `law_served_grows` has it.
     pub fn serve<I: ByteIn, O: ByteOut>(
         &mut self,
         alloc: Global,
@@ -49,12 +55,14 @@ impl<R: Wait, B: Binder, W: Words, C: Clock, P: Plays> Desk<'_, R, B, W, C, P> {
     ) -> ServeEnd
         ensures same { SameParts self.old self.new }
         ensures seat { self.new.seat.ghost_name ≡ self.old.seat.ghost_name }
-        ensures served { EndsFrom (AnswersAt (devices B.calls W.calls C.tells P.calls)) (GivesUpAt (devices B.calls W.calls C.tells P.calls)) [] result (I.remaining reader.old) (I.remaining reader.new) (O.contents writer.old) (O.contents writer.new) self.old self.new }
+        ensures grows { Grows (devices B.calls W.calls C.tells P.calls) R self.old self.new }
+        ensures served { EndsAt (devices B.calls W.calls C.tells P.calls) I.remaining O.contents result (parts reader.old writer.old self.old) (parts reader.new writer.new self.new) }
         ensures read_fault { ReadFails result (I.failures reader.old) (I.failures reader.new) }
         ensures write_fault { WriteFails result (O.failures writer.old) (O.failures writer.new) }
         ensures closed { ClosesAtEnd result (I.remaining reader.new) }
         ensures spent { SpendsTurns result turns (I.remaining reader.old) (I.remaining reader.new) }
     {
+        law_served_grows::<R, B, W, C, P>();
         serve_turns(alloc, self, reader, writer, turns)
     }
 }

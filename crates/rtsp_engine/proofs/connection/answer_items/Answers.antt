@@ -17,11 +17,11 @@ loop-item-preserved g c =
     let puts = c.in-Ok.ensures.ok in
     record {
       waits = ap (λ (z : Feeding). z.fault) takes.2;
-      done = answered_next g.A.Answerer.answers g.A.Answerer.gives_up _ puts.bytes c.loop-item.feed c.next.new.self item _ _ _ _ _ _ c.loop-item.invariant.done takes puts.is puts.text;
+      done = answered_next g.A.Answerer.answers g.A.Answerer.gives_up _ puts.bytes c.loop-item.feed c.next.new.self item _ _ _ c.loop-item.invariant.done takes puts.is puts.text;
     }
 
 pub returns-in-Err-clause-ends : goal.returns-in-Err-clause-ends
 returns-in-Err-clause-ends g c =
     let fault = c.in-Err.fault in
-    fault_next g.A.Answerer.answers g.A.Answerer.gives_up fault _ c.loop-item.feed c.next.new.self _ _ _ _ c.loop-item.invariant.done
+    fault_next g.A.Answerer.answers g.A.Answerer.gives_up fault _ c.loop-item.feed c.next.new.self _ _ c.loop-item.invariant.done
     (taken c.loop-item.feed c.next.new.self (Err fault) c.loop-item.invariant.waits c.in-Err.ensures.takes)
