@@ -1,0 +1,171 @@
+-- Parts that agree stay so.
+use Rattle.std.proofs.Common.{◌≡◌, ◌==◌, ℕ, ◌+◌, ◌<◌, Bool, true, false, not, cond, List, [], ◌∷◌, length, drop, get_or, add-one, drop-cons, refl, sym, ◌∙◌, ap, subst, arith}
+use Rattle.std.specs.Prelude.{Option, Some, None, IsTrue, option_map, sum_by, count_by, is_some}
+use Rattle.std.specs.FinMap.{entries}
+use Rattle.std.proofs.lemmas.List.Sums.{sum_by-cons}
+use Rattle.rtsp_record.specs.declared.holdings.Whole.{Whole}
+use Rattle.rtsp_record.specs.declared.holdings.Admission.{Admission}
+use Rattle.rtsp_record.specs.declared.changes.Record.{Record}
+use Rattle.rtsp_record.specs.declared.changes.Record.TheVariants.{Hold, Bind}
+use Rattle.rtsp_record.specs.Books.{Session, Book, after, after_all}
+use Rattle.rtsp_record.specs.Sums.{one_if, if_there, of_session, amount, with_id, bindings}
+use Rattle.rtsp_record.specs.Rules.{Allowed, AllAllowed}
+use Rattle.rtsp_record.specs.Sound.{Sound}
+use Rattle.rtsp_record.proofs.Sound.{sound-after}
+use Rattle.rtsp_sessions.specs.Searches.{first_with}
+use Rattle.rtsp_sessions.specs.Lookups.{number_of, is_startup, with_id_in, with_startup_in, TakesNone, TakesNoMemory}
+use Rattle.rtsp_sessions.specs.Plain.{FitsIn, is_open}
+use Rattle.rtsp_sessions.proofs.FitLemmas.{all_fit}
+use Rattle.rtsp_index.specs.declared.counts.Counts.{Counts}
+use Rattle.rtsp_index.specs.declared.names.Names.{Names}
+use Rattle.rtsp_index.specs.declared.pools.Pools.{Pools}
+use Rattle.rtsp_index.specs.declared.table.SessionTable.{SessionTable}
+use Rattle.rtsp_index.specs.Contents.{HasRoom}
+use Rattle.rtsp_index.specs.Following.{Follows, is_bind, is_chan_hold}
+use Rattle.rtsp_index.specs.Pooling.{ArePoolsOf}
+use Rattle.rtsp_index.specs.Named.{AreNamesOf}
+use Rattle.rtsp_index.specs.Counted.{AreCountsOf}
+use Rattle.rtsp_index.specs.declared.parts.Parts.{Parts}
+use Rattle.rtsp_index.specs.Agreeing.{Agree, HasRoomFor}
+
+-- a record that is allowed where all parts agree
+pub follows : (w : Whole) (b : Book) (pools : Pools) (names : Names) (counts : Counts) (r : Record) → Agree w b pools names counts → Allowed w b r → Follows w b r
+follows w b pools names counts r ok h = record { sound = ok.sound; allowed = h }
+
+pub follows_in : (w : Whole) (b : Book) (pools : Pools) (names : Names) (counts : Counts) (r : Record) → Agree w b pools names counts → Allowed w b r → Follows pools.pairs.whole b r
+follows_in w b pools names counts r ok h = subst (λ w. Follows w b r) (sym ok.whole) (record { sound = ok.sound; allowed = h })
+
+-- it fits its session
+pub fits : (w : Whole) (b : Book) (r : Record) → Sound w b → Allowed w b r → FitsIn b r
+fits w b r ok h = (all_fit w b (r ∷ []) ok (h, tt)).0
+
+-- the parts after memory was taken
+pub reserved : (w : Whole) (b c : Book) (pools more : Pools) (names next : Names) (counts : Counts) → Agree w b pools names counts → c ≡ b → more.pairs.whole ≡ pools.pairs.whole
+    → ((b : Book) → ArePoolsOf b pools → ArePoolsOf b more) → ((b : Book) → AreNamesOf b names → AreNamesOf b next) → Agree w c more next counts
+reserved w b c pools more names next counts ok same whole keeps finds =
+    subst (λ c. Agree w c more next counts) (sym same)
+    (record {
+      sound = ok.sound;
+      ports = ok.ports;
+      small = ok.small;
+      whole = whole ∙ ok.whole;
+      pools = keeps b ok.pools;
+      names = finds b ok.names;
+      counts = ok.counts;
+    })
+
+-- the parts after a record
+pub made : (w : Whole) (b c : Book) (pools more : Pools) (names next : Names) (counts now : Counts) (r : Record) → Agree w b pools names counts → Allowed w b r → c ≡ after b r → more.pairs.whole ≡ pools.pairs.whole
+    → ArePoolsOf (after b r) more → AreNamesOf (after b r) next → AreCountsOf (after b r) now → Agree w c more next now
+made w b c pools more names next counts now r ok h same whole pooled named counted =
+    subst (λ c. Agree w c more next now) (sym same)
+    (record {
+      sound = sound-after w b r ok.sound h;
+      ports = ok.ports;
+      small = ok.small;
+      whole = whole ∙ ok.whole;
+      pools = pooled;
+      names = named;
+      counts = counted;
+    })
+
+pub room_if_open : (t : SessionTable) (r : Record) → HasRoom t (one_if (is_open r)) → IsTrue (is_open r) → HasRoom t 1
+room_if_open t r room h = subst (λ o. HasRoom t (one_if o)) h room
+
+-- records that want no memory bind nothing and hold nothing
+no_bind : (r : Record) → TakesNone r → one_if (is_bind r) ≡ 0
+no_bind (Bind k) h = absurd h
+no_bind r h = refl
+
+no_chans : (r : Record) → TakesNone r → one_if (is_chan_hold r) ≡ 0
+no_chans (Hold k) h = absurd h
+no_chans r h = refl
+
+pub none_binds : (rs : List Record) → TakesNoMemory rs → count_by is_bind rs ≡ 0
+none_binds [] h = refl
+none_binds (r ∷ rs) h = omega (arith, sum_by-cons (λ r. one_if (is_bind r)) r rs, none_binds rs h.1, no_bind r h.0)
+
+pub none_holds : (rs : List Record) → TakesNoMemory rs → count_by is_chan_hold rs ≡ 0
+none_holds [] h = refl
+none_holds (r ∷ rs) h = omega (arith, sum_by-cons (λ r. one_if (is_chan_hold r)) r rs, none_holds rs h.1, no_chans r h.0)
+
+-- no number is found where none is counted
+
+counts_none : (p : ℕ × Session → Bool) (u : ℕ × Session → ℕ) → ((e : ℕ × Session) → u e ≡ one_if (p e)) → (es : List (ℕ × Session)) → number_of p es ≡ None → sum_by u es ≡ 0
+counts_none p u same [] h = refl
+counts_none p u same (e ∷ es) h =
+    elim (p e) as (λ t. p e ≡ t → option_map (λ (e : ℕ × Session). e.0) (cond t (Some e) (first_with p es)) ≡ None → sum_by u (e ∷ es) ≡ 0) [
+      | true ↦ λ _ h. absurd cc
+      | false ↦ λ off h. omega (arith, sum_by-cons u e es, same e, ap one_if off, counts_none p u same es h)
+    ] refl h
+
+none_counted : (p : ℕ × Session → Bool) (u : ℕ × Session → ℕ) → ((e : ℕ × Session) → u e ≡ one_if (p e)) → (es : List (ℕ × Session)) → sum_by u es ≡ 0 → number_of p es ≡ None
+none_counted p u same [] h = refl
+none_counted p u same (e ∷ es) h =
+    elim (p e) as (λ t. p e ≡ t → option_map (λ (e : ℕ × Session). e.0) (cond t (Some e) (first_with p es)) ≡ None) [
+      | true ↦ λ on. absurd (omega (arith, h, sum_by-cons u e es, same e, ap one_if on))
+      | false ↦ λ _. none_counted p u same es (omega (arith, h, sum_by-cons u e es))
+    ] refl
+
+nought : {X : Type 0} (o : Option X) → if_there (λ _. 0) o ≡ 0
+nought None = refl
+nought (Some x) = refl
+
+no_things : (es : List (ℕ × Admission)) → sum_by (λ e. if_there (λ _. 0) e.1.rate + if_there (λ _. 0) e.1.address + if_there (λ _. 0) e.1.stream) es ≡ 0
+no_things [] = refl
+no_things (e ∷ es) = omega (arith, no_things es, sum_by-cons (λ (e : ℕ × Admission). if_there (λ _. 0) e.1.rate + if_there (λ _. 0) e.1.address + if_there (λ _. 0) e.1.stream) e es, nought e.1.rate, nought e.1.address, nought e.1.stream)
+
+bound_once : (c i : ℕ) (o : Option (ℕ × ℕ)) → if_there (bindings c i).binding o ≡ one_if (is_startup c i o)
+bound_once c i None = refl
+bound_once c i (Some k) = refl
+
+abbrev pub Both : Type 0 → Type 0 → Type 0
+Both A B = (A → B) × (B → A)
+
+missing : {X : Type 0} (o : Option X) (t : Bool) → is_some o ≡ not t → Both (IsTrue t) (o ≡ None)
+missing None true h = (λ _. refl, λ _. refl)
+missing None false h = absurd cc
+missing (Some x) true h = absurd cc
+missing (Some x) false h = (λ bad. absurd cc, λ bad. absurd cc)
+
+-- no session has the id where none is counted
+pub id_free : (b : Book) (i : ℕ) (o : Option ℕ) (t : Bool) → o ≡ with_id_in i (entries b) → is_some o ≡ not t → Both (IsTrue t) (amount (with_id i) b ≡ 0)
+id_free b i o t is seen =
+    let each : (e : ℕ × Session) → of_session (with_id i) e.1 ≡ one_if (e.1.id == i) = λ e. omega (arith, nought e.1.binding, no_things (entries e.1.admissions)) in
+    (λ h. counts_none (λ e. e.1.id == i) (λ e. of_session (with_id i) e.1) each (entries b) (sym is ∙ (missing o t seen).0 h), λ h. (missing o t seen).1 (is ∙ none_counted (λ e. e.1.id == i) (λ e. of_session (with_id i) e.1) each (entries b) h))
+
+-- no session has the startup number where none is counted
+pub startup_free : (b : Book) (c i : ℕ) (o : Option ℕ) (t : Bool) → o ≡ with_startup_in c i (entries b) → is_some o ≡ not t → Both (IsTrue t) (amount (bindings c i) b ≡ 0)
+startup_free b c i o t is seen =
+    let each : (e : ℕ × Session) → of_session (bindings c i) e.1 ≡ one_if (is_startup c i e.1.binding) = λ e. omega (arith, bound_once c i e.1.binding, no_things (entries e.1.admissions)) in
+    (λ h. counts_none (λ e. is_startup c i e.1.binding) (λ e. of_session (bindings c i) e.1) each (entries b) (sym is ∙ (missing o t seen).0 h), λ h. (missing o t seen).1 (is ∙ none_counted (λ e. is_startup c i e.1.binding) (λ e. of_session (bindings c i) e.1) each (entries b) h))
+
+-- The next of the records.
+
+next_record : (cs : List Record) (k : ℕ) (r : Record) → k < length cs → r ≡ get_or cs k r → drop k cs ≡ r ∷ drop (k + 1) cs
+next_record cs k r lt is = drop-cons cs k r lt ∙ (λ t. sym is t ∷ drop (sym (add-one k) t) cs)
+
+pub allowed_next : (w : Whole) (b : Book) (cs : List Record) (k : ℕ) (r : Record) → k < length cs → r ≡ get_or cs k r → AllAllowed w b (drop k cs) → Allowed w b r × AllAllowed w (after b r) (drop (k + 1) cs)
+allowed_next w b cs k r lt is h = subst (AllAllowed w b) (next_record cs k r lt is) h
+
+pub made_next : (b : Book) (cs : List Record) (k : ℕ) (r : Record) → k < length cs → r ≡ get_or cs k r → after_all b (drop k cs) ≡ after_all (after b r) (drop (k + 1) cs)
+made_next b cs k r lt is = ap (after_all b) (next_record cs k r lt is)
+
+count_next : (p : Record → Bool) (cs : List Record) (k : ℕ) (r : Record) → k < length cs → r ≡ get_or cs k r → count_by p (drop k cs) ≡ count_by p (drop (k + 1) cs) + one_if (p r)
+count_next p cs k r lt is = omega (arith, ap (count_by p) (next_record cs k r lt is), sum_by-cons (λ r. one_if (p r)) r (drop (k + 1) cs))
+
+pub room_next : (p : Parts) (cs : List Record) (k : ℕ) (r : Record) → k < length cs → r ≡ get_or cs k r → HasRoomFor p (count_by is_open (drop k cs)) (count_by is_bind (drop k cs)) (count_by is_chan_hold (drop k cs))
+    → HasRoomFor p (count_by is_open (drop (k + 1) cs) + one_if (is_open r)) (count_by is_bind (drop (k + 1) cs) + one_if (is_bind r)) (count_by is_chan_hold (drop (k + 1) cs) + one_if (is_chan_hold r))
+room_next p cs k r lt is room =
+    subst (λ n. HasRoomFor p n (count_by is_bind (drop (k + 1) cs) + one_if (is_bind r)) (count_by is_chan_hold (drop (k + 1) cs) + one_if (is_chan_hold r))) (count_next is_open cs k r lt is)
+    (subst (λ n. HasRoomFor p (count_by is_open (drop k cs)) n (count_by is_chan_hold (drop (k + 1) cs) + one_if (is_chan_hold r))) (count_next is_bind cs k r lt is)
+    (subst (λ n. HasRoomFor p (count_by is_open (drop k cs)) (count_by is_bind (drop k cs)) n) (count_next is_chan_hold cs k r lt is) room))
+
+pub room_now : (p : Parts) (i j k x y z : ℕ) → HasRoomFor p (i + x) (j + y) (k + z) → HasRoomFor p x y z
+room_now p i j k x y z room =
+    record {
+      rows = (omega (arith, room.rows.0), omega (arith, room.rows.1));
+      ids = omega (arith, room.ids);
+      startups = omega (arith, room.startups);
+      chans = omega (arith, room.chans);
+    }

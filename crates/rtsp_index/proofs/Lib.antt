@@ -1,0 +1,6 @@
+pub mod TableLemmas
+pub mod PoolLemmas
+pub mod CountLemmas
+pub mod SearchLemmas
+pub mod NameLemmas
+pub mod AgreeLemmas

@@ -1,0 +1,202 @@
+-- A table of sessions as a book: what it has at a number, and what one change of it makes.
+use Rattle.std.proofs.Common.{◌≡◌, ◌≢◌, ℕ, zero, suc, ◌+◌, ◌<◌, Bool, true, false, cond, List, [], ◌∷◌, length, refl, sym, ◌∙◌, ap, subst, inl, inr, arith}
+use Rattle.std.specs.Prelude.{Option, Some, None, Result, Ok, Err, OnOk, IsOk, option_map, option_and_then, nat_eq, slice_get, IsSome}
+use Rattle.std.specs.FinMap.{get}
+use Rattle.std.specs.Map.{lookup}
+use Rattle.std.proofs.lemmas.Bool.{cases_eq}
+use Rattle.std.proofs.lemmas.Map.Entries.{place_from_lookup}
+use Rattle.std.proofs.lemmas.Bool.Decides.{nat_tests}
+use Rattle.slab.specs.Slab.{Slab, Updates, get as row_in}
+use Rattle.rtsp_record.specs.Tables.{set}
+use Rattle.rtsp_record.specs.Books.{Session, Book}
+use Rattle.rtsp_record.proofs.Tables.{tied, same_table, get-set, get-set_own, get-set_else, get-none}
+use Rattle.rtsp_sessions.specs.Lookups.{session_at}
+use Rattle.rtsp_index.specs.declared.table.SessionTable.{SessionTable}
+use Rattle.rtsp_index.specs.Contents.{HasRoom}
+use Rattle.rtsp_index.specs.Searching.{Passes}
+use Rattle.rtsp_index.specs.Placing.{row_at, number_at, gathered, IsPlaced}
+
+tied_is : (q k : ℕ) → tied q k ≡ nat_eq q k
+tied_is q k = grind (arith, nat_tests)
+
+pub same_eq : (n : ℕ) → nat_eq n n ≡ true
+same_eq n = grind (arith, nat_tests)
+
+pub apart_eq : (n m : ℕ) → n ≢ m → nat_eq n m ≡ false
+apart_eq n m h = grind (arith, nat_tests)
+
+-- what the book of these places has at a number
+pub at_place : (rows : Slab (ℕ × Session)) (es : List (ℕ × ℕ)) (q : ℕ) → get (gathered rows es) q ≡ option_and_then (row_at rows) (lookup (nat_eq q) es)
+at_place rows [] q = get-none q
+at_place rows (e ∷ es) q =
+    get-set (gathered rows es) e.0 q (row_at rows e.1)
+    ∙ ap (λ t. cond t (row_at rows e.1) (get (gathered rows es) q)) (tied_is q e.0)
+    ∙ elim (nat_eq q e.0) as (λ t. cond t (row_at rows e.1) (get (gathered rows es) q) ≡ option_and_then (row_at rows) (cond t (Some e.1) (lookup (nat_eq q) es))) [
+      | true ↦ refl
+      | false ↦ at_place rows es q
+    ]
+
+-- the row of a number
+numbered : (o : Option (ℕ × Session)) (s : ℕ) → option_map (λ v. v.0) o ≡ Some s → (f : Session) × (o ≡ Some (s, f))
+numbered None s h = absurd cc
+numbered (Some v) s h = let same : v.0 ≡ s = cc in (v.1, λ t. Some (same t, v.1))
+
+-- a change of a table: the rows stand at their places, and the book has this at the number
+pub record Written (es ds : List (ℕ × ℕ)) (rows more : Slab (ℕ × Session)) (s : ℕ) (o : Option Session) : Type 0 where
+  pub placed : IsPlaced (λ q. lookup (nat_eq q) ds) more
+  pub table : gathered more ds ≡ set (gathered rows es) s o
+
+-- One change of a table, of which es are the places before it and ds after.
+module _ (es ds : List (ℕ × ℕ)) (rows more : Slab (ℕ × Session)) (s : ℕ)
+    (placed : IsPlaced (λ q. lookup (nat_eq q) es) rows)
+    (others : (q : ℕ) → nat_eq s q ≡ false → lookup (nat_eq q) ds ≡ lookup (nat_eq q) es)
+    (kept : (q k : ℕ) (f : Session) → q ≢ s → row_in rows k ≡ Some (q, f) → row_in more k ≡ row_in rows k) where
+  else_place : (q : ℕ) → q ≢ s → lookup (nat_eq q) ds ≡ lookup (nat_eq q) es
+  else_place q apart = others q (apart_eq s q (λ e. apart (sym e)))
+
+  place_after : ((k : ℕ) → lookup (nat_eq s) ds ≡ Some k → number_at more k ≡ Some s) → IsPlaced (λ q. lookup (nat_eq q) ds) more
+  place_after own q k at =
+      elim (cases_eq q s) [
+        | inl same ↦ own k (ap (λ q. lookup (nat_eq q) ds) (sym same) ∙ at) ∙ ap (λ q. Some q) (sym same)
+        | inr apart ↦
+            let number = placed q k (sym (else_place q apart) ∙ at) in
+            let row = numbered (row_in rows k) q number in
+            ap (option_map (λ (v : ℕ × Session). v.0)) (kept q k row.0 apart row.1) ∙ number
+      ]
+
+  same_row : (q : ℕ) → q ≢ s → option_and_then (row_at more) (lookup (nat_eq q) ds) ≡ option_and_then (row_at rows) (lookup (nat_eq q) es)
+  same_row q apart =
+      ap (option_and_then (row_at more)) (else_place q apart)
+      ∙ elim (lookup (nat_eq q) es) as (λ o. lookup (nat_eq q) es ≡ o → option_and_then (row_at more) o ≡ option_and_then (row_at rows) o) [
+        | None ↦ λ _. refl
+        | Some k ↦ λ at. let row = numbered (row_in rows k) q (placed q k at) in ap (option_map (λ (v : ℕ × Session). v.1)) (kept q k row.0 apart row.1)
+      ] refl
+
+  book_after : (o : Option Session) → option_and_then (row_at more) (lookup (nat_eq s) ds) ≡ o → gathered more ds ≡ set (gathered rows es) s o
+  book_after o own =
+      same_table _ _ (λ q. elim (cases_eq q s) [
+        | inl same ↦ at_place more ds q ∙ ap (λ q. option_and_then (row_at more) (lookup (nat_eq q) ds)) same ∙ own ∙ sym (get-set_own (gathered rows es) s o) ∙ ap (get (set (gathered rows es) s o)) (sym same)
+        | inr apart ↦ at_place more ds q ∙ same_row q apart ∙ sym (at_place rows es q) ∙ sym (get-set_else (gathered rows es) s q o apart)
+      ])
+
+  pub written : (k : ℕ) (v : ℕ × Session) → lookup (nat_eq s) ds ≡ Some k → row_in more k ≡ Some v → v.0 ≡ s → Written es ds rows more s (Some v.1)
+  written k v at row number =
+      record {
+        placed = place_after (λ j there.
+            let same : k ≡ j = some_same k j (sym at ∙ there) in
+            ap (number_at more) (sym same) ∙ ap (option_map (λ (v : ℕ × Session). v.0)) row ∙ ap (λ n. Some n) number);
+        table = book_after (Some v.1) (ap (option_and_then (row_at more)) at ∙ ap (option_map (λ (v : ℕ × Session). v.1)) row);
+      }
+    where
+      some_same : (n m : ℕ) → ◌≡◌ {A = Option ℕ} (Some n) (Some m) → n ≡ m
+      some_same n m h = cc
+
+  pub taken : lookup (nat_eq s) ds ≡ None → Written es ds rows more s None
+  taken none =
+      record {
+        placed = place_after (λ j there. let bad = sym none ∙ there in absurd cc);
+        table = book_after None (ap (option_and_then (row_at more)) none);
+      }
+
+-- the rows of two numbers aren't the same
+other_place : (rows : Slab (ℕ × Session)) (s q j k : ℕ) (f : Session) → number_at rows k ≡ Some s → q ≢ s → row_in rows j ≡ Some (q, f) → j ≢ k
+other_place rows s q j k f number apart row same =
+    let there : number_at rows k ≡ Some q = ap (number_at rows) (sym same) ∙ ap (option_map (λ (v : ℕ × Session). v.0)) row in
+    apart (some_is q s (sym there ∙ number))
+  where
+    some_is : (n m : ℕ) → ◌≡◌ {A = Option ℕ} (Some n) (Some m) → n ≡ m
+    some_is n m h = cc
+
+-- a vacant place isn't that of a row
+vacant_place : (rows : Slab (ℕ × Session)) (q j k : ℕ) (f : Session) → row_in rows k ≡ None → row_in rows j ≡ Some (q, f) → j ≢ k
+vacant_place rows q j k f none row same = let bad = sym none ∙ ap (row_in rows) (sym same) ∙ row in absurd cc
+
+module _ (es ds : List (ℕ × ℕ)) (rows more : Slab (ℕ × Session)) (s k : ℕ)
+    (placed : IsPlaced (λ q. lookup (nat_eq q) es) rows)
+    (others : (q : ℕ) → nat_eq s q ≡ false → lookup (nat_eq q) ds ≡ lookup (nat_eq q) es) where
+  -- a row at a vacant place
+  pub opened : (v : ℕ × Session) → row_in rows k ≡ None → Updates rows more k (Some v) → lookup (nat_eq s) ds ≡ Some k → v.0 ≡ s → Written es ds rows more s (Some v.1)
+  opened v none up at number = written es ds rows more s placed others (λ q j f apart row. up.others j (vacant_place rows q j k f none row)) k v at up.changed number
+
+  -- the row at the place of the number taken out
+  pub closed : lookup (nat_eq s) es ≡ Some k → Updates rows more k None → lookup (nat_eq s) ds ≡ None → Written es ds rows more s None
+  closed at up none = taken es ds rows more s placed others (λ q j f apart row. up.others j (other_place rows s q j k f (placed s k at) apart row)) none
+
+  -- another row at the place of the number
+  pub changed : (v : ℕ × Session) → lookup (nat_eq s) es ≡ Some k → Updates rows more k (Some v) → lookup (nat_eq s) ds ≡ Some k → v.0 ≡ s → Written es ds rows more s (Some v.1)
+  changed v was up at number = written es ds rows more s placed others (λ q j f apart row. up.others j (other_place rows s q j k f (placed s k was) apart row)) k v at up.changed number
+
+-- a session with no place doesn't live
+pub no_place : (es : List (ℕ × ℕ)) (rows : Slab (ℕ × Session)) (s : ℕ) → lookup (nat_eq s) es ≡ None → get (gathered rows es) s ≡ None
+no_place es rows s none = at_place rows es s ∙ ap (option_and_then (row_at rows)) none
+
+-- the row at the place of a number is there
+pub row_is : (es : List (ℕ × ℕ)) (rows : Slab (ℕ × Session)) (s k : ℕ) → IsPlaced (λ q. lookup (nat_eq q) es) rows → lookup (nat_eq s) es ≡ Some k → IsSome (row_in rows k)
+row_is es rows s k placed at = let row = numbered (row_in rows k) s (placed s k at) in subst IsSome (sym row.1) refl
+
+-- the row at the place of a number has the number
+pub row_number : (es : List (ℕ × ℕ)) (rows : Slab (ℕ × Session)) (s k : ℕ) (v : ℕ × Session) → IsPlaced (λ q. lookup (nat_eq q) es) rows → lookup (nat_eq s) es ≡ Some k → ◌≡◌ {A = Option (ℕ × Session)} (Some v) (row_in rows k) → v.0 ≡ s
+row_number es rows s k v placed at is = some_is v.0 s (ap (option_map (λ (v : ℕ × Session). v.0)) is ∙ placed s k at)
+  where
+    some_is : (n m : ℕ) → ◌≡◌ {A = Option ℕ} (Some n) (Some m) → n ≡ m
+    some_is n m h = cc
+
+-- the session of a row lives
+pub row_lives : (es : List (ℕ × ℕ)) (rows : Slab (ℕ × Session)) (s k : ℕ) (v : ℕ × Session) → lookup (nat_eq s) es ≡ Some k → ◌≡◌ {A = Option (ℕ × Session)} (Some v) (row_in rows k) → get (gathered rows es) s ≡ Some v.1
+row_lives es rows s k v at is = at_place rows es s ∙ ap (option_and_then (row_at rows)) at ∙ ap (option_map (λ (v : ℕ × Session). v.1)) (sym is)
+
+-- the row at the place of a number is the session
+pub row_there : (es : List (ℕ × ℕ)) (rows : Slab (ℕ × Session)) (s k : ℕ) (o : Option (ℕ × Session)) → IsPlaced (λ q. lookup (nat_eq q) es) rows → lookup (nat_eq s) es ≡ Some k → o ≡ row_in rows k → o ≡ session_at (gathered rows es) s
+row_there es rows s k o placed at is =
+    let row = numbered (row_in rows k) s (placed s k at) in
+    is ∙ row.1 ∙ sym (ap (option_map (λ (f : Session). (s, f))) (at_place rows es s ∙ ap (option_and_then (row_at rows)) at ∙ ap (option_map (λ (v : ℕ × Session). v.1)) row.1))
+
+-- what an accepted call ensures
+pub on_ok : {A B : Type 0} (r : Result A B) (P : Type 0) → OnOk r P → IsOk r → P
+on_ok (Ok x) P h is = h
+on_ok (Err e) P h is = absurd cc
+
+pub none_is : {X : Type 0} (o : Option X) → o ≡ None → IsSome o → ⊥
+none_is None h is = absurd cc
+none_is (Some x) h is = absurd cc
+
+-- room for more is room for less
+pub less_room : (t : SessionTable) (n m : ℕ) → HasRoom t (n + m) → HasRoom t n
+less_room t n m h = (omega (arith, h.0), omega (arith, h.1))
+
+-- the session of a row passes, or doesn't
+pub passing : (p : ℕ × Session → Bool) (b : Book) (s : ℕ) (v : ℕ × Session) → get b s ≡ Some v.1 → v.0 ≡ s → p v ≡ true → Passes p b s
+passing p b s v at number on = (v.1, at, ap p (λ t. (sym number t, v.1)) ∙ on)
+
+pub not_passing : (p : ℕ × Session → Bool) (b : Book) (s : ℕ) (v : ℕ × Session) → get b s ≡ Some v.1 → v.0 ≡ s → p v ≡ false → Passes p b s → ⊥
+not_passing p b s v at number off h =
+    let same : h.0 ≡ v.1 = some_session h.0 v.1 (sym h.1 ∙ at) in
+    differs (p v) off (ap p (λ t. (number t, sym same t)) ∙ h.2)
+  where
+    some_session : (f g : Session) → ◌≡◌ {A = Option Session} (Some f) (Some g) → f ≡ g
+    some_session f g h = cc
+
+    differs : (t : Bool) → t ≡ false → t ≡ true → ⊥
+    differs t off on = let bad = sym off ∙ on in absurd cc
+
+-- the entry that stands there has this number
+pub same_first : (s k : ℕ) (e : ℕ × ℕ) → ◌≡◌ {A = Option (ℕ × ℕ)} (Some (s, k)) (Some e) → s ≡ e.0
+same_first s k e h = cc
+
+-- each living session has an entry among the places
+pub has_entry : (es : List (ℕ × ℕ)) (rows : Slab (ℕ × Session)) (s : ℕ) (f : Session) → get (gathered rows es) s ≡ Some f → (j : ℕ) × (e : ℕ × ℕ) × (slice_get es j ≡ Some e) × (e.0 ≡ s) × (j < length es)
+has_entry es rows s f is =
+    elim (lookup (nat_eq s) es) as (λ o. lookup (nat_eq s) es ≡ o → (j : ℕ) × (e : ℕ × ℕ) × (slice_get es j ≡ Some e) × (e.0 ≡ s) × (j < length es)) [
+      | None ↦ λ none. let bad = sym (no_place es rows s none) ∙ is in absurd cc
+      | Some k ↦ λ at.
+          let place = place_from_lookup (nat_eq s) es k at in
+          (place.0, (place.1, k), place.2, sym (nat_is s place.1 place.3), within es place.0 (place.1, k) place.2)
+    ] refl
+  where
+    nat_is : (n m : ℕ) → nat_eq n m ≡ true → n ≡ m
+    nat_is n m h = grind (arith, nat_tests)
+
+    within : (es : List (ℕ × ℕ)) (j : ℕ) (e : ℕ × ℕ) → slice_get es j ≡ Some e → j < length es
+    within [] j e h = absurd cc
+    within (d ∷ es) zero e h = omega arith
+    within (d ∷ es) (suc j) e h = omega (arith, within es j e h)

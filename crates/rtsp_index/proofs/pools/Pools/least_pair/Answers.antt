@@ -1,0 +1,7 @@
+use Rattle.std.proofs.Common.{◌∙◌}
+use Rattle.rtsp_pools.specs.Pools.{is_free_pair}
+use Rattle.rtsp_index.proofs.PoolLemmas.{least_pair_same}
+use Rattle.rtsp_index.proofs.pools.Pools.least_pair.Goals as goal
+
+pub returns : goal.returns
+returns c b ok = c.least_free.ensures ∙ least_pair_same (is_free_pair c.args.self.now.pairs) c.args.self.now.pairs.whole b c.args.from ok.pairs

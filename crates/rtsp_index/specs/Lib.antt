@@ -1,0 +1,10 @@
+pub mod Placing
+pub mod Searching
+pub mod Contents
+pub mod Following
+pub mod Pooling
+pub mod Counting
+pub mod Counted
+pub mod Naming
+pub mod Named
+pub mod Agreeing

@@ -1,0 +1,118 @@
+//! A book with indexes.
+
+ghost use Rattle.std.specs.Prelude.{◌≡◌};
+ghost use Rattle.rtsp_index.specs.Agreeing.{book_in, AllAgree};
+
+use crate::parts::Parts;
+use crate::search::Search;
+use rtsp_record::{Record, Whole};
+use rtsp_sessions::{BookRep, SessionView};
+use std::alloc::{AllocError, Global};
+use std::marker::Model;
+
+/// A book with indexes. A record, and a look-up by number, id or startup number, cost the same
+/// however many sessions live, and so do the choices and sums. `next_session`, `due` and `on_conn`
+/// look at all sessions.
+#[derive(Drop)]
+pub struct IndexedBook {
+    parts: Parts,
+}
+
+impl Model for IndexedBook {
+    ghost use Rattle.rtsp_record.specs.contracts.holdings.Admission as admission;
+    ghost use Rattle.rtsp_record.specs.contracts.holdings.Whole as limits;
+    ghost use Rattle.rtsp_record.specs.contracts.phases.Phase as play;
+    ghost use Rattle.rtsp_sessions.specs.Plain.{PlainState, plain_code};
+    ghost use Rattle.rtsp_index.specs.Agreeing.{book_in, AllAgree};
+
+    ghost Value = { PlainState };
+
+    ghost coded = { plain_code limits.the_row.coded admission.the_row.coded play.the_row.coded };
+
+    ghost view = { λ b. record { whole = b.parts.whole; book = book_in b.parts } };
+
+    ghost invariant = { λ b. AllAgree b.parts };
+}
+
+impl IndexedBook {
+    // The parts, which agree.
+    fn parts(&self) -> &Parts
+        ensures agree { AllAgree result.now }
+        ensures whole { result.now.whole ≡ self.now.whole }
+        ensures book { book_in result.now ≡ self.now.book }
+    {
+        &self.parts
+    }
+}
+
+impl BookRep for IndexedBook {
+    ghost contents = { λ b. b.book };
+
+    ghost whole_of = { λ b. b.whole };
+
+    fn open(alloc: Global, whole: &Whole) -> Result<Self, AllocError> {
+        let parts = Parts::open(alloc, whole)?;
+        Ok(IndexedBook { parts })
+    }
+
+    fn allowed(&self, change: &Record) -> bool {
+        self.parts().allowed(change)
+    }
+
+    fn apply(&mut self, changes: &[Record]) -> Result<(), AllocError> {
+        self.parts.reserve(changes)?;
+        self.parts.make_all(changes);
+        Ok(())
+    }
+
+    fn get(&self, session: u64) -> Option<&SessionView> {
+        self.parts().sessions.get(session)
+    }
+
+    fn session(&self, session: u64) -> Option<SessionView> {
+        match self.get(session) {
+            Some(view) => Some(view.copied()),
+            None => None,
+        }
+    }
+
+    fn next_session(&self, from: u64) -> Option<u64> {
+        self.parts().sessions.least(&Search::From(from))
+    }
+
+    fn by_id(&self, id: u128) -> Option<u64> {
+        self.parts().names.by_id(id)
+    }
+
+    fn by_startup(&self, conn: u64, number: u32) -> Option<u64> {
+        self.parts().names.by_startup(conn, number)
+    }
+
+    fn least_pair(&self, from: u32) -> Option<u16> {
+        self.parts().pools.least_pair(from)
+    }
+
+    fn least_chan(&self, conn: u64, wish: Option<u8>) -> Option<u8> {
+        self.parts().pools.least_chan(conn, wish)
+    }
+
+    fn held_rate(&self) -> u64 {
+        self.parts().pools.held_rate()
+    }
+
+    fn living(&self) -> usize {
+        self.parts().counts.living()
+    }
+
+    fn due(&self, now: u64) -> Option<u64> {
+        self.parts().sessions.least(&Search::Expired(now))
+    }
+
+    fn on_conn(&self, conn: u64) -> Option<u64> {
+        self.parts().sessions.least(&Search::OnConn(conn))
+    }
+
+    fn owed(&self) -> usize {
+        self.parts().counts.owed()
+    }
+}

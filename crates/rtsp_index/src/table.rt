@@ -1,0 +1,158 @@
+//! The table of living sessions, by number.
+
+ghost use Rattle.std.specs.Prelude.{◌≡◌, ◌+◌, ◌≤◌, ℕ, nat_eq, Some, None, IsSome, IfSome, IsTrue, IsOk, OnOk, option_copied, slice_get, ◌⊎◌};
+ghost use Rattle.std.specs.FinMap.{get, empty, entries};
+ghost use Rattle.indexmap.specs.IndexMap.{get as get_place};
+ghost use Rattle.rtsp_record.specs.Tables.{set};
+ghost use Rattle.rtsp_record.specs.Books.{effect, after};
+ghost use Rattle.rtsp_record.specs.Sums.{one_if};
+ghost use Rattle.rtsp_record.specs.Rules.{Living};
+ghost use Rattle.rtsp_sessions.specs.Lookups.{session_at, number_of};
+ghost use Rattle.rtsp_sessions.specs.Plain.{RoomFor, FitsIn, is_open};
+ghost use Rattle.rtsp_index.specs.Placing.{IsPlaced};
+ghost use Rattle.rtsp_index.specs.Searching.{passes, Passes, AtMost};
+
+use crate::search::Search;
+use indexmap::IndexMap;
+use rtsp_record::Record;
+use rtsp_sessions::SessionView;
+use slab::Slab;
+use std::alloc::{AllocError, Global};
+
+/// The living sessions. Each has a place, where its row stands until it ends; no row is moved when
+/// another comes or goes.
+#[derive(Drop)]
+pub(crate) struct SessionTable {
+    places: IndexMap<u64, usize>,
+    rows: Slab<SessionView>,
+    ghost placed: { IsPlaced (λ s. get_place nat_eq places s) rows },
+}
+
+impl SessionTable {
+    ghost use Rattle.rtsp_index.specs.Contents.{sessions_in, HasRoom};
+
+    /// No session.
+    pub(crate) fn new(alloc: Global) -> Self
+        ensures { sessions_in result ≡ empty }
+    {
+        SessionTable {
+            places: IndexMap::new(alloc),
+            rows: Slab::new(alloc),
+        }
+    }
+
+    /// Takes memory for so many more sessions.
+    pub(crate) fn reserve(&mut self, additional: usize) -> Result<(), AllocError>
+        ensures same { sessions_in self.new ≡ sessions_in self.old }
+        ensures room { OnOk result (HasRoom self.new additional) }
+        ensures succeeds { additional ≡ 0 → IsOk result }
+    {
+        let _capacity = self.rows.capacity();
+        self.places.reserve(additional)?;
+        self.rows.reserve(additional)
+    }
+
+    /// The session of this number, where it lives.
+    pub(crate) fn get(&self, session: u64) -> Option<&SessionView>
+        ensures { option_copied result ≡ session_at (sessions_in self.now) session }
+    {
+        let place = self.places.get(&session)?;
+        self.rows.get(*place)
+    }
+
+    // Puts in a session that does not live.
+    fn open(&mut self, view: SessionView)
+        requires new { get (sessions_in self.old) view.0 ≡ None }
+        requires room { HasRoom self.old 1 }
+        ensures table { sessions_in self.new ≡ set (sessions_in self.old) view.0 (Some view.1) }
+        ensures room { (n : ℕ) → HasRoom self.old (n + 1) → HasRoom self.new n }
+    {
+        let session = view.session();
+        let place = self.rows.insert_reserved(view);
+        match self.places.insert(session, place) {
+            Ok(_) => {}
+            Err(_) => unreachable!(),
+        }
+    }
+
+    // Takes a living session out.
+    fn close(&mut self, session: u64)
+        requires { IsSome (get (sessions_in self.old) session) }
+        ensures table { sessions_in self.new ≡ set (sessions_in self.old) session None }
+        ensures room { (n : ℕ) → HasRoom self.old n → HasRoom self.new n }
+    {
+        match self.places.swap_remove(&session) {
+            Some(place) => {
+                self.rows.remove(place);
+            }
+            None => unreachable!(),
+        }
+    }
+
+    // Makes a change of a living session, which lives on.
+    fn change(&mut self, session: u64, change: &Record)
+        requires { Living (get (sessions_in self.old) session) (RoomFor change.now) }
+        ensures table { sessions_in self.new ≡ set (sessions_in self.old) session (effect change.now (get (sessions_in self.old) session)) }
+        ensures room { (n : ℕ) → HasRoom self.old n → HasRoom self.new n }
+    {
+        match self.places.get(&session) {
+            Some(place) => match self.rows.get_mut(*place) {
+                Some(row) => row.change(change),
+                None => unreachable!(),
+            },
+            None => unreachable!(),
+        }
+    }
+
+    /// Makes one record, for which there is room.
+    pub(crate) fn make(&mut self, change: &Record)
+        requires fits { FitsIn (sessions_in self.old) change.now }
+        requires room { IsTrue (is_open change.now) → HasRoom self.old 1 }
+        ensures table { sessions_in self.new ≡ after (sessions_in self.old) change.now }
+        ensures room { (n : ℕ) → HasRoom self.old (n + one_if (is_open change.now)) → HasRoom self.new n }
+    {
+        match *change {
+            Record::Open(life) => self.open(SessionView::opened(&life)),
+            Record::Close(life) => self.close(life.session),
+            _ => self.change(change.session(), change),
+        }
+    }
+
+    // The number at this place in the order of the look-ups, where its session is searched.
+    fn searched_at(&self, index: usize, search: &Search) -> Option<u64>
+        ensures found { IfSome result (Passes (passes search.now) (sessions_in self.now)) }
+        ensures only { (e : ℕ × ℕ) → slice_get self.now.places.entries index ≡ Some e → Passes (passes search.now) (sessions_in self.now) e.0 → result ≡ Some e.0 }
+    {
+        let entry = self.places.get_index(index)?;
+        let view = self.rows.get(*entry.1)?;
+        if search.takes(view) {
+            Some(*entry.0)
+        } else {
+            None
+        }
+    }
+
+    /// The least number of a session that is searched. It looks at all.
+    pub(crate) fn least(&self, search: &Search) -> Option<u64>
+        ensures { result ≡ number_of (passes search.now) (entries (sessions_in self.now)) }
+    {
+        let mut least = None;
+        for index in 0..self.places.len() {
+            least = lesser(least, self.searched_at(index, search));
+        }
+        least
+    }
+}
+
+// The lesser of two numbers, where there are any.
+fn lesser(one: Option<u64>, two: Option<u64>) -> Option<u64>
+    ensures either { (result ≡ one) ⊎ (result ≡ two) }
+    ensures first { (n : ℕ) → AtMost one n → AtMost result n }
+    ensures second { (n : ℕ) → AtMost two n → AtMost result n }
+{
+    match (one, two) {
+        (Some(first), Some(second)) => { if first < second { one } else { two } }
+        (Some(_), None) => one,
+        (None, _) => two,
+    }
+}
