@@ -14,6 +14,3 @@ mod swept;
 
 pub use sweeping::{hang_up, sweep};
 pub use swept::Swept;
-
-#[cfg(test)]
-mod tests;

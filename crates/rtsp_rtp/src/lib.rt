@@ -25,6 +25,3 @@ pub use sink::{Sink, SinkFault};
 pub use source::Source;
 pub use turn::Turn;
 pub use unit::packet;
-
-#[cfg(test)]
-mod tests;

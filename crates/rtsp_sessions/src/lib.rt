@@ -17,7 +17,7 @@ mod tallies;
 mod views;
 
 pub use admissions::{Admissions, MOST_HOLDING};
-pub use plain::PlainBook;
+pub use plain::{PlainBook, owns};
 pub use representation::BookRep;
 pub use startups::Startup;
 pub use tallies::Tally;

@@ -9,13 +9,14 @@ ghost use Rattle.rtsp_sessions.specs.Plain.{InOrder, table_of};
 mod amounts;
 mod choices;
 mod lookups;
-pub(crate) mod own;
+mod own;
 mod rows;
 mod rules;
 
 use crate::representation::BookRep;
 use crate::tallies::Tally;
 use crate::views::SessionView;
+pub use own::owns;
 use rtsp_record::{Record, Whole};
 use std::alloc::{AllocError, Global};
 use std::marker::Model;

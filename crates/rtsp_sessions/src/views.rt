@@ -45,7 +45,7 @@ impl Model for SessionView {
 
 impl SessionView {
     /// A session that has just been opened.
-    pub(crate) fn opened(life: &Life) -> Self
+    pub fn opened(life: &Life) -> Self
         ensures { result ≡ (life.now.session, opened life.now.id life.now.conn life.now.expires) }
     {
         SessionView {
@@ -168,8 +168,8 @@ impl SessionView {
         life + of_rows(tally, self.admissions.rows())
     }
 
-    // A copy of the session.
-    pub(crate) fn copied(&self) -> SessionView
+    /// A copy of the session.
+    pub fn copied(&self) -> SessionView
         ensures { result ≡ self.now }
     {
         SessionView {
@@ -183,9 +183,9 @@ impl SessionView {
         }
     }
 
-    // Makes a change of this session, which lives on. A thing or a stream needs a row of its
-    // admission, or room for one.
-    pub(crate) fn change(&mut self, change: &Record)
+    /// Makes a change of this session, which lives on. A thing or a stream needs a row of its
+    /// admission, or room for one.
+    pub fn change(&mut self, change: &Record)
         requires { RoomFor change.now self.old.1 }
         ensures number { self.new.0 ≡ self.old.0 }
         ensures session { effect change.now (Some self.old.1) ≡ Some self.new.1 }

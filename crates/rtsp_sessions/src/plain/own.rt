@@ -13,7 +13,7 @@ use crate::views::SessionView;
 use rtsp_record::{Admission, Life, Phase, Record, Stream, Thing};
 
 /// Whether the record is allowed as far as its own session goes.
-pub(crate) fn owns(view: Option<&SessionView>, change: &Record) -> bool
+pub fn owns(view: Option<&SessionView>, change: &Record) -> bool
     ensures { IsTrue result ↔ Own change.now (session_in (option_copied view.entry)) }
 {
     match view {
