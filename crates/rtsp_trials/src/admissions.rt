@@ -2,6 +2,7 @@ ghost use Rattle.std.specs.Prelude.{◌≡◌};
 ghost use Rattle.rtsp_lock.specs.Calls.{IsSeatOf, SameSeat};
 ghost use Rattle.rtsp_admit.specs.Steps.{HasWish};
 
+use crate::world::OVER_PORTS;
 use rtsp_admit::*;
 use rtsp_book::{Admitted, Ask, BookRep, Opening, PlainBook, Refusal, Step, Wanted};
 use rtsp_lock::{BookLock, BookSeat};
@@ -85,14 +86,8 @@ fn asked(session: u64, admission: u64) -> Ask
 
 fn stream(track: u16) -> Stream {
     Stream {
-        presentation: 0,
         track,
-        ssrc: 1,
-        seq: 0,
-        rtptime: 0,
-        peer: 0x7f00_0001,
-        rtp_port: 8000,
-        rtcp_port: 8001,
+        ..OVER_PORTS
     }
 }
 
@@ -382,6 +377,7 @@ fn the_pair_of_a_replaced_stream_is_unbound(rt: HostRuntime) -> Result<(), Fail>
     assert!(rt; granted.is_ok() && binder.unbound == Some((3, 5000)));
     unbind_all(&mut binder, &[(4, 5002)]);
     assert!(rt; binder.unbound == Some((4, 5002)));
+    law_admitted_grows::<BindsFrom>(&ask);
     law_acts_use_drawn();
     law_drawn_is_unused();
     law_drawn_used_alone();

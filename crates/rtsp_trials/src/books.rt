@@ -3,6 +3,7 @@
 ghost use Rattle.rtsp_record.specs.Choices.{HasPorts};
 ghost use Rattle.rtsp_book.specs.Replies.{IsAskable};
 
+use crate::world::{OVER_CHANNELS, OVER_PORTS, SMALL};
 use rtsp_book::{
     BookRep, Chain, ChannelHold, Commit, Kept, Life, PlainBook, Receipt, SessionView, Step, Tally,
     law_giving_back, law_granted,
@@ -12,36 +13,6 @@ use rtsp_undo::book_text;
 use std::alloc::{AllocError, Global};
 use std::process::Abort;
 use std::test::Fail;
-
-const SMALL: Whole = Whole {
-    first_port: 5000,
-    pairs: 2,
-    uplink: 160_000,
-    sessions: 4,
-    journal: 1_000,
-};
-
-const OVER_PORTS: Stream = Stream {
-    presentation: 0,
-    track: 0,
-    ssrc: 1,
-    seq: 0,
-    rtptime: 0,
-    peer: 0x7f00_0001,
-    rtp_port: 8000,
-    rtcp_port: 8001,
-};
-
-const OVER_CHANNELS: Stream = Stream {
-    presentation: 0,
-    track: 0,
-    ssrc: 2,
-    seq: 0,
-    rtptime: 0,
-    peer: 0x7f00_0001,
-    rtp_port: 0,
-    rtcp_port: 0,
-};
 
 // A step of a session, which its actor asks for.
 #[derive(Clone, Copy)]

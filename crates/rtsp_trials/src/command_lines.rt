@@ -71,6 +71,37 @@ fn lines(rt: HostRuntime) -> Result<(), AllocError> {
 }
 
 #[test]
+fn servers(rt: HostRuntime) -> Result<(), AllocError> {
+    let words = ["serve", "--config", "a"];
+    let line = read_words(rt.alloc(), words.as_slice())?;
+    assert!(rt;
+        line == Some(CommandLine::Serve {
+            config: "a",
+            listen: None,
+            connections: None,
+        })
+    );
+    let words = ["serve", "--connections=7", "--config=a", "--listen", "b"];
+    let line = read_words(rt.alloc(), words.as_slice())?;
+    assert!(rt;
+        line == Some(CommandLine::Serve {
+            config: "a",
+            listen: Some("b"),
+            connections: Some(7),
+        })
+    );
+    assert!(rt; is_refused(&rt, ["serve"].as_slice())?);
+    assert!(rt; is_refused(&rt, ["serve", "--config", "a", "--journal", "b"].as_slice())?);
+    assert!(rt;
+        is_refused(
+            &rt,
+            ["serve", "--config", "a", "--connections", "-1"].as_slice()
+        )?
+    );
+    Ok(())
+}
+
+#[test]
 fn numbers(rt: HostRuntime) -> Result<(), AllocError> {
     assert!(rt; back_of(&rt, "+5")? == Some(5));
     assert!(rt; back_of(&rt, "007")? == Some(7));

@@ -1,39 +1,9 @@
 //! The example configuration: what it says, how it is described, and what is refused beside it.
 
 use rtsp_content::*;
+use rtspd::EXAMPLE;
 use std::alloc::{AllocError, Global};
 use std::test::Fail;
-
-const TONE: &str = "\
-[server]
-first_port = 5000
-pairs = 2
-uplink = 160000
-sessions = 4
-timeout = 60
-[[presentation]]
-name = \"tone\"
-units = 500
-unit_ms = 20
-[[presentation.track]]
-name = \"a\"
-media = \"audio\"
-pt = 0
-encoding = \"PCMU\"
-clock = 8000
-octets = 160
-ticks = 160
-file = \"tone-a.raw\"
-[[presentation.track]]
-name = \"b\"
-media = \"audio\"
-pt = 8
-encoding = \"PCMA\"
-clock = 8000
-octets = 160
-ticks = 160
-file = \"tone-b.raw\"
-";
 
 const TONE_SDP: &str = "\
 v=0\r
@@ -63,13 +33,13 @@ fn fault_of(alloc: Global, text: &str) -> Option<TableFault> {
 
 /// The fault of the example with a part of it replaced.
 fn fault_with(alloc: Global, old: &str, new: &str) -> Result<Option<TableFault>, AllocError> {
-    let text = TONE.replacen(alloc, old, new, 1)?;
+    let text = EXAMPLE.replacen(alloc, old, new, 1)?;
     Ok(fault_of(alloc, text.as_str()))
 }
 
 #[test]
 fn describes_the_example(rt: HostRuntime) -> Result<(), Fail> {
-    let table = Table::read(rt.alloc(), TONE.as_bytes())?;
+    let table = Table::read(rt.alloc(), EXAMPLE.as_bytes())?;
     let presentation = table.presentation(0).expect(&rt, "the first");
     assert!(rt; presentation.sdp() == TONE_SDP.as_bytes());
     Ok(())
@@ -77,7 +47,7 @@ fn describes_the_example(rt: HostRuntime) -> Result<(), Fail> {
 
 #[test]
 fn reads_the_example(rt: HostRuntime) -> Result<(), Fail> {
-    let table = Table::read(rt.alloc(), TONE.as_bytes())?;
+    let table = Table::read(rt.alloc(), EXAMPLE.as_bytes())?;
     let server = Server {
         first_port: 5000,
         pairs: 2,
@@ -127,7 +97,7 @@ fn has_the_texts(track: &Track) -> bool {
 
 #[test]
 fn finds_by_path(rt: HostRuntime) -> Result<(), Fail> {
-    let table = Table::read(rt.alloc(), TONE.as_bytes())?;
+    let table = Table::read(rt.alloc(), EXAMPLE.as_bytes())?;
     let paths = [
         ("/tone", Found::Presentation(0)),
         ("/tone/", Found::Presentation(0)),
@@ -151,7 +121,7 @@ fn finds_by_path(rt: HostRuntime) -> Result<(), Fail> {
 
 #[test]
 fn rounds_rates_up(rt: HostRuntime) -> Result<(), Fail> {
-    let text = TONE.replacen(rt.alloc(), "octets = 160", "octets = 1", 1)?;
+    let text = EXAMPLE.replacen(rt.alloc(), "octets = 160", "octets = 1", 1)?;
     let text = text
         .as_str()
         .replacen(rt.alloc(), "unit_ms = 20", "unit_ms = 3", 1)?;

@@ -12,6 +12,8 @@ mod command_lines;
 #[cfg(test)]
 mod configurations;
 #[cfg(test)]
+mod connections;
+#[cfg(test)]
 mod end_of_stream;
 #[cfg(test)]
 mod header_values;
@@ -24,11 +26,19 @@ mod messages;
 #[cfg(test)]
 mod normal_play_time;
 #[cfg(test)]
+mod packets;
+#[cfg(test)]
+mod pools;
+#[cfg(test)]
 mod records;
 #[cfg(test)]
 mod responses;
 #[cfg(test)]
+mod servers;
+#[cfg(test)]
 mod state_table;
+#[cfg(test)]
+mod sweeps;
 #[cfg(test)]
 mod texts;
 #[cfg(test)]

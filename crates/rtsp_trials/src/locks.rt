@@ -2,22 +2,15 @@ ghost use Rattle.std.specs.Prelude.{◌≡◌};
 ghost use Rattle.rtsp_book.specs.Replies.{IsAskable};
 ghost use Rattle.rtsp_lock.specs.Calls.{IsSeatOf, SameSeat};
 
+use crate::world::SMALL;
 use rtsp_book::{BookRep, Life, NumbersSpent, PlainBook, Receipt, Step};
 use rtsp_lock::*;
-use rtsp_record::{Entry, Id, Record, Whole};
+use rtsp_record::{Entry, Id, Record};
 use std::alloc::AllocError;
 use std::sync::Wait;
 use std::test::Fail;
 use std::thread;
 use std::thread::Threads;
-
-const SMALL: Whole = Whole {
-    first_port: 5000,
-    pairs: 2,
-    uplink: 160_000,
-    sessions: 4,
-    journal: 1_000,
-};
 
 #[test]
 fn a_seat_acts_and_another_sees(rt: HostRuntime) -> Result<(), Fail> {

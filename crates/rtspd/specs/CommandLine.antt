@@ -10,7 +10,7 @@ use Rattle.clap.specs.declared.builder.value_parser.ValueParser.{ValueParser}
 use Rattle.clap.specs.declared.builder.value_parser.ValueParser.TheVariants.{Unsigned}
 use Rattle.clap.specs.declared.parser.matches.ArgMatches.{ArgMatches}
 use Rattle.rtspd.specs.declared.command_line.CommandLine.{CommandLine}
-use Rattle.rtspd.specs.declared.command_line.CommandLine.TheVariants.{Stdio, Audit}
+use Rattle.rtspd.specs.declared.command_line.CommandLine.TheVariants.{Stdio, Audit, Serve}
 
 -- ---- the command
 
@@ -47,6 +47,20 @@ with_numbers app = with_rule (with_rule (with_rule app
 abbrev pub audit : App
 audit = with_numbers audit_files
 
+-- the options of `serve` that are texts
+abbrev pub serve_texts : App
+serve_texts = with_rule (with_rule (new_app (codes "serve"))
+    (record (option_rule (codes "config")) { required = true }))
+    (option_rule (codes "listen"))
+
+-- and its number
+abbrev pub with_connections : App → App
+with_connections app = with_rule app (number_rule (codes "connections"))
+
+-- `serve --config FILE [--listen ADDR] [--connections N]`
+abbrev pub serve : App
+serve = with_connections serve_texts
+
 -- the program, without its subcommands: a call for help is an unknown word, and a subcommand has to follow
 abbrev pub alone : App
 alone = on_top (λ s. record s {
@@ -56,9 +70,17 @@ alone = on_top (λ s. record s {
   subcommand_required = true;
 }) (new_app (codes "rtspd"))
 
+-- the program with the subcommands that need no socket
+abbrev pub without_serve : App
+without_serve = with_subcommand (with_subcommand alone stdio.top) audit.top
+
+-- and with the one that does
+abbrev pub with_serve : App → App
+with_serve app = with_subcommand app serve.top
+
 -- the program
 abbrev pub rtspd : App
-rtspd = with_subcommand (with_subcommand alone stdio.top) audit.top
+rtspd = with_serve without_serve
 
 -- m is what `clap` makes of the words, and without it they are refused
 abbrev pub Says : List Text → Option ArgMatches → Type 0
@@ -75,17 +97,20 @@ number_of text = if accepts false any_number text then Some (digits_value 10 (wi
 abbrev pub number_in : Text → List Row → Option ℕ
 number_in name rows = option_and_then number_of (one_of name rows)
 
--- a command line, in texts and numbers: the configuration and the journal of each, and of an audit how many
--- entries it undoes, and the session and the admission that it leaves out
+-- a command line, in texts and numbers: the configuration and the journal of a conversation and of an audit, and of an
+-- audit how many entries it undoes, and the session and the admission that it leaves out; and the configuration of a
+-- server, where it listens, and how many connections it serves
 pub data Line : Type 0 where
   stdio_line : Option Text → Option Text → Line
   audit_line : Option Text → Text → ℕ → Option ℕ → Option ℕ → Line
+  serve_line : Text → Option Text → Option ℕ → Line
 
 -- what a contract sees of a `CommandLine`
 abbrev pub line_view : CommandLine → Line
 line_view (Stdio config journal) = stdio_line (option_map (λ s. s.now) config) (option_map (λ s. s.now) journal)
 line_view (Audit config journal back without_session without_admission) =
     audit_line (option_map (λ s. s.now) config) journal.now back without_session without_admission
+line_view (Serve config listen connections) = serve_line config.now (option_map (λ s. s.now) listen) connections
 
 -- what the values of the options of `stdio` ask for
 abbrev pub stdio_in : List Row → Line
@@ -102,11 +127,20 @@ audit_of rows journal = audit_line (first_of (codes "config") rows) journal
 abbrev pub audit_in : List Row → Option Line
 audit_in rows = option_map (audit_of rows) (first_of (codes "journal") rows)
 
+-- what the values of the options of `serve` ask for, with this configuration
+abbrev pub serve_of : List Row → Text → Line
+serve_of rows config = serve_line config (first_of (codes "listen") rows) (number_in (codes "connections") rows)
+
+-- the same, with the configuration that the options name
+abbrev pub serve_in : List Row → Option Line
+serve_in rows = option_map (serve_of rows) (first_of (codes "config") rows)
+
 -- the line of a subcommand, by the values of its options
 abbrev pub line_in : Text → List Row → Option Line
 line_in name rows =
     if bytes_eq name (codes "stdio") then Some (stdio_in rows)
     else if bytes_eq name (codes "audit") then audit_in rows
+    else if bytes_eq name (codes "serve") then serve_in rows
     else None
 
 -- one of the words is `--`

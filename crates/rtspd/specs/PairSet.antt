@@ -1,5 +1,5 @@
 -- Which pairs of ports are bound, each by its admission.
-use Rattle.std.specs.Prelude.{◌≡◌, ◌≢◌, ◌==◌, ◌&&◌, ℕ, ◌-◌, ◌/◌, slice_get, option_map, if◌then◌else◌, Bool, false, Option, Some, None}
+use Rattle.std.specs.Prelude.{◌≡◌, ◌≢◌, ◌==◌, ◌&&◌, ℕ, ◌-◌, ◌/◌, slice_get, option_map, replicate, if◌then◌else◌, Bool, false, Option, Some, None}
 use Rattle.rtsp_admit.specs.Binder.{Calls, raised}
 use Rattle.rtspd.specs.declared.pair_set.PairSet.{PairSet}
 
@@ -10,6 +10,12 @@ place_of first pair = (pair - first) / 2
 -- what is at a place: none outside the range, else perhaps the admission that has the pair
 abbrev pub slot : PairSet → ℕ → Option (Option ℕ)
 slot b place = slice_get b.admissions.items place
+
+-- so many pairs from this port on, of which none is bound, and no call has failed
+pub record NoneBound (first pairs : ℕ) (b : PairSet) : Type 0 where
+  pub start : b.first_port ≡ first
+  pub places : b.admissions.items ≡ replicate pairs None
+  pub count : b.failed ≡ 0
 
 -- a pair that was free is this admission's
 pub record Binds (b : PairSet) (a p : ℕ) (c : PairSet) : Type 0 where

@@ -3,7 +3,7 @@ ghost use Rattle.std.specs.Prelude.{◌≡◌, IfOk, false, map, option_map, opt
 ghost use Rattle.clap.specs.Words.{app_of, rule_of, subcommand_rows_of, rows_of, found_of};
 ghost use Rattle.clap.specs.declared.builder.command.Command.TheViews.{out-Command as fields_of};
 ghost use Rattle.rtspd.specs.CommandLine as spec;
-ghost use Rattle.rtspd.specs.CommandLine.{option_rule, number_rule, number_in, stdio, audit, rtspd, Says, line_view};
+ghost use Rattle.rtspd.specs.CommandLine.{option_rule, number_rule, number_in, stdio, audit, serve, rtspd, Says, line_view};
 
 use clap::builder::ValueParser;
 use clap::error::ErrorKind;
@@ -26,6 +26,14 @@ pub enum CommandLine<'a> {
         back: u64,
         without_session: Option<u64>,
         without_admission: Option<u64>,
+    },
+    /// Serve the connections of a socket.
+    Serve {
+        config: &'a str,
+        /// The address to listen on, as it was written.
+        listen: Option<&'a str>,
+        /// After how many connections the server ends.
+        connections: Option<u64>,
     },
 }
 
@@ -81,8 +89,36 @@ fn audit_command<'a>(alloc: Global) -> Result<Command<'a>, AllocError>
     Ok(command)
 }
 
-fn command<'a>(alloc: Global) -> Result<Command<'a>, AllocError>
-    ensures { IfOk result (λ c. app_of c ≡ rtspd) }
+fn serve_texts<'a>(alloc: Global) -> Result<Command<'a>, AllocError>
+    ensures app { IfOk result (λ c. app_of c ≡ spec.serve_texts) }
+    ensures local { IfOk result (λ c. (fields_of c).has_globals ≡ false) }
+{
+    let config = option_named(alloc, "config").required(true);
+    let command = Command::new(alloc, "serve").arg(config)?;
+    let command = command.arg(option_named(alloc, "listen"))?;
+    Ok(command)
+}
+
+fn with_connections<'a>(alloc: Global, command: Command<'a>) -> Result<Command<'a>, AllocError>
+    requires { (fields_of command).has_globals ≡ false }
+    ensures app { IfOk result (λ c. app_of c ≡ spec.with_connections (app_of command.entry)) }
+    ensures local { IfOk result (λ c. (fields_of c).has_globals ≡ false) }
+{
+    let command = command.arg(number_named(alloc, "connections"))?;
+    Ok(command)
+}
+
+fn serve_command<'a>(alloc: Global) -> Result<Command<'a>, AllocError>
+    ensures app { IfOk result (λ c. app_of c ≡ serve) }
+    ensures local { IfOk result (λ c. (fields_of c).has_globals ≡ false) }
+{
+    let texts = serve_texts(alloc)?;
+    let command = with_connections(alloc, texts)?;
+    Ok(command)
+}
+
+fn without_serve<'a>(alloc: Global) -> Result<Command<'a>, AllocError>
+    ensures { IfOk result (λ c. app_of c ≡ spec.without_serve) }
 {
     let stdio = stdio_command(alloc)?;
     let audit = audit_command(alloc)?;
@@ -93,6 +129,22 @@ fn command<'a>(alloc: Global) -> Result<Command<'a>, AllocError>
         .subcommand_required(true);
     let command = command.subcommand(stdio)?;
     let command = command.subcommand(audit)?;
+    Ok(command)
+}
+
+fn with_serve<'a>(alloc: Global, command: Command<'a>) -> Result<Command<'a>, AllocError>
+    ensures { IfOk result (λ c. app_of c ≡ spec.with_serve (app_of command.entry)) }
+{
+    let serve = serve_command(alloc)?;
+    let command = command.subcommand(serve)?;
+    Ok(command)
+}
+
+fn command<'a>(alloc: Global) -> Result<Command<'a>, AllocError>
+    ensures { IfOk result (λ c. app_of c ≡ rtspd) }
+{
+    let command = without_serve(alloc)?;
+    let command = with_serve(alloc, command)?;
     Ok(command)
 }
 
@@ -146,12 +198,30 @@ fn audit_in<'a>(matches: &ArgMatches<'a>) -> Option<CommandLine<'a>>
     Some(audit_of(matches, journal))
 }
 
+fn serve_of<'a>(matches: &ArgMatches<'a>, config: &'a str) -> CommandLine<'a>
+    ensures { line_view result ≡ spec.serve_of (rows_of (found_of matches.now)) config.entry.now }
+{
+    CommandLine::Serve {
+        config,
+        listen: matches.get_str("listen"),
+        connections: number_at(matches, "connections"),
+    }
+}
+
+fn serve_in<'a>(matches: &ArgMatches<'a>) -> Option<CommandLine<'a>>
+    ensures { option_map line_view result ≡ spec.serve_in (rows_of (found_of matches.now)) }
+{
+    let config = matches.get_str("config")?;
+    Some(serve_of(matches, config))
+}
+
 fn line_in<'a>(name: &str, matches: &ArgMatches<'a>) -> Option<CommandLine<'a>>
     ensures { option_map line_view result ≡ spec.line_in name.now (rows_of (found_of matches.now)) }
 {
     match name {
         "stdio" => Some(stdio_in(matches)),
         "audit" => audit_in(matches),
+        "serve" => serve_in(matches),
         _ => None,
     }
 }

@@ -1,7 +1,10 @@
-//! The server's programs: a conversation over a reader and a writer, and the audit of a journal.
+//! The server's programs: a conversation over a reader and a writer, the audit of a journal, and
+//! the server of a socket.
 //!
-//! `running` runs a command line; `one_connection` is the server behind standard input and output, over the devices that
-//! it has in place of a clock, random words and sockets.
+//! `running` runs a command line; `one_connection` is the server behind standard input and output,
+//! over the devices that it has in place of a clock, random words and sockets; `serving` is that of
+//! a socket.
+
 #![tactic(auto)]
 
 mod command_line;
@@ -12,6 +15,7 @@ mod exit;
 mod one_connection;
 mod pair_set;
 mod running;
+mod serving;
 
 pub use command_line::{CommandLine, read_words};
 pub use counted_words::CountedWords;
@@ -19,7 +23,7 @@ pub use devices::{NoPlays, StandingClock};
 pub use example::EXAMPLE;
 pub use exit::Exit;
 pub use pair_set::PairSet;
-pub use running::run_words;
+pub use running::{run_program, run_words};
 
 #[cfg(test)]
 mod tests;

@@ -1,7 +1,6 @@
 //! A server of one connection.
 
 ghost use Rattle.rtsp_lock.specs.Calls.{IsSeatOf};
-ghost use Rattle.rtsp_record.specs.Choices.{HasPorts};
 
 use crate::counted_words::CountedWords;
 use crate::devices::{NoPlays, StandingClock};
@@ -11,26 +10,12 @@ use rtsp_book::Kept;
 use rtsp_content::Table;
 use rtsp_engine::{Asker, ByteIn, ByteOut, Desk, ServeEnd};
 use rtsp_lock::{BookLock, BookSeat, LockBook, open};
-use rtsp_record::Whole;
+use rtsp_server::whole_of;
 use std::alloc::Global;
 use std::sync::Wait;
 
 /// The address of the player at standard input: 127.0.0.1.
 const PEER: u32 = 0x7f00_0001;
-
-/// What there is to hold by a configuration.
-pub(crate) fn whole_of(table: &Table) -> Whole
-    ensures { HasPorts result }
-{
-    let server = table.server();
-    Whole {
-        first_port: server.first_port,
-        pairs: server.pairs,
-        uplink: server.uplink,
-        sessions: server.sessions,
-        journal: server.journal,
-    }
-}
 
 /// A server of one connection: its book has one seat, and no time passes.
 #[derive(Drop)]

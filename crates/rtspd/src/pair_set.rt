@@ -1,7 +1,7 @@
 //! A binder that opens no socket.
 
-ghost use Rattle.std.specs.Prelude.{◌≡◌};
-ghost use Rattle.rtspd.specs.PairSet.{calls, place_of};
+ghost use Rattle.std.specs.Prelude.{◌≡◌, IfOk};
+ghost use Rattle.rtspd.specs.PairSet.{calls, place_of, NoneBound};
 
 use rtsp_engine::{BindFault, Binder};
 use std::alloc::{AllocError, Global};
@@ -25,9 +25,10 @@ fn place_of(first: u16, pair: u16) -> usize
 impl PairSet {
     /// A set of so many pairs from this port on, of which none is bound. All its memory is taken
     /// here.
-    pub fn open(alloc: Global, first_port: u16, pairs: u16) -> Result<PairSet, AllocError> {
-        let mut admissions = Vec::new(alloc);
-        admissions.resize(pairs as usize, None)?;
+    pub fn open(alloc: Global, first_port: u16, pairs: u16) -> Result<PairSet, AllocError>
+        ensures { IfOk result (NoneBound first_port pairs) }
+    {
+        let admissions = Vec::from_elem(alloc, None, pairs as usize)?;
         Ok(PairSet {
             first_port,
             admissions,

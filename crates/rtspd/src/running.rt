@@ -1,22 +1,29 @@
-//! The programs that need no socket: a conversation over standard input and output, and the audit of a journal.
+//! The programs, by their command lines: a conversation over standard input and output, the audit
+//! of a journal, and the server.
 use crate::command_line::{CommandLine, read_words};
 use crate::example::EXAMPLE;
 use crate::exit::Exit;
-use crate::one_connection::{OneConnection, whole_of};
+use crate::one_connection::OneConnection;
+use crate::serving::run_serve;
 use rtsp_book::PlainBook;
 use rtsp_content::{Table, TableFault};
 use rtsp_engine::{ByteOut, CountedReader, CountedWriter, ServeEnd, StreamFault, TURNS};
 use rtsp_grammar::MessageFault;
 use rtsp_record::{Entry, JournalFault, read_journal, write_journal};
+use rtsp_server::whole_of;
 use rtsp_undo::{AuditFault, book_text, replay, rewind, without_admission, without_session};
 use std::alloc::Global;
-use std::fs;
+use std::fs::File;
 use std::io::{self, ErrorKind, Read, Write};
+use std::net::{Net, TcpListener, TcpStream};
 use std::rt::Files;
 use std::sync::Wait;
+use std::thread::Threads;
+use std::{fs, rt};
 
-/// Runs a command line, and returns how that ended. First the words are read, then the configuration, then the
-/// journal or the conversation; the first fault met is returned.
+/// Runs a command line that needs no socket, and returns how that ended. First the words are read,
+/// then the configuration, then the journal or the conversation; the first fault met is returned.
+/// `serve` needs sockets, and is a bad command line here.
 pub fn run_words<R: Files + AllocGlobal + Wait, I: Read + Drop, O: Write + Drop>(
     rt: &R,
     words: &[&str],
@@ -24,32 +31,75 @@ pub fn run_words<R: Files + AllocGlobal + Wait, I: Read + Drop, O: Write + Drop>
     writer: O,
 ) -> Exit {
     let ended = match read_words(rt.alloc(), words) {
-        Ok(Some(CommandLine::Stdio { config, journal })) => {
-            run_stdio(rt, config, journal, reader, writer)
-        }
+        Ok(Some(line)) => run_line(rt, line, reader, writer),
+        Ok(None) => Err(Exit::BadCommandLine),
+        Err(_) => Err(Exit::OutOfMemory),
+    };
+    exit_of(ended)
+}
+
+/// Runs any command line: `serve` by sockets and threads, and others as `run_words` does.
+pub fn run_program<
+    R: Files<File = File>
+        + AllocGlobal
+        + Threads
+        + Wait
+        + Net<Listener = TcpListener, Stream = TcpStream>
+        + rt::Clock
+        + Sync,
+    I: Read + Drop,
+    O: Write + Drop,
+>(rt: &R, words: &[&str], reader: I, writer: O) -> Exit
+where
+    R: Net<Listener = TcpListener, Stream = TcpStream>,
+{
+    let ended = match read_words(rt.alloc(), words) {
         Ok(
             Some(
-                CommandLine::Audit {
+                CommandLine::Serve {
                     config,
-                    journal,
-                    back,
-                    without_session,
-                    without_admission,
+                    listen,
+                    connections,
                 },
             ),
-        ) => {
+        ) => run_serve(rt, config, listen, connections, writer),
+        Ok(Some(line)) => run_line(rt, line, reader, writer),
+        Ok(None) => Err(Exit::BadCommandLine),
+        Err(_) => Err(Exit::OutOfMemory),
+    };
+    exit_of(ended)
+}
+
+fn exit_of(ended: Result<(), Exit>) -> Exit {
+    match ended {
+        Ok(()) => Exit::Done,
+        Err(exit) => exit,
+    }
+}
+
+// Runs a command line that needs no socket.
+fn run_line<R: Files + AllocGlobal + Wait, I: Read + Drop, O: Write + Drop>(
+    rt: &R,
+    line: CommandLine<'_>,
+    reader: I,
+    writer: O,
+) -> Result<(), Exit> {
+    match line {
+        CommandLine::Stdio { config, journal } => run_stdio(rt, config, journal, reader, writer),
+        CommandLine::Audit {
+            config,
+            journal,
+            back,
+            without_session,
+            without_admission,
+        } => {
             let omitted = Omitted {
                 session: without_session,
                 admission: without_admission,
             };
             run_audit(rt, config, journal, back, omitted, writer)
         }
-        Ok(None) => Err(Exit::BadCommandLine),
-        Err(_) => Err(Exit::OutOfMemory),
-    };
-    match ended {
-        Ok(()) => Exit::Done,
-        Err(exit) => exit,
+        CommandLine::Serve { .. } => Err(Exit::BadCommandLine),
     }
 }
 

@@ -1,11 +1,14 @@
 //! The program `rtspd`: its work is done by the library of that name.
 #![tactic(auto)]
 
-use rtspd::{Exit, run_words};
+use rtspd::{Exit, run_program};
+use std::fs::File;
 use std::io::{ErrorKind, Read, Write};
+use std::net::{Net, TcpListener, TcpStream};
 use std::process::ExitCode;
-use std::rt::{Env, Files};
+use std::rt::{Clock, Env, Files};
 use std::sync::Wait;
+use std::thread::Threads;
 use std::{env, io};
 
 // The words after the program's name.
@@ -25,17 +28,20 @@ fn words_fault(error: &io::Error) -> Exit {
     }
 }
 
-fn run<R: Env + Files + AllocGlobal + Wait, I: Read + Drop, O: Write + Drop>(
-    rt: &R,
-    reader: I,
-    writer: O,
-) -> io::Result<Exit> {
+fn run<
+    R: Env + Files<File = File> + AllocGlobal + Threads + Wait + Clock + Sync,
+    I: Read + Drop,
+    O: Write + Drop,
+>(rt: &R, reader: I, writer: O) -> io::Result<Exit>
+where
+    R: Net<Listener = TcpListener, Stream = TcpStream>,
+{
     let words = words(rt)?;
     let mut texts = Vec::new(rt.alloc());
     for word in &words {
         texts.push(word.as_str())?;
     }
-    Ok(run_words(rt, &texts, reader, writer))
+    Ok(run_program(rt, &texts, reader, writer))
 }
 
 fn main(rt: HostRuntime) -> ExitCode {

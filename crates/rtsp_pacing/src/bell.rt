@@ -1,0 +1,105 @@
+//! What wakes a pacer: plays that were begun, and the end.
+
+ghost use Rattle.std.specs.Prelude.{◌<◌};
+
+use crate::noted::NewPlay;
+use std::alloc::{AllocError, Global};
+use std::mem;
+use std::rt::Clock;
+use std::sync::{Condvar, Mutex, Wait};
+use std::time::Duration;
+
+// What a pacer has to hear.
+#[derive(Drop)]
+struct Inbox {
+    plays: Vec<NewPlay>,
+    is_stopped: bool,
+}
+
+/// What wakes a pacer.
+#[derive(Drop)]
+pub struct Bell {
+    inbox: Mutex<Inbox>,
+    rung: Condvar,
+}
+
+impl Bell {
+    // A bell that takes so many plays at once without more memory.
+    fn new(alloc: Global, room: usize) -> Result<Bell, AllocError> {
+        Ok(Bell {
+            inbox: Mutex::new(Inbox {
+                plays: Vec::with_capacity(alloc, room)?,
+                is_stopped: false,
+            }),
+            rung: Condvar::new(),
+        })
+    }
+
+    // Hands a play over. Whether there was room for it.
+    pub(crate) fn ring<R: Wait>(&self, rt: &R, play: NewPlay) -> bool {
+        let is_kept = self.inbox.lock(rt).plays.push(play).is_ok();
+        self.rung.notify_one();
+        is_kept
+    }
+
+    // Waits for so long, or until there is something to hear. The plays are put into an empty
+    // list. Whether the pacer goes on.
+    pub(crate) fn hear<R: Wait + Clock>(
+        &self,
+        rt: &R,
+        wait: Duration,
+        plays: &mut Vec<NewPlay>,
+    ) -> bool {
+        let mut inbox = self.inbox.lock(rt);
+        if !wait.is_zero() {
+            let (heard, _) = self.rung.wait_timeout_while(rt, inbox, wait, |inbox| {
+                inbox.plays.is_empty() && !inbox.is_stopped
+            });
+            inbox = heard;
+        }
+        mem::swap(&mut inbox.plays, plays);
+        !inbox.is_stopped
+    }
+
+    /// Ends the pacer.
+    pub fn stop<R: Wait>(&self, rt: &R) {
+        self.inbox.lock(rt).is_stopped = true;
+        self.rung.notify_all();
+    }
+}
+
+/// The bells of all pacers. A session's plays are all sent by one of them.
+#[derive(Drop)]
+pub struct Bells {
+    bells: Vec<Bell>,
+}
+
+impl Bells {
+    /// The bells of so many pacers, for so many sessions. All memory for handing plays over is
+    /// taken here, as long as no session begins more plays than the pacer can hear.
+    pub fn new(alloc: Global, pacers: usize, sessions: u16) -> Result<Bells, AllocError> {
+        let mut bells = Vec::new(alloc);
+        for _ in 0..pacers {
+            bells.push(Bell::new(alloc, usize::from(sessions))?)?;
+        }
+        Ok(Bells { bells })
+    }
+
+    /// All of them, each for one pacer.
+    pub fn as_slice(&self) -> &[Bell] {
+        self.bells.as_slice()
+    }
+
+    /// The bell of the pacer that has a session. `None` where there is no pacer.
+    pub fn of(&self, session: u64) -> Option<&Bell> {
+        let place = session.checked_rem(self.bells.len() as u64)?;
+        self.bells.get(usize::try_from(place).ok()?)
+    }
+
+    /// Ends all pacers.
+    pub fn stop<R: Wait>(&self, rt: &R) {
+        for bell in &self.bells {
+            bell.stop(rt);
+        }
+    }
+}

@@ -1,0 +1,120 @@
+//! What a pacer works with.
+
+ghost use Rattle.rtsp_lock.specs.Calls.{IsSeatOf};
+ghost use Rattle.std.specs.Prelude.{◌≡◌};
+
+use crate::bell::Bell;
+use rtsp_book::{Refusal, SessionView, Step};
+use rtsp_content::Table;
+use rtsp_lock::{BookLock, BookSeat, Name};
+use rtsp_npt::UnitLength;
+use rtsp_sockets::{Media, Outlets, PairTable, RunningClock};
+use std::rt::Clock;
+use std::sync::Wait;
+use std::time::Instant;
+
+/// The parts of a server that are lent to a pacer.
+#[derive(Drop)]
+pub struct PacerParts<'a> {
+    pub lock: &'a BookLock,
+    pub table: &'a Table,
+    pub pairs: &'a PairTable,
+    pub outlets: &'a Outlets,
+    pub media: &'a Media,
+    pub bell: &'a Bell,
+    /// When the server began. Its moments count from there.
+    pub begun: Instant,
+}
+
+/// What a pacer did.
+#[derive(Clone, Copy, Debug, PartialEq, Eq)]
+pub struct Paced {
+    /// Plays that it took over.
+    pub plays: u64,
+    /// Packets that were sent, or wait in an outlet.
+    pub packets: u64,
+    /// Packets that could not be sent: they are lost, as the network loses them.
+    pub lost: u64,
+    /// Turns of a play that were broken off, since its media could not be read.
+    pub failures: u64,
+    /// Plays that came to their end and were reported.
+    pub reported: u64,
+}
+
+// The parts, with the pacer's own seat and clock, and what it has done.
+#[derive(Drop)]
+pub(crate) struct PacerDesk<'a, R> {
+    pub(crate) rt: &'a R,
+    pub(crate) parts: PacerParts<'a>,
+    pub(crate) clock: RunningClock<'a, R>,
+    pub(crate) paced: Paced,
+    seat: BookSeat,
+    ghost ours: { IsSeatOf seat parts.lock.now },
+}
+
+impl<'a, R> PacerDesk<'a, R> {
+    pub(crate) fn new(
+        rt: &'a R,
+        parts: PacerParts<'a>,
+        clock: RunningClock<'a, R>,
+        seat: BookSeat,
+    ) -> PacerDesk<'a, R>
+        requires { IsSeatOf seat parts.lock.now }
+    {
+        PacerDesk {
+            rt,
+            parts,
+            clock,
+            paced: Paced {
+                plays: 0,
+                packets: 0,
+                lost: 0,
+                failures: 0,
+                reported: 0,
+            },
+            seat,
+        }
+    }
+}
+
+impl Paced {
+    // Counts what came of a turn.
+    pub(crate) fn count(&mut self, packets: u64, lost: u64, failures: u64) {
+        self.packets = self.packets.saturating_add(packets);
+        self.lost = self.lost.saturating_add(lost);
+        self.failures = self.failures.saturating_add(failures);
+    }
+}
+
+impl<R: Clock> PacerDesk<'_, R> {
+    // The present moment.
+    pub(crate) fn now(&mut self) -> u64 {
+        rtsp_engine::Clock::now(&mut self.clock)
+    }
+}
+
+impl<R: Wait> PacerDesk<'_, R> {
+    // The session of this number as it is now.
+    pub(crate) fn look(&mut self, session: u64) -> Option<SessionView> {
+        self.seat
+            .look(self.rt, self.parts.lock, Name::Number(session))
+    }
+
+    // Ends a play whose last unit is due.
+    pub(crate) fn finish(
+        &mut self,
+        session: u64,
+        unit_ms: UnitLength,
+        now: u64,
+    ) -> Result<(), Refusal> {
+        let step = Step::Finish {
+            session,
+            unit_ms: unit_ms.ms(),
+            now,
+        };
+        match self.seat.act(self.rt, self.parts.lock, &step) {
+            Ok(_) => Ok(()),
+            Err(refusal) => Err(refusal),
+        }
+    }
+}

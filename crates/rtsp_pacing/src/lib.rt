@@ -1,0 +1,25 @@
+//! What sends the packets of the plays when they are due.
+//!
+//! A lane notes each play that is begun, in `noted`, and hands it over to the pacer that has the
+//! session, by its `bell`. A pacer is a thread that runs `pace`: it sleeps until the next moment of
+//! its `wheel` at which a play has something due, and takes the turn of each play there (`play`).
+//! The packets go the `ways` of their streams.
+
+#![tactic(auto)]
+
+mod bell;
+mod desk;
+mod noted;
+mod noting;
+mod pacing;
+mod play;
+mod sink;
+mod ways;
+mod wheel;
+mod when;
+
+pub use bell::{Bell, Bells};
+pub use desk::{Paced, PacerParts};
+pub use noted::NotedPlays;
+pub use pacing::{SLOTS_AT_ONCE, pace};
+pub use wheel::SLOTS;

@@ -1,0 +1,69 @@
+//! The plays of a connection that are to be handed over to the pacers.
+
+ghost use Rattle.std.specs.Prelude.{◌≡◌, ◌<◌, ◌↔◌, [], None, IsSome, IsTrue, vec_len, vec_capacity};
+
+use crate::bell::Bells;
+use rtsp_sockets::Outlet;
+use rtsp_state::MediaUri;
+use std::alloc::Global;
+use std::sync::{Arc, Wait};
+
+// A play of a session, and the PLAY that asked for it.
+#[derive(Drop)]
+pub(crate) struct NotedPlay {
+    pub(crate) session: u64,
+    pub(crate) cseq: u32,
+    pub(crate) uri: MediaUri,
+}
+
+// A play that a pacer is to send, and the connection that asked for it.
+#[derive(Drop)]
+pub(crate) struct NewPlay {
+    pub(crate) noted: NotedPlay,
+    pub(crate) outlet: Arc<Outlet>,
+}
+
+/// The plays of a connection that were begun, and are not yet handed over to the pacers.
+#[derive(Drop)]
+pub struct NotedPlays {
+    // The one that is not yet settled. There is room for it among those that were begun.
+    pub(crate) noted: Option<NotedPlay>,
+    pub(crate) begun: Vec<NotedPlay>,
+    ghost room: { IsSome noted → vec_len begun < vec_capacity begun },
+}
+
+impl NotedPlays {
+    /// No play is noted. It takes no memory.
+    pub fn new(alloc: Global) -> NotedPlays
+        ensures noted { result.noted ≡ None }
+        ensures begun { result.begun.items ≡ [] }
+    {
+        NotedPlays {
+            noted: None,
+            begun: Vec::new(alloc),
+        }
+    }
+
+    /// Whether no play waits to be handed over.
+    pub fn is_empty(&self) -> bool
+        ensures { IsTrue result ↔ (self.now.begun.items ≡ []) }
+    {
+        self.begun.is_empty()
+    }
+
+    /// Hands the plays that were begun over to the pacers of their sessions, once the answers to
+    /// their PLAYs are put into the outlet of the connection. A play that finds no room with its
+    /// pacer is dropped: it is begun, and nothing of it is sent.
+    pub fn hand_over<R: Wait>(&mut self, rt: &R, bells: &Bells, outlet: &Arc<Outlet>) {
+        for _ in 0..self.begun.len() {
+            let Some(noted) = self.begun.pop() else {
+                return;
+            };
+            if let Some(bell) = bells.of(noted.session)
+                && let Ok(outlet) = Arc::try_clone(outlet)
+            {
+                bell.ring(rt, NewPlay { noted, outlet });
+            }
+        }
+    }
+}

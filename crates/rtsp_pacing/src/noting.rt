@@ -1,0 +1,35 @@
+//! Plays are noted, and then begun or refused.
+
+ghost use Rattle.rtsp_pacing.specs.Noted.{calls};
+
+use crate::noted::{NotedPlay, NotedPlays};
+use rtsp_engine::Plays;
+use rtsp_state::MediaUri;
+use std::alloc::{AllocError, Global};
+
+impl Plays for NotedPlays {
+    ghost calls = { calls };
+
+    fn note(
+        &mut self,
+        alloc: Global,
+        session: u64,
+        cseq: u32,
+        uri: &[u8],
+    ) -> Result<(), AllocError> {
+        let Some(uri) = MediaUri::read(alloc, uri)? else {
+            return Err(AllocError);
+        };
+        self.begun.reserve(1)?;
+        self.noted = Some(NotedPlay { session, cseq, uri });
+        Ok(())
+    }
+
+    fn settle(&mut self, accepted: bool) {
+        if let Some(noted) = self.noted.take()
+            && accepted
+        {
+            let _ = self.begun.push(noted);
+        }
+    }
+}

@@ -1,0 +1,164 @@
+//! The thread that sends packets.
+
+ghost use Rattle.rtsp_lock.specs.Calls.{IsSeatOf};
+
+use crate::desk::{Paced, PacerDesk, PacerParts};
+use crate::noted::NewPlay;
+use crate::play::{Next, PacedPlay};
+use crate::wheel::Wheel;
+use rtsp_lock::BookSeat;
+use rtsp_sockets::RunningClock;
+use slab::Slab;
+use std::alloc::Global;
+use std::collections::BTreeMap;
+use std::rt::Clock;
+use std::sync::Wait;
+use std::time::Duration;
+
+/// The most slots of the wheel that are done before a pacer looks for new plays and its end, also
+/// where it is late.
+pub const SLOTS_AT_ONCE: u32 = 8;
+
+// For how long a pacer without plays sleeps, in milliseconds.
+const IDLE: u64 = 1_000;
+
+// A play in the wheel, and the key of the play that was linked to its slot before it.
+#[derive(Drop)]
+struct Linked {
+    play: PacedPlay,
+    before: Option<usize>,
+}
+
+// The plays of a pacer.
+#[derive(Drop)]
+struct Pacing<'a, R> {
+    alloc: Global,
+    desk: PacerDesk<'a, R>,
+    wheel: Wheel,
+    plays: Slab<Linked>,
+    // The play of each session that was taken over last.
+    latest: BTreeMap<u64, usize>,
+}
+
+impl<R: Wait + Clock> Pacing<'_, R> {
+    // How long the pacer sleeps if it hears nothing.
+    fn sleep(&self) -> Duration {
+        match self.wheel.next_full() {
+            Some(moment) => self.desk.clock.until(moment),
+            None => Duration::from_millis(IDLE),
+        }
+    }
+
+    // Takes a play over. Where its session is in no play any more, or there is no memory, it is
+    // dropped.
+    fn take_over(&mut self, asked: NewPlay) {
+        let session = asked.noted.session;
+        let Some(view) = self.desk.look(session) else {
+            return;
+        };
+        if let Some(key) = self.latest.get(&session)
+            && let Some(linked) = self.plays.get_mut(*key)
+            && linked.play.is_of(&view)
+        {
+            linked.play.ask_again(asked);
+            return;
+        }
+        let Some((play, due)) = PacedPlay::begin(&mut self.desk, asked, &view) else {
+            return;
+        };
+        let Ok(key) = self.plays.insert(Linked { play, before: None }) else {
+            return;
+        };
+        if self.latest.insert(session, key).is_err() {
+            self.plays.try_remove(key);
+            return;
+        }
+        self.desk.paced.plays = self.desk.paced.plays.saturating_add(1);
+        self.link(key, due);
+    }
+
+    fn link(&mut self, key: usize, due: u64) {
+        if let Some(linked) = self.plays.get_mut(key) {
+            linked.before = self.wheel.link(key, due);
+        }
+    }
+
+    // Drops a play.
+    fn drop_play(&mut self, key: usize) {
+        if let Some(linked) = self.plays.try_remove(key) {
+            let session = linked.play.session();
+            if self.latest.get(&session) == Some(&key) {
+                self.latest.remove(&session);
+            }
+        }
+    }
+
+    // Takes the turns of the plays of one slot, from the one that was linked last.
+    fn turn_slot(&mut self, last: usize) {
+        let mut next = Some(last);
+        for _ in 0..u64::MAX {
+            let Some(key) = next else {
+                return;
+            };
+            let Some(linked) = self.plays.get_mut(key) else {
+                return;
+            };
+            next = linked.before;
+            match linked.play.turn(self.alloc, &mut self.desk) {
+                Next::At(due) => self.link(key, due),
+                Next::Never => self.drop_play(key),
+            }
+        }
+    }
+
+    // Takes the turns that are due, of some slots at most.
+    fn turn_due(&mut self) {
+        for _ in 0..SLOTS_AT_ONCE {
+            let now = self.desk.now();
+            let Some(last) = self.wheel.take(now) else {
+                return;
+            };
+            self.turn_slot(last);
+        }
+    }
+}
+
+/// Sends the packets of the plays that its bell hands over, until the bell ends it. Each unit is
+/// sent at the moment that counts from the beginning of its play, so that being late at one makes
+/// no other late, and only while the session is in that play. At the end of a play the session is
+/// told so, and then the connection that asked for it, by a PLAY_NOTIFY (RFC 7826 section 13.5.1).
+/// Memory for a play is taken when it comes: one for which there is none isn't sent.
+pub fn pace<'a, R: Wait + Clock>(
+    rt: &'a R,
+    alloc: Global,
+    parts: PacerParts<'a>,
+    seat: BookSeat,
+) -> Paced
+    requires { IsSeatOf seat parts.lock.now }
+{
+    let clock = RunningClock::new(rt, parts.begun);
+    let bell = parts.bell;
+    let mut desk = PacerDesk::new(rt, parts, clock, seat);
+    let wheel = Wheel::new(desk.now());
+    let mut pacing = Pacing {
+        alloc,
+        desk,
+        wheel,
+        plays: Slab::new(alloc),
+        latest: BTreeMap::new(alloc),
+    };
+    let mut heard = Vec::new(alloc);
+    for _ in rt.forever() {
+        let sleep = pacing.sleep();
+        if !bell.hear(rt, sleep, &mut heard) {
+            break;
+        }
+        for _ in 0..heard.len() {
+            if let Some(asked) = heard.pop() {
+                pacing.take_over(asked);
+            }
+        }
+        pacing.turn_due();
+    }
+    pacing.desk.paced
+}

@@ -1,0 +1,238 @@
+//! A play that a pacer sends.
+
+use crate::desk::PacerDesk;
+use crate::noted::NewPlay;
+use crate::sink::PacketSink;
+use crate::ways::Ways;
+use crate::when::next_unit;
+use rtsp_book::{Refusal, SessionView};
+use rtsp_content::Presentation;
+use rtsp_grammar::write_request;
+use rtsp_record::Phase;
+use rtsp_rtp::{Pacer, Turn};
+use rtsp_sockets::Message;
+use rtsp_state::notify;
+use std::alloc::{AllocError, Global};
+use std::rt::Clock;
+use std::sync::Wait;
+
+// After how many milliseconds the report of a play is tried again for which there was no memory.
+const REPORT_AGAIN: u64 = 1_000;
+
+// How far a play is.
+#[derive(Drop)]
+enum Stage {
+    Sending(Pacer),
+    // It is finished, and not yet reported.
+    Finished,
+}
+
+// A play that a pacer sends: who asked for it, where its packets go, and how far it is.
+#[derive(Drop)]
+pub(crate) struct PacedPlay {
+    asked: NewPlay,
+    // The place of its presentation.
+    presentation: u16,
+    ways: Ways,
+    stage: Stage,
+}
+
+// When a play has its next turn.
+#[derive(Clone, Copy)]
+pub(crate) enum Next {
+    At(u64),
+    Never,
+}
+
+impl Next {
+    fn of(moment: Option<u64>) -> Next {
+        match moment {
+            Some(moment) => Next::At(moment),
+            None => Next::Never,
+        }
+    }
+}
+
+// The place of the presentation of a session's streams.
+fn presentation_of(view: &SessionView) -> Option<u16> {
+    let admissions = view.admissions();
+    for place in 0..admissions.len() {
+        if let Some(stream) = admissions.at(place).1.stream {
+            return Some(stream.presentation);
+        }
+    }
+    None
+}
+
+// Whether the last unit of a play was due a unit ago.
+fn is_past(phase: Phase, unit_ms: u32, moment: u64) -> bool {
+    match phase {
+        Phase::Playing {
+            from,
+            stop,
+            since,
+            ..
+        } => {
+            let length = u64::from(stop.saturating_sub(from)) * u64::from(unit_ms);
+            moment.saturating_sub(since) >= length
+        }
+        Phase::Ready { .. } | Phase::Ended { .. } => false,
+    }
+}
+
+impl PacedPlay {
+    // The play that the session is in, and the moment of its first turn. `None` where it is in none.
+    pub(crate) fn begin<R: Wait>(
+        desk: &mut PacerDesk<'_, R>,
+        asked: NewPlay,
+        view: &SessionView,
+    ) -> Option<(PacedPlay, u64)> {
+        let presentation = presentation_of(view)?;
+        let pacer = Pacer::start(view, desk.parts.table.presentation(presentation)?)?;
+        let due = pacer.next_due()?;
+        let play = PacedPlay {
+            asked,
+            presentation,
+            ways: Ways::of(desk.rt, &desk.parts, view),
+            stage: Stage::Sending(pacer),
+        };
+        Some((play, due))
+    }
+
+    // The session's number.
+    pub(crate) fn session(&self) -> u64 {
+        self.asked.noted.session
+    }
+
+    // Whether it is the play that the view shows. Then another PLAY has asked for it too, and it is
+    // that one which is told of the end.
+    pub(crate) fn is_of(&self, view: &SessionView) -> bool {
+        match &self.stage {
+            Stage::Sending(pacer) => pacer.is_of(view),
+            Stage::Finished => false,
+        }
+    }
+
+    pub(crate) fn ask_again(&mut self, asked: NewPlay) {
+        self.asked = asked;
+    }
+
+    // Sends what is due, and ends the play behind its last packet.
+    pub(crate) fn turn<R: Wait + Clock>(
+        &mut self,
+        alloc: Global,
+        desk: &mut PacerDesk<'_, R>,
+    ) -> Next {
+        // The moment comes before the look: what is sent was due while the session was playing.
+        let moment = desk.now();
+        let Some(view) = desk.look(self.session()) else {
+            return Next::Never;
+        };
+        let table = desk.parts.table;
+        let Some(presentation) = table.presentation(self.presentation) else {
+            return Next::Never;
+        };
+        let unit_ms = presentation.unit_ms().ms();
+        match self.send(desk, &view, moment) {
+            Some((Turn::More, due)) => Next::of(due),
+            Some((Turn::SinkFailed, Some(due))) if !is_past(view.phase(), unit_ms, moment) => {
+                Next::At(next_unit(due, unit_ms, moment))
+            }
+            Some((Turn::AtEnd | Turn::SinkFailed, _)) => self.finish(
+                alloc,
+                desk,
+                presentation,
+                moment,
+            ),
+            Some((Turn::OtherPlay, _)) => Next::Never,
+            None => self.report(alloc, desk, presentation, moment),
+        }
+    }
+
+    // Sends what is due: what came of it, and when the next packet is due. `None` where the play is
+    // finished.
+    fn send<R: Wait>(
+        &mut self,
+        desk: &mut PacerDesk<'_, R>,
+        view: &SessionView,
+        moment: u64,
+    ) -> Option<(Turn, Option<u64>)> {
+        let Stage::Sending(pacer) = &mut self.stage else {
+            return None;
+        };
+        let mut sink = PacketSink {
+            rt: desk.rt,
+            media: desk.parts.media,
+            ways: &self.ways,
+            presentation: usize::from(self.presentation),
+            now: moment,
+            packets: 0,
+            lost: 0,
+            failed: 0,
+        };
+        let turn = pacer.turn(view, moment, &mut sink);
+        let (packets, lost, failed) = (sink.packets, sink.lost, sink.failed);
+        desk.paced.count(packets, lost, failed);
+        Some((turn, pacer.next_due()))
+    }
+
+    // Ends the play. Where that is refused, as for want of room in the journal, it is tried again
+    // a unit later.
+    fn finish<R: Wait>(
+        &mut self,
+        alloc: Global,
+        desk: &mut PacerDesk<'_, R>,
+        presentation: &Presentation,
+        moment: u64,
+    ) -> Next {
+        let unit_ms = presentation.unit_ms();
+        match desk.finish(self.session(), unit_ms, moment) {
+            Ok(()) => {
+                self.stage = Stage::Finished;
+                self.report(alloc, desk, presentation, moment)
+            }
+            Err(Refusal::NoSession | Refusal::WrongState) => Next::Never,
+            Err(_) => Next::At(moment.saturating_add(u64::from(unit_ms.ms()))),
+        }
+    }
+
+    // Tells the connection that asked for the play of its end, unless the session has gone on.
+    fn report<R: Wait>(
+        &mut self,
+        alloc: Global,
+        desk: &mut PacerDesk<'_, R>,
+        presentation: &Presentation,
+        moment: u64,
+    ) -> Next {
+        let Some(view) = desk.look(self.session()) else {
+            return Next::Never;
+        };
+        match self.put_report(alloc, desk.rt, &view, presentation, moment) {
+            Ok(()) => {
+                desk.paced.reported = desk.paced.reported.saturating_add(1);
+                Next::Never
+            }
+            Err(AllocError) => Next::At(moment.saturating_add(REPORT_AGAIN)),
+        }
+    }
+
+    fn put_report<R: Wait>(
+        &self,
+        alloc: Global,
+        rt: &R,
+        view: &SessionView,
+        presentation: &Presentation,
+        moment: u64,
+    ) -> Result<(), AllocError> {
+        let Phase::Ended { .. } = view.phase() else {
+            return Ok(());
+        };
+        let NewPlay { noted, outlet } = &self.asked;
+        let cseq = outlet.next_cseq(rt);
+        let request = notify(alloc, &noted.uri, view, presentation, cseq, noted.cseq)?;
+        let mut text = Vec::new(alloc);
+        write_request(&mut text, &request)?;
+        outlet.put(rt, moment, Message::Response, text.as_slice());
+        Ok(())
+    }
+}

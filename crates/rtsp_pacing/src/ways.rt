@@ -1,0 +1,117 @@
+//! Where the packets of the streams of a play go.
+
+use crate::desk::PacerParts;
+use rtsp_book::SessionView;
+use rtsp_record::{Admission, Stream, Thing};
+use rtsp_rtp::Packet;
+use rtsp_sockets::{Message, Outlet, PairSockets, Put};
+use std::net::{Ipv4Addr, SocketAddrV4};
+use std::sync::{Arc, Wait};
+
+// The most tracks of a presentation.
+const TRACKS: usize = 8;
+
+// Where the packets of a stream go.
+#[derive(Drop)]
+pub(crate) enum Way {
+    // They are lost: there is no stream, or its address is given up.
+    Nowhere,
+    // As datagrams from a socket that is connected to the player's.
+    Datagrams(Arc<PairSockets>),
+    // As frames of a channel of a connection.
+    Frames(Arc<Outlet>, u8),
+}
+
+// The ways of a play, by track.
+#[derive(Drop)]
+pub(crate) struct Ways {
+    ways: [Way; TRACKS],
+}
+
+// The way of a stream under an admission.
+fn way_of<R: Wait>(
+    rt: &R,
+    parts: &PacerParts<'_>,
+    number: u64,
+    admission: &Admission,
+    stream: &Stream,
+) -> Way {
+    match admission.address {
+        Some(Thing::Pair(pair)) => {
+            if let Some(sockets) = parts.pairs.sockets(rt, number, pair)
+                && connect(&sockets, stream)
+            {
+                return Way::Datagrams(sockets);
+            }
+            Way::Nowhere
+        }
+        Some(Thing::Chan(conn, channel)) => match parts.outlets.get(rt, conn) {
+            Some(outlet) => Way::Frames(outlet, channel),
+            None => Way::Nowhere,
+        },
+        Some(Thing::Rate(_)) | None => Way::Nowhere,
+    }
+}
+
+// Connects the socket of RTP to the player's.
+fn connect(sockets: &Arc<PairSockets>, stream: &Stream) -> bool {
+    let player = SocketAddrV4::new(Ipv4Addr::from_bits(stream.peer), stream.rtp_port);
+    sockets.rtp.connect(player).is_ok()
+}
+
+impl Way {
+    // Sends a packet. Whether it was sent, or waits. An error of a connected socket may be that of
+    // an earlier packet, and then this one wasn't sent yet.
+    fn send<R: Wait>(&self, rt: &R, now: u64, packet: &mut Packet) -> bool {
+        match self {
+            Way::Nowhere => false,
+            Way::Datagrams(sockets) => {
+                let datagram = packet.datagram();
+                sockets.rtp.send(datagram).is_ok() || sockets.rtp.send(datagram).is_ok()
+            }
+            Way::Frames(outlet, channel) => {
+                let frame = packet.frame(*channel);
+                matches!(
+                    outlet.put(rt, now, Message::Frame, frame),
+                    Put::Sent | Put::Kept
+                )
+            }
+        }
+    }
+}
+
+impl Ways {
+    // The ways of the streams that a session has.
+    pub(crate) fn of<R: Wait>(rt: &R, parts: &PacerParts<'_>, view: &SessionView) -> Ways {
+        let mut ways = Ways {
+            ways: [
+                Way::Nowhere,
+                Way::Nowhere,
+                Way::Nowhere,
+                Way::Nowhere,
+                Way::Nowhere,
+                Way::Nowhere,
+                Way::Nowhere,
+                Way::Nowhere,
+            ],
+        };
+        let admissions = view.admissions();
+        for place in 0..admissions.len() {
+            let (number, admission) = admissions.at(place);
+            if let Some(stream) = admission.stream
+                && let Some(way) = ways.ways.get_mut(usize::from(stream.track))
+            {
+                *way = way_of(rt, parts, number, &admission, &stream);
+            }
+        }
+        ways
+    }
+
+    // Sends a packet of a track. Whether it was sent, or waits.
+    pub(crate) fn send<R: Wait>(&self, rt: &R, now: u64, track: u16, packet: &mut Packet) -> bool {
+        match self.ways.get(usize::from(track)) {
+            Some(way) => way.send(rt, now, packet),
+            None => false,
+        }
+    }
+}

@@ -1,0 +1,11 @@
+//! Tests of the crates that send over real sockets of this host. The crate has nothing else.
+#![tactic(auto)]
+
+#[cfg(test)]
+mod outlets;
+#[cfg(test)]
+mod pairs_and_files;
+#[cfg(test)]
+mod plays;
+#[cfg(test)]
+mod sockets;

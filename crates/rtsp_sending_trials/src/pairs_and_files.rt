@@ -1,0 +1,112 @@
+//! Pairs of ports, words, moments and files of this host.
+
+ghost use Rattle.std.specs.Prelude.{◌<◌, IfOk};
+
+use rtsp_content::Table;
+use rtsp_engine::{Binder, Clock, Words};
+use rtsp_sockets::{Media, MediaFault, PairBinder, PairTable, RandomWords, RunningClock};
+use std::io::ErrorKind;
+use std::net::{Net, UdpSocket};
+use std::test::Fail;
+use std::time::{Duration, Instant};
+use std::{fs, io};
+
+/// An even port that is free now, as its neighbour is likely to be.
+pub fn free_port<R: Net>(rt: &R) -> io::Result<u16>
+    ensures { IfOk result (λ port. port < 65000) }
+{
+    for _ in 0..100 {
+        let port = UdpSocket::bind(rt, "0.0.0.0:0")?.local_addr()?.port();
+        if port % 2 == 0 && port < 65_000 {
+            return Ok(port);
+        }
+    }
+    Err(io::Error::from(ErrorKind::AddrInUse))
+}
+
+#[test]
+fn a_pair_is_bound_under_its_admission(rt: HostRuntime) -> Result<(), Fail> {
+    let first = free_port(&rt)?;
+    let table = PairTable::open(rt.alloc(), first, 1)?;
+    let mut binder = PairBinder::new(&rt, &table);
+    assert!(rt; binder.bind(7, first).is_ok() && binder.bind(8, first).is_err());
+    let Some(sockets) = table.sockets(&rt, 7, first) else {
+        panic!(rt; "it is bound")
+    };
+    assert!(rt; sockets.rtp.local_addr()?.port() == first);
+    assert!(rt; sockets.rtcp.local_addr()?.port() == first.saturating_add(1));
+    assert!(rt; table.sockets(&rt, 8, first).is_none());
+    drop(sockets);
+    binder.unbind(8, first);
+    assert!(rt; table.sockets(&rt, 7, first).is_some());
+    binder.unbind(7, first);
+    assert!(rt; table.sockets(&rt, 7, first).is_none() && binder.bind(8, first).is_ok());
+    assert!(rt; binder.bind(9, first.saturating_add(2)).is_err());
+    Ok(())
+}
+
+#[test]
+fn words_and_moments(rt: HostRuntime) -> Result<(), Fail> {
+    let mut words = RandomWords::open(&rt)?;
+    let (first, second) = (words.id(), words.id());
+    assert!(rt; first.is_ok() && second.is_ok() && first != second);
+    let (third, fourth) = (words.id(), words.id());
+    assert!(rt; third != fourth && third != first);
+    assert!(rt; words.ssrc().is_ok() && words.seq().is_ok() && words.rtptime().is_ok());
+    let mut clock = RunningClock::new(&rt, Instant::now(&rt)?);
+    let early = clock.now();
+    assert!(rt; clock.now() >= early && clock.until(early).is_zero());
+    assert!(rt; clock.until(60_000) > Duration::from_secs(50));
+    Ok(())
+}
+
+const TONE: &str = "\
+[server]
+first_port = 5000
+pairs = 2
+uplink = 160000
+sessions = 4
+[[presentation]]
+name = \"tone\"
+units = 3
+unit_ms = 20
+[[presentation.track]]
+name = \"a\"
+media = \"audio\"
+pt = 0
+encoding = \"PCMU\"
+clock = 8000
+octets = 2
+ticks = 160
+file = \"rtsp_sending_trials.raw\"
+[[presentation.track]]
+name = \"b\"
+media = \"audio\"
+pt = 8
+encoding = \"PCMA\"
+clock = 8000
+octets = 2
+ticks = 160
+file = \"rtsp_sending_trials.raw\"
+";
+
+#[test]
+fn media_of_files(rt: HostRuntime) -> Result<(), Fail> {
+    let table = Table::read(rt.alloc(), TONE.as_bytes())?;
+    let path = "rtsp_sending_trials.raw";
+    let _ = fs::remove_file(&rt, path);
+    assert!(rt; Media::open(&rt, rt.alloc(), &table).err() == Some(MediaFault::Unreadable));
+    fs::write(&rt, path, b"abcde")?;
+    assert!(rt; Media::open(&rt, rt.alloc(), &table).err() == Some(MediaFault::WrongLength));
+    fs::write(&rt, path, b"abcdef")?;
+    let media = Media::open(&rt, rt.alloc(), &table)?;
+    fs::remove_file(&rt, path)?;
+    let mut unit = [0; 2];
+    media.octets(0, 1, 2, &mut unit)?;
+    assert!(rt; unit == *b"ef");
+    media.octets(0, 0, 0, &mut unit)?;
+    assert!(rt; unit == *b"ab");
+    assert!(rt; media.octets(0, 0, 3, &mut unit) == Err(MediaFault::Unreadable));
+    assert!(rt; media.octets(0, 2, 0, &mut unit) == Err(MediaFault::Unreadable));
+    Ok(())
+}

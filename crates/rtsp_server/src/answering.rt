@@ -1,0 +1,82 @@
+//! Has a piece of a connection's input answered by the engine.
+
+ghost use Rattle.rtsp_lock.specs.Calls.{IsSeatOf, SameSeat};
+
+use crate::handle::BookHandle;
+use crate::service::Service;
+use rtsp_content::Table;
+use rtsp_engine::{Asker, Binder, Clock, Connection, Desk, Plays, Words};
+use rtsp_grammar::MessageFault;
+use rtsp_lock::{BookLock, BookSeat};
+use rtsp_sockets::{PairBinder, RunningClock};
+use rtsp_state::Room;
+use std::alloc::Global;
+use std::net::Net;
+use std::rt;
+use std::sync::Wait;
+
+// Lends all parts to a desk, and takes the piece.
+fn push_lent<'a, R: Wait, B: Binder, W: Words, C: Clock, P: Plays>(
+    rt: &'a R,
+    alloc: Global,
+    seat: &'a mut BookSeat,
+    lock: &'a BookLock,
+    binder: &'a mut B,
+    words: &'a mut W,
+    clock: &'a mut C,
+    plays: &'a mut P,
+    table: &'a Table,
+    asker: Asker,
+    input: &mut Connection,
+    piece: &[u8],
+    room: &mut Room,
+) -> Result<(), MessageFault>
+    requires { IsSeatOf seat.old lock.now }
+    ensures { SameSeat seat.old seat.new }
+{
+    let mut desk = Desk {
+        rt,
+        seat,
+        lock,
+        binder,
+        words,
+        clock,
+        plays,
+        table,
+        asker,
+    };
+    desk.push(alloc, input, piece, room)
+}
+
+impl BookHandle {
+    /// Takes a piece of a connection's input, as `Desk::push` does, over the server's sockets and
+    /// its clock.
+    pub(crate) fn push<R: Wait + Net + rt::Clock, W: Words, P: Plays>(
+        &mut self,
+        service: &Service<'_, R>,
+        asker: Asker,
+        words: &mut W,
+        plays: &mut P,
+        input: &mut Connection,
+        piece: &[u8],
+        room: &mut Room,
+    ) -> Result<(), MessageFault> {
+        let mut binder = PairBinder::new(service.rt, &service.shared.pairs);
+        let mut clock = RunningClock::new(service.rt, service.shared.begun);
+        push_lent(
+            service.rt,
+            service.alloc,
+            &mut self.seat,
+            &self.lock,
+            &mut binder,
+            words,
+            &mut clock,
+            plays,
+            service.table,
+            asker,
+            input,
+            piece,
+            room,
+        )
+    }
+}

@@ -1,0 +1,42 @@
+//! Ends sessions whose connection has ended, or whose time is over.
+
+use crate::handle::BookHandle;
+use crate::limits::SWEEP_SESSIONS;
+use crate::shared::Shared;
+use rtsp_engine::Binder;
+use rtsp_expiry::{hang_up, sweep};
+use rtsp_sockets::PairBinder;
+use std::net::Net;
+use std::sync::Wait;
+
+impl BookHandle {
+    // Takes leave of a connection, in a few steps. Whether there may be more.
+    fn hang_up_some<R: Wait, B: Binder>(&mut self, rt: &R, binder: &mut B, conn: u64) -> bool {
+        hang_up(rt, &mut self.seat, &self.lock, binder, conn, SWEEP_SESSIONS).more
+    }
+
+    // Ends sessions that have expired, a few of them. Whether there may be more.
+    fn sweep_some<R: Wait, B: Binder>(&mut self, rt: &R, binder: &mut B, now: u64) -> bool {
+        sweep(rt, &mut self.seat, &self.lock, binder, now, SWEEP_SESSIONS).more
+    }
+
+    /// Takes leave of a connection that has ended: the sessions that hold channels of it are ended.
+    pub(crate) fn hang_up<R: Wait + Net>(&mut self, rt: &R, shared: &Shared, conn: u64) {
+        let mut binder = PairBinder::new(rt, &shared.pairs);
+        for _ in rt.forever() {
+            if !self.hang_up_some(rt, &mut binder, conn) {
+                break;
+            }
+        }
+    }
+
+    /// Ends all sessions that have expired at this moment.
+    pub(crate) fn sweep<R: Wait + Net>(&mut self, rt: &R, shared: &Shared, now: u64) {
+        let mut binder = PairBinder::new(rt, &shared.pairs);
+        for _ in rt.forever() {
+            if !self.sweep_some(rt, &mut binder, now) {
+                break;
+            }
+        }
+    }
+}

@@ -1,0 +1,34 @@
+//! The limits of a server. Moments and times are in milliseconds.
+
+/// The most connections that are open at once. One more is accepted and closed at once.
+pub const CONNECTIONS: u64 = 16_384;
+
+/// The most connections that a lane accepts in one turn.
+pub const ACCEPTS: usize = 64;
+
+/// How long a lane waits before it accepts again where it had no descriptor, and no spare one.
+pub const ACCEPT_RETRY: u64 = 100;
+
+/// The bytes of a connection that are read at once.
+pub const PIECE: usize = 4_096;
+
+/// The most pieces of a connection that are read in one visit, before the next connection's turn.
+pub const PIECES: usize = 16;
+
+/// The answers of a visit are written when it ends, and whenever they have grown to so many bytes.
+pub const ANSWERS: usize = 32 * 1_024;
+
+/// A connection isn't read while more bytes than this wait to be written to it.
+pub const PAUSE: usize = 128 * 1_024;
+
+/// A connection without a session that has said nothing for so long is closed.
+pub const SILENCE_LIMIT: u64 = 60_000;
+
+/// A connection that has begun a message and not finished it for so long is closed.
+pub const MESSAGE_LIMIT: u64 = 30_000;
+
+/// The time between two sweeps.
+pub const SWEEP_EVERY: u64 = 1_000;
+
+/// The most sessions that a sweep ends before others get the lock.
+pub const SWEEP_SESSIONS: u32 = 64;

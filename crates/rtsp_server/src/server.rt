@@ -1,0 +1,341 @@
+//! A server: all its threads, from their start until they are joined.
+
+ghost use Rattle.rtsp_lock.specs.Calls.{IsSeatOf};
+ghost use Rattle.rtsp_record.specs.Choices.{HasPorts};
+
+use crate::gate::Gate;
+use crate::handle::BookHandle;
+use crate::pool::{PoolEnd, run_pool};
+use crate::shared::Shared;
+use crate::socket_lane::SocketLane;
+use crate::sweeper::run_sweeper;
+use mio::net::TcpListener;
+use rtsp_content::Table;
+use rtsp_lock::{BookLock, BookSeat, open};
+use rtsp_pacing::{Bell, Bells, PacerParts, pace};
+use rtsp_record::Whole;
+use rtsp_sockets::{Media, MediaFault, PairTable};
+use std::alloc::{AllocError, Global};
+use std::fs::File;
+use std::io::ErrorKind;
+use std::net::{Net, SocketAddr};
+use std::rt::Files;
+use std::sync::{Arc, Wait};
+use std::thread::Threads;
+use std::time::Instant;
+use std::{io, net, rt, thread};
+use thiserror::Error;
+
+/// Why there is no server.
+#[derive(Clone, Copy, Debug, PartialEq, Eq, Error)]
+pub enum ServerFault {
+    /// A track's file has a wrong length.
+    #[error("a track's file has a wrong length")]
+    WrongLength,
+    /// The address can't be listened on, a file can't be read, or the system refuses something
+    /// else that the server needs.
+    #[error("the system refuses what the server needs")]
+    DeviceFailed,
+    /// There is no thread for a lane, for a pacer or for the sweeper.
+    #[error("no thread can be made")]
+    NoThread,
+    #[error("out of memory")]
+    OutOfMemory,
+}
+
+impl From<AllocError> for ServerFault {
+    fn from(_: AllocError) -> ServerFault {
+        ServerFault::OutOfMemory
+    }
+}
+
+impl From<io::Error> for ServerFault {
+    fn from(fault: io::Error) -> ServerFault {
+        match fault.kind() {
+            ErrorKind::OutOfMemory => ServerFault::OutOfMemory,
+            _ => ServerFault::DeviceFailed,
+        }
+    }
+}
+
+impl From<MediaFault> for ServerFault {
+    fn from(fault: MediaFault) -> ServerFault {
+        match fault {
+            MediaFault::WrongLength => ServerFault::WrongLength,
+            MediaFault::Unreadable => ServerFault::DeviceFailed,
+            MediaFault::OutOfMemory => ServerFault::OutOfMemory,
+        }
+    }
+}
+
+// What all threads of a server are lent.
+#[derive(Drop)]
+struct Parts {
+    table: Table,
+    media: Media,
+    shared: Arc<Shared>,
+}
+
+/// A server that listens, and whose threads don't run yet.
+#[derive(Drop)]
+pub struct Server {
+    alloc: Global,
+    parts: Parts,
+    handle: BookHandle,
+    lanes: Vec<SocketLane>,
+    pacers: usize,
+    address: SocketAddr,
+}
+
+// How many threads the machine runs at once.
+fn cores<R: Threads>(rt: &R) -> usize {
+    match thread::available_parallelism(rt) {
+        Ok(cores) => cores.get(),
+        Err(_) => 1,
+    }
+}
+
+// A handle of an empty book.
+fn open_book(alloc: Global, whole: &Whole) -> Result<BookHandle, AllocError>
+    requires { HasPorts whole.now }
+{
+    let (lock, seat) = open(alloc, whole)?;
+    match Arc::new(alloc, lock) {
+        Ok(lock) => Ok(BookHandle::new(lock, seat)),
+        Err(_) => Err(AllocError),
+    }
+}
+
+/// What there is to hold by a configuration.
+pub fn whole_of(table: &Table) -> Whole
+    ensures { HasPorts result }
+{
+    let server = table.server();
+    Whole {
+        first_port: server.first_port,
+        pairs: server.pairs,
+        uplink: server.uplink,
+        sessions: server.sessions,
+        journal: server.journal,
+    }
+}
+
+// Lends all parts to a pacer for as long as it runs.
+fn pace_lent<'a, R: Wait + rt::Clock>(
+    rt: &'a R,
+    alloc: Global,
+    lock: &'a BookLock,
+    seat: BookSeat,
+    table: &'a Table,
+    media: &'a Media,
+    shared: &'a Shared,
+    bell: &'a Bell,
+)
+    requires { IsSeatOf seat lock.now }
+{
+    let parts = PacerParts {
+        lock,
+        table,
+        pairs: &shared.pairs,
+        outlets: &shared.outlets,
+        media,
+        bell,
+        begun: shared.begun,
+    };
+    pace(rt, alloc, parts, seat);
+}
+
+impl Parts {
+    // The body of a pacer's thread.
+    fn pace<R: Wait + rt::Clock>(&self, rt: &R, alloc: Global, number: usize, handle: BookHandle) {
+        let BookHandle { lock, seat } = handle;
+        if let Some(bell) = self.shared.bells.as_slice().get(number) {
+            pace_lent(
+                rt,
+                alloc,
+                &lock,
+                seat,
+                &self.table,
+                &self.media,
+                &self.shared,
+                bell,
+            );
+        }
+    }
+
+    // The body of the sweeper's thread.
+    fn sweep<R: Wait + Net + rt::Clock>(&self, rt: &R, handle: BookHandle) {
+        run_sweeper(rt, handle, &self.shared);
+    }
+
+    // Runs all threads, until the lanes are over.
+    fn run<
+        R: Threads
+            + Wait
+            + Net<Listener = net::TcpListener, Stream = net::TcpStream>
+            + rt::Clock
+            + Sync,
+    >(
+        &self,
+        rt: &R,
+        alloc: Global,
+        handle: BookHandle,
+        lanes: Vec<SocketLane>,
+        pacers: usize,
+    ) -> Result<PoolEnd, ServerFault> {
+        thread::scope(thread::scope_env(), rt, move |scope| {
+            let mut own = handle;
+            let mut missing = 0u64;
+            for number in 0..pacers {
+                let Some(theirs) = own.split(rt) else {
+                    missing = missing.saturating_add(1);
+                    continue;
+                };
+                let spawned = scope.spawn(move || self.pace(rt, alloc, number, theirs));
+                if spawned.is_err() {
+                    missing = missing.saturating_add(1);
+                }
+            }
+            let Some(theirs) = own.split(rt) else {
+                self.shared.stop(rt);
+                return Err(ServerFault::NoThread);
+            };
+            if scope.spawn(move || self.sweep(rt, theirs)).is_err() {
+                missing = missing.saturating_add(1);
+            }
+            let ended = if missing == 0 {
+                self.run_lanes(rt, alloc, own, lanes)
+            } else {
+                Err(ServerFault::NoThread)
+            };
+            self.shared.stop(rt);
+            ended
+        })
+    }
+
+    // Runs the lanes until they are over.
+    fn run_lanes<
+        R: Threads
+            + Wait
+            + Net<Listener = net::TcpListener, Stream = net::TcpStream>
+            + rt::Clock
+            + Sync,
+    >(
+        &self,
+        rt: &R,
+        alloc: Global,
+        own: BookHandle,
+        lanes: Vec<SocketLane>,
+    ) -> Result<PoolEnd, ServerFault> {
+        let count = lanes.len() as u64;
+        let BookHandle { lock, mut seat } = own;
+        let end = run_pool(rt, alloc, lanes, &lock, &mut seat, &self.table);
+        if end.idle < count {
+            Ok(end)
+        } else {
+            Err(ServerFault::NoThread)
+        }
+    }
+}
+
+// What the threads of a server share, where this address can be listened on.
+fn share<R: Net + rt::Clock>(
+    rt: &R,
+    alloc: Global,
+    table: &Table,
+    listener: net::TcpListener,
+    connections: Option<u64>,
+    pacers: usize,
+) -> Result<Arc<Shared>, ServerFault> {
+    let numbers = table.server();
+    let shared = Shared::new(
+        alloc,
+        TcpListener::from_std(listener),
+        Gate::new(connections),
+        PairTable::open(alloc, numbers.first_port, numbers.pairs)?,
+        Bells::new(alloc, pacers, numbers.sessions)?,
+        Instant::now(rt)?,
+    );
+    match Arc::new(alloc, shared) {
+        Ok(shared) => Ok(shared),
+        Err(_) => Err(ServerFault::OutOfMemory),
+    }
+}
+
+// So many lanes, each with descriptors of its own.
+fn open_lanes<R: Wait + Net + Files<File = File>>(
+    rt: &R,
+    alloc: Global,
+    shared: &Arc<Shared>,
+    listener: &net::TcpListener,
+    count: usize,
+) -> Result<Vec<SocketLane>, ServerFault> {
+    let mut lanes = Vec::new(alloc);
+    for _ in 0..count {
+        let lane = SocketLane::open(rt, alloc, shared, listener.try_clone()?)?;
+        if lanes.push(lane).is_err() {
+            return Err(ServerFault::OutOfMemory);
+        }
+    }
+    Ok(lanes)
+}
+
+impl Server {
+    /// A server of this configuration, which listens on this address. There are as many lanes as
+    /// the configuration has workers, but no more than the machine has cores, and half as many
+    /// pacers as cores, but at least one. With a number of connections it ends after so many.
+    pub fn open<R: Threads + Wait + Net + rt::Clock + Files<File = File>>(
+        rt: &R,
+        alloc: Global,
+        table: Table,
+        address: SocketAddr,
+        connections: Option<u64>,
+    ) -> Result<Server, ServerFault> {
+        let media = Media::open(rt, alloc, &table)?;
+        let handle = open_book(alloc, &whole_of(&table))?;
+        let cores = cores(rt);
+        let pacers = (cores / 2).max(1);
+        let listener = net::TcpListener::from(TcpListener::bind(rt, address)?);
+        let address = listener.local_addr()?;
+        let ours = listener.try_clone()?;
+        let shared = share(rt, alloc, &table, ours, connections, pacers)?;
+        let count = usize::from(table.server().workers).min(cores);
+        let lanes = open_lanes(rt, alloc, &shared, &listener, count)?;
+        Ok(Server {
+            alloc,
+            parts: Parts {
+                table,
+                media,
+                shared,
+            },
+            handle,
+            lanes,
+            pacers,
+            address,
+        })
+    }
+
+    /// The address that it listens on.
+    pub fn address(&self) -> SocketAddr {
+        self.address
+    }
+
+    /// Runs the server until it ends, and joins all threads.
+    pub fn run<
+        R: Threads
+            + Wait
+            + Net<Listener = net::TcpListener, Stream = net::TcpStream>
+            + rt::Clock
+            + Sync,
+    >(self, rt: &R) -> Result<PoolEnd, ServerFault> {
+        let Server {
+            alloc,
+            parts,
+            handle,
+            lanes,
+            pacers,
+            ..
+        } = self;
+        parts.run(rt, alloc, handle, lanes, pacers)
+    }
+}

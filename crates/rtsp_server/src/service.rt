@@ -1,0 +1,15 @@
+//! What a turn of a lane is made with.
+
+use crate::shared::Shared;
+use rtsp_content::Table;
+use std::alloc::Global;
+
+/// What a turn of a lane is made with: the server's parts, and the moment of the turn.
+#[derive(Clone, Copy)]
+pub(crate) struct Service<'a, R> {
+    pub(crate) rt: &'a R,
+    pub(crate) alloc: Global,
+    pub(crate) table: &'a Table,
+    pub(crate) shared: &'a Shared,
+    pub(crate) now: u64,
+}

@@ -1,0 +1,78 @@
+//! What the threads of a server share.
+
+use crate::gate::Gate;
+use crate::stop_bell::StopBell;
+use mio::Waker;
+use mio::net::TcpListener;
+use rtsp_pacing::Bells;
+use rtsp_sockets::{Outlets, PairTable};
+use std::alloc::{AllocError, Global};
+use std::rt;
+use std::sync::{Mutex, Wait};
+use std::time::Instant;
+
+/// What the threads of a server share beside the book.
+#[derive(Drop)]
+pub(crate) struct Shared {
+    pub(crate) listener: TcpListener,
+    pub(crate) gate: Gate,
+    pub(crate) outlets: Outlets,
+    pub(crate) pairs: PairTable,
+    /// The pacers', by which they learn of plays.
+    pub(crate) bells: Bells,
+    /// The sweeper's.
+    pub(crate) stop_bell: StopBell,
+    /// From when on moments are counted.
+    pub(crate) begun: Instant,
+    wakers: Mutex<Vec<Waker>>,
+}
+
+impl Shared {
+    pub(crate) fn new(
+        alloc: Global,
+        listener: TcpListener,
+        gate: Gate,
+        pairs: PairTable,
+        bells: Bells,
+        begun: Instant,
+    ) -> Shared {
+        Shared {
+            listener,
+            gate,
+            outlets: Outlets::new(alloc),
+            pairs,
+            bells,
+            stop_bell: StopBell::new(),
+            begun,
+            wakers: Mutex::new(Vec::new(alloc)),
+        }
+    }
+
+    /// The present moment, in milliseconds since the beginning, or 0 where the system can't tell.
+    pub(crate) fn now<R: rt::Clock>(&self, rt: &R) -> u64 {
+        match self.begun.elapsed(rt) {
+            Ok(elapsed) => u64::try_from(elapsed.as_millis()).unwrap_or(u64::MAX),
+            Err(_) => 0,
+        }
+    }
+
+    /// A lane is woken by this.
+    pub(crate) fn add_waker<R: Wait>(&self, rt: &R, waker: Waker) -> Result<(), AllocError> {
+        self.wakers.lock(rt).push(waker)?;
+        Ok(())
+    }
+
+    /// Ends the waits of all lanes.
+    pub(crate) fn wake_lanes<R: Wait>(&self, rt: &R) {
+        let wakers = self.wakers.lock(rt);
+        for waker in wakers.iter() {
+            let _ = waker.wake();
+        }
+    }
+
+    /// Ends the threads beside the lanes.
+    pub(crate) fn stop<R: Wait>(&self, rt: &R) {
+        self.bells.stop(rt);
+        self.stop_bell.ring(rt);
+    }
+}

@@ -1,0 +1,26 @@
+//! The thread that ends sessions whose time is over.
+
+use crate::handle::BookHandle;
+use crate::limits::SWEEP_EVERY;
+use crate::shared::Shared;
+use std::net::Net;
+use std::rt;
+use std::sync::Wait;
+use std::time::Duration;
+
+/// Ends expired sessions from time to time, until it is told to stop.
+pub(crate) fn run_sweeper<R: Wait + Net + rt::Clock>(
+    rt: &R,
+    mut handle: BookHandle,
+    shared: &Shared,
+) {
+    for _ in rt.forever() {
+        if shared
+            .stop_bell
+            .wait(rt, Duration::from_millis(SWEEP_EVERY))
+        {
+            break;
+        }
+        handle.sweep(rt, shared, shared.now(rt));
+    }
+}

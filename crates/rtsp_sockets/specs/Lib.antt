@@ -1,0 +1,4 @@
+pub mod Rooms
+pub mod Passing
+pub mod Slots
+pub mod RandomWords

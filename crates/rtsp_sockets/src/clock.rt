@@ -1,0 +1,46 @@
+//! The clock of a server.
+
+ghost use Rattle.std.specs.Prelude.{◌≡◌, ◌≤◌};
+
+use rtsp_engine::Clock;
+use std::rt;
+use std::time::{Duration, Instant};
+
+/// A clock that counts from the beginning of the server. It never goes back: where the system
+/// can't tell the time it tells the last moment again.
+#[derive(Drop)]
+pub struct RunningClock<'a, R> {
+    rt: &'a R,
+    begun: Instant,
+    last: u64,
+}
+
+impl<'a, R: rt::Clock> RunningClock<'a, R> {
+    /// A clock that counts from this instant.
+    pub fn new(rt: &'a R, begun: Instant) -> RunningClock<'a, R> {
+        RunningClock { rt, begun, last: 0 }
+    }
+
+    /// How long it is until a moment: nothing where that is past, or where the system can't tell
+    /// the time.
+    pub fn until(&self, moment: u64) -> Duration {
+        match self.begun.elapsed(self.rt) {
+            Ok(elapsed) => Duration::from_millis(moment).saturating_sub(elapsed),
+            Err(_) => Duration::ZERO,
+        }
+    }
+}
+
+impl<R: rt::Clock> Clock for RunningClock<'_, R> {
+    ghost use Rattle.std.specs.Prelude.{◌≡◌, ◌≤◌};
+
+    ghost tells = { λ b moment c. (b.last ≤ moment) × (c.last ≡ moment) };
+
+    fn now(&mut self) -> u64 {
+        if let Ok(elapsed) = self.begun.elapsed(self.rt) {
+            let moment = u64::try_from(elapsed.as_millis()).unwrap_or(u64::MAX);
+            self.last = self.last.max(moment);
+        }
+        self.last
+    }
+}

@@ -1,0 +1,30 @@
+//! The options of an accepted connection.
+
+use crate::outlet::STALL_LIMIT;
+use libc::net;
+use std::os::fd::RawFd;
+
+/// How many bytes of a connection the system keeps: 64 KiB. Left to itself it grows to 4 MB for
+/// a player that doesn't read.
+pub const SEND_BUFFER: u32 = 64 * 1024;
+
+// A number as the system takes the value of an option.
+fn option_value(number: u32) -> [u8; 16] {
+    let mut value = [0; 16];
+    value[..4].copy_from_slice(&number.to_ne_bytes());
+    value
+}
+
+/// Sets what an accepted connection needs: the system keeps at most `SEND_BUFFER` bytes of it, and
+/// gives it up where its peer has taken nothing for `STALL_LIMIT` milliseconds. Whether both could
+/// be set.
+pub fn prepare(fd: RawFd) -> bool {
+    let buffer = option_value(SEND_BUFFER);
+    let limit = option_value(STALL_LIMIT as u32);
+    // SAFETY: both are options of a number, of which 4 bytes are passed.
+    let buffered = unsafe { net::setsockopt(fd, net::SOL_SOCKET, net::SO_SNDBUF, &buffer, 4) };
+    let limited = unsafe {
+        net::setsockopt(fd, net::IPPROTO_TCP, net::TCP_USER_TIMEOUT, &limit, 4)
+    };
+    buffered == 0 && limited == 0
+}

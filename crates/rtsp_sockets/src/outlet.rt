@@ -1,0 +1,117 @@
+//! The writing side of a connection.
+
+use crate::message::Message;
+use crate::pending::Pending;
+use crate::put::Put;
+use mio::net::TcpStream;
+use std::alloc::Global;
+use std::net::Shutdown;
+use std::os::fd::{AsRawFd, RawFd};
+use std::sync::{Mutex, Wait};
+
+/// For how long, in milliseconds, a player may take none of the bytes that wait for it.
+pub const STALL_LIMIT: u64 = 10_000;
+
+/// The writing side of a connection, shared by the lane that reads it and the pacers that send
+/// frames. It never blocks: what can't be written at once waits, up to a limit, and is written by
+/// `flush`. A message reaches the stream whole, or nothing of it does while the connection is open.
+/// Each call makes one system call at most while it holds the lock, and one more where it closes
+/// the connection. Moments are milliseconds of one clock.
+#[derive(Drop)]
+pub struct Outlet {
+    stream: TcpStream,
+    pending: Mutex<Pending>,
+    // How many requests the server made on the connection.
+    requests: Mutex<u32>,
+}
+
+impl Outlet {
+    /// The outlet of a connection, which doesn't block. It takes no memory.
+    pub fn new(alloc: Global, stream: TcpStream) -> Outlet {
+        Outlet {
+            stream,
+            pending: Mutex::new(Pending::new(alloc)),
+            requests: Mutex::new(0),
+        }
+    }
+
+    /// The connection's descriptor, by which a poll names it.
+    pub fn fd(&self) -> RawFd {
+        self.stream.as_raw_fd()
+    }
+
+    /// The connection, to be read from.
+    pub fn stream(&self) -> &TcpStream {
+        &self.stream
+    }
+
+    /// The number of the next request of the server on this connection, from 1. After 999,999,999,
+    /// the greatest (RFC 7826 section 20.2.3), it begins anew.
+    pub fn next_cseq<R: Wait>(&self, rt: &R) -> u32 {
+        let mut requests = self.requests.lock(rt);
+        *requests = *requests % 999_999_999 + 1;
+        *requests
+    }
+
+    // The player sees the end of the connection, and so does the lane.
+    fn shut(&self) {
+        let _ = self.stream.shutdown(Shutdown::Both);
+    }
+
+    /// Writes a message whole, or keeps what is left of it, or drops it whole. At a response that
+    /// has no room, or no memory, the connection is closed.
+    pub fn put<R: Wait>(&self, rt: &R, now: u64, kind: Message, bytes: &[u8]) -> Put {
+        let mut pending = self.pending.lock(rt);
+        let was_closed = pending.is_closed();
+        let put = pending.put(&mut &self.stream, now, kind, bytes);
+        if put == Put::Closed && !was_closed {
+            self.shut();
+        }
+        put
+    }
+
+    /// Writes what waits, as far as it goes at once: how many bytes are left, or `None` where the
+    /// connection is closed. It is called whenever the connection can be written.
+    pub fn flush<R: Wait>(&self, rt: &R, now: u64) -> Option<usize> {
+        let mut pending = self.pending.lock(rt);
+        let was_closed = pending.is_closed();
+        let left = pending.flush(&mut &self.stream, now);
+        if left.is_none() && !was_closed {
+            self.shut();
+        }
+        left
+    }
+
+    /// Takes no more frames: how many bytes still wait.
+    pub fn drain<R: Wait>(&self, rt: &R) -> usize {
+        let mut pending = self.pending.lock(rt);
+        pending.drain();
+        pending.len()
+    }
+
+    /// How many bytes wait.
+    pub fn waiting<R: Wait>(&self, rt: &R) -> usize {
+        self.pending.lock(rt).len()
+    }
+
+    /// Closes the connection where bytes wait and none was taken for `STALL_LIMIT` milliseconds.
+    /// Whether it did.
+    pub fn close_stalled<R: Wait>(&self, rt: &R, now: u64) -> bool {
+        let mut pending = self.pending.lock(rt);
+        let is_stalled = pending.is_stalled(now);
+        if is_stalled {
+            pending.close();
+            self.shut();
+        }
+        is_stalled
+    }
+
+    /// Closes the connection. What waits is given up.
+    pub fn close<R: Wait>(&self, rt: &R) {
+        let mut pending = self.pending.lock(rt);
+        if !pending.is_closed() {
+            pending.close();
+            self.shut();
+        }
+    }
+}

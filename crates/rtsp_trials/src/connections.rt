@@ -1,0 +1,220 @@
+use rtsp_content::Table;
+use rtsp_engine::*;
+use rtsp_grammar::MessageFault;
+use rtsp_lock::open;
+use rtsp_record::Whole;
+use rtsp_state::Room;
+use std::alloc::{AllocError, Global};
+use std::sync::Wait;
+use std::test::Fail;
+
+const CONFIGURATION: &str = "[server]\nfirst_port = 5000\npairs = 2\nuplink = 160000\n\
+    sessions = 4\ntimeout = 60\n[[presentation]]\nname = \"tone\"\nunits = 500\nunit_ms = 20\n\
+    [[presentation.track]]\nname = \"a\"\nmedia = \"audio\"\npt = 0\nencoding = \"PCMU\"\n\
+    clock = 8000\noctets = 160\nticks = 160\nfile = \"tone-a.raw\"\n";
+
+const WHOLE: Whole = Whole {
+    first_port: 5000,
+    pairs: 2,
+    uplink: 160_000,
+    sessions: 4,
+    journal: 1_000,
+};
+
+const SETUP: &str = "SETUP rtsp://h/tone/a RTSP/2.0\r\nCSeq: 1\r\n\
+    Transport: RTP/AVP;unicast;dest_addr=\":8000\"/\":8001\"\r\n\r\n";
+
+const PLAY: &str = "PLAY rtsp://h/tone RTSP/2.0\r\nCSeq: 2\r\n\
+    Session: 00000000000000000000000000000007\r\n\r\n";
+
+// A device that works, or that fails at each call.
+#[derive(Drop)]
+struct Device {
+    works: bool,
+    failures: u64,
+    // The number of the PLAY noted last, and whether it was begun.
+    noted: Option<u32>,
+    settled: Option<bool>,
+}
+
+impl Device {
+    fn new(works: bool) -> Device {
+        Device {
+            works,
+            failures: 0,
+            noted: None,
+            settled: None,
+        }
+    }
+}
+
+impl Clock for Device {
+    ghost use Rattle.std.specs.Prelude.{⊤};
+
+    ghost tells = { λ b moment c. ⊤ };
+
+    fn now(&mut self) -> u64 {
+        0
+    }
+}
+
+impl Words for Device {
+    ghost use Rattle.std.specs.Prelude.{⊤};
+
+    ghost calls = { record { ids = λ b word c. ⊤; ssrcs = λ b word c. ⊤; seqs = λ b word c. ⊤; rtptimes = λ b word c. ⊤; fails = λ b c. ⊤; failures = λ b. b.failures } };
+
+    fn id(&mut self) -> Result<u128, WordsFault> {
+        Ok(7)
+    }
+
+    fn ssrc(&mut self) -> Result<u32, WordsFault> {
+        Ok(1)
+    }
+
+    fn seq(&mut self) -> Result<u16, WordsFault> {
+        Ok(2)
+    }
+
+    fn rtptime(&mut self) -> Result<u32, WordsFault> {
+        if self.works {
+            return Ok(3);
+        }
+        self.failures = self.failures.saturating_add(1);
+        Err(WordsFault)
+    }
+}
+
+impl Plays for Device {
+    ghost use Rattle.std.specs.Prelude.{⊤};
+
+    ghost calls = { record { notes = λ b session cseq uri c. ⊤; lacks = λ b c. ⊤; settles = λ b accepted c. ⊤ } };
+
+    fn note(
+        &mut self,
+        _alloc: Global,
+        _session: u64,
+        cseq: u32,
+        _uri: &[u8],
+    ) -> Result<(), AllocError> {
+        if !self.works {
+            return Err(AllocError);
+        }
+        self.noted = Some(cseq);
+        Ok(())
+    }
+
+    fn settle(&mut self, accepted: bool) {
+        self.settled = Some(accepted);
+    }
+}
+
+impl Binder for Device {
+    ghost use Rattle.std.specs.Prelude.{⊤};
+
+    ghost calls = { record { binds = λ b a p c. ⊤; fails = λ b a p c. ⊤; unbinds = λ b a p c. ⊤; failures = λ b. b.failures } };
+
+    fn bind(&mut self, _admission: u64, _pair: u16) -> Result<(), BindFault> {
+        if self.works {
+            return Ok(());
+        }
+        self.failures = self.failures.saturating_add(1);
+        Err(BindFault)
+    }
+
+    fn unbind(&mut self, _admission: u64, _pair: u16) {}
+}
+
+// What is answered to a SETUP and a PLAY by such devices, how the pushing ends, and what was
+// learned of the play.
+#[derive(Drop)]
+struct Conversation {
+    room: Room,
+    pushed: Result<(), MessageFault>,
+    plays: Device,
+}
+
+fn converse<R: AllocGlobal + Wait>(
+    rt: &R,
+    words: bool,
+    binder: bool,
+    plays: bool,
+) -> Result<Conversation, Fail> {
+    let table = Table::read(rt.alloc(), CONFIGURATION.as_bytes())?;
+    let (lock, mut seat) = open(rt.alloc(), &WHOLE)?;
+    let mut binder = Device::new(binder);
+    let mut words = Device::new(words);
+    let mut clock = Device::new(true);
+    let mut plays = Device::new(plays);
+    let mut room = Room::new(rt.alloc());
+    let mut connection = Connection::new(rt.alloc());
+    let mut pushed = Ok(());
+    {
+        let mut desk = Desk {
+            rt,
+            seat: &mut seat,
+            lock: &lock,
+            binder: &mut binder,
+            words: &mut words,
+            clock: &mut clock,
+            plays: &mut plays,
+            table: &table,
+            asker: Asker { conn: 1, peer: 0 },
+        };
+        for piece in SETUP.as_bytes().chunks(1) {
+            pushed = connection.push(rt.alloc(), &mut desk, piece, &mut room);
+        }
+        if pushed.is_ok() && connection.is_idle() && connection.capacity() == 0 {
+            pushed = connection.push(rt.alloc(), &mut desk, PLAY.as_bytes(), &mut room);
+        }
+    }
+    Ok(Conversation {
+        room,
+        pushed,
+        plays,
+    })
+}
+
+#[test]
+fn a_play_is_noted_and_settled(rt: HostRuntime) -> Result<(), Fail> {
+    let conversation = converse(&rt, true, true, true)?;
+    assert!(rt; conversation.pushed.is_ok());
+    let answer = b"RTP-Info: url=\"rtsp://h/tone/a\" ssrc=00000001:seq=2;rtptime=3\r\n\r\n";
+    assert!(rt; conversation.room.as_bytes().ends_with(answer.as_slice()));
+    assert!(rt; conversation.plays.noted == Some(2));
+    assert!(rt; conversation.plays.settled == Some(true));
+    Ok(())
+}
+
+#[test]
+fn a_play_that_can_t_be_noted_is_not_begun(rt: HostRuntime) -> Result<(), Fail> {
+    let conversation = converse(&rt, true, true, false)?;
+    assert!(rt; conversation.pushed == Err(MessageFault::OutOfMemory));
+    let answer = b"Media-Range: npt=0.000-10.000\r\n\r\n";
+    assert!(rt; conversation.room.as_bytes().ends_with(answer.as_slice()));
+    assert!(rt; conversation.plays.settled.is_none());
+    law_served_grows::<HostRuntime, Device, Device, Device, Device>();
+    let told = fault_response(MessageFault::OutOfMemory);
+    assert_eq!(rt;
+        told,
+        b"RTSP/2.0 500 Internal Server Error\r\n\r\n".as_slice()
+    );
+    Ok(())
+}
+
+#[test]
+fn a_setup_without_words_is_answered_500(rt: HostRuntime) -> Result<(), Fail> {
+    let conversation = converse(&rt, false, true, true)?;
+    let answer = b"RTSP/2.0 500 Internal Server Error\r\nCSeq: 1\r\n\r\n\
+        RTSP/2.0 454 Session Not Found\r\nCSeq: 2\r\n\r\n";
+    assert_eq!(rt; conversation.room.as_bytes(), answer.as_slice());
+    Ok(())
+}
+
+#[test]
+fn a_setup_whose_pairs_can_t_be_bound_is_answered_503(rt: HostRuntime) -> Result<(), Fail> {
+    let conversation = converse(&rt, true, false, true)?;
+    let answer = b"RTSP/2.0 503 Service Unavailable\r\nCSeq: 1\r\n\r\n\
+        RTSP/2.0 454 Session Not Found\r\nCSeq: 2\r\n\r\n";
+    assert_eq!(rt; conversation.room.as_bytes(), answer.as_slice());
+    Ok(())
+}

@@ -1,0 +1,208 @@
+//! The packets of a play, one turn after another, to sinks that keep what they are sent.
+
+ghost use Rattle.std.specs.Prelude.{◌≡◌};
+
+use crate::world::{OVER_PORTS, SMALL};
+use rtsp_content::Table;
+use rtsp_record::{Holding, Id, Life, Phase, Record, Setup, Stream, Thing, Transition};
+use rtsp_rtp::*;
+use rtsp_sessions::{BookRep, PlainBook, SessionView};
+use rtspd::EXAMPLE;
+use std::alloc::Global;
+use std::test::Fail;
+
+const OPENING: Phase = Phase::Ready { at: 0, sent: 0 };
+
+const PLAYING: Phase = Phase::Playing {
+    since: 0,
+    from: 0,
+    stop: 500,
+    sent: 0,
+};
+
+fn stream(track: u16) -> Stream {
+    Stream {
+        track,
+        ssrc: 1 + u32::from(track),
+        seq: 65_535,
+        rtptime: 4_294_967_200,
+        ..OVER_PORTS
+    }
+}
+
+// Makes the changes that are allowed.
+fn make(book: &mut PlainBook, changes: &[Record]) -> Result<(), Fail> {
+    for change in changes {
+        let change = [*change];
+        if book.allowed(&change[0]) {
+            book.apply(&change)?;
+        }
+    }
+    Ok(())
+}
+
+// Sets a track up under an admission.
+fn set_up(book: &mut PlainBook, admission: u64, track: u16) -> Result<(), Fail> {
+    let held = |thing| Holding {
+        session: 2,
+        admission,
+        thing,
+    };
+    make(
+        book,
+        &[
+            Record::Hold(held(Thing::Rate(80_000))),
+            Record::Hold(held(Thing::Pair(5000u16.wrapping_add(track.wrapping_mul(2))))),
+            Record::Add(Setup {
+                session: 2,
+                admission,
+                stream: stream(track),
+            }),
+        ],
+    )
+}
+
+// A session in this phase, with streams of these tracks.
+fn session(alloc: Global, tracks: &[u16], phase: Phase) -> Result<Option<SessionView>, Fail> {
+    let mut book = PlainBook::open(alloc, &SMALL)?;
+    let life = Life {
+        session: 2,
+        id: Id::new(1),
+        conn: 1,
+        expires: 60_000,
+    };
+    make(&mut book, &[Record::Open(life)])?;
+    for track in tracks {
+        set_up(&mut book, 20u64.wrapping_sub(u64::from(*track)), *track)?;
+    }
+    let play = Transition {
+        session: 2,
+        from: OPENING,
+        to: phase,
+    };
+    make(&mut book, &[Record::Move(play)])?;
+    Ok(book.session(2))
+}
+
+// Keeps the first bytes of what it is sent, and fails at one packet.
+#[derive(Drop)]
+struct Keeps {
+    sent: usize,
+    fails_at: usize,
+    failures: u64,
+    last_unit: u32,
+    heads: [[u8; 12]; 8],
+}
+
+impl Sink for Keeps {
+    ghost use Rattle.std.specs.Prelude.{⊤};
+
+    ghost calls = { record { octets = λ s track unit bytes u. ⊤; sends = λ s track packet u. ⊤; fails = λ s u. ⊤; failures = λ s. s.failures } };
+
+    fn octets(&mut self, _track: u16, unit: u32, out: &mut [u8]) -> Result<(), SinkFault> {
+        self.last_unit = unit;
+        out.fill(7);
+        Ok(())
+    }
+
+    fn send(&mut self, _track: u16, packet: &mut Packet) -> Result<(), SinkFault> {
+        if self.sent == self.fails_at {
+            self.fails_at = usize::MAX;
+            self.failures = self.failures.saturating_add(1);
+            return Err(SinkFault);
+        }
+        if let (Some(head), Some(bytes)) = (
+            self.heads.get_mut(self.sent),
+            packet.datagram().first_chunk::<12>(),
+        ) {
+            *head = *bytes;
+        }
+        self.sent = self.sent.saturating_add(1);
+        Ok(())
+    }
+}
+
+fn failing_at(fails_at: usize) -> Keeps {
+    Keeps {
+        sent: 0,
+        fails_at,
+        failures: 0,
+        last_unit: 0,
+        heads: [[0; 12]; 8],
+    }
+}
+
+#[test]
+fn a_packet_and_its_frame(rt: HostRuntime) -> Result<(), Fail> {
+    let table = Table::read(rt.alloc(), EXAMPLE.as_bytes())?;
+    let Some(track) = table.presentations()[0].track(0) else {
+        panic!(rt; "there is a track")
+    };
+    let mut packet = packet(track, &stream(0), &PLAYING, 1, &[7; 160]);
+    let header = [0x80, 0, 0, 0, 0, 0, 0, 0x40, 0, 0, 0, 1];
+    assert!(rt; packet.datagram().starts_with(&header) && packet.datagram().ends_with(&[7; 160]));
+    assert!(rt; packet.datagram().len() == 172);
+    assert!(rt; packet.frame(0).starts_with(&[0x24, 0, 0, 0xac, 0x80, 0]));
+    assert!(rt; packet.frame(3).starts_with(&[0x24, 3]) && packet.frame(3).len() == 176);
+    assert!(rt; Packet::new().datagram().is_empty());
+    Ok(())
+}
+
+#[test]
+fn a_turn_sends_what_is_due(rt: HostRuntime) -> Result<(), Fail> {
+    let table = Table::read(rt.alloc(), EXAMPLE.as_bytes())?;
+    let Some(view) = session(rt.alloc(), &[0], PLAYING)? else {
+        panic!(rt; "it is open")
+    };
+    let Some(mut pacer) = Pacer::start(&view, &table.presentations()[0]) else {
+        panic!(rt; "it plays")
+    };
+    let mut sink = failing_at(2);
+    assert!(rt; pacer.session() == 2 && pacer.next_due() == Some(0));
+    assert!(rt; pacer.turn(&view, 0, &mut sink) == Turn::More && sink.sent == 1);
+    assert!(rt; pacer.next_due() == Some(20));
+    assert!(rt; pacer.turn(&view, 19, &mut sink) == Turn::More && sink.sent == 1);
+    assert!(rt; pacer.turn(&view, 40, &mut sink) == Turn::SinkFailed && sink.sent == 2);
+    assert!(rt; sink.failures == 1 && pacer.next_due() == Some(40));
+    assert!(rt; pacer.turn(&view, 40, &mut sink) == Turn::More && sink.sent == 3);
+    assert!(rt; sink.heads[0] == [0x80, 0, 0xff, 0xff, 0xff, 0xff, 0xff, 0xa0, 0, 0, 0, 1]);
+    assert!(rt; sink.heads[2] == [0x80, 0, 0, 1, 0, 0, 0, 0xe0, 0, 0, 0, 1]);
+    assert!(rt; pacer.turn(&view, 9_979, &mut sink) == Turn::More && sink.sent == 499);
+    assert!(rt; pacer.turn(&view, 9_980, &mut sink) == Turn::AtEnd && sink.sent == 500);
+    assert!(rt; pacer.next_due().is_none() && sink.last_unit == 499);
+    Ok(())
+}
+
+#[test]
+fn a_turn_of_two_tracks_and_of_another_play(rt: HostRuntime) -> Result<(), Fail> {
+    let table = Table::read(rt.alloc(), EXAMPLE.as_bytes())?;
+    let presentation = &table.presentations()[0];
+    let phase = Phase::Playing {
+        since: 1_000,
+        from: 7,
+        stop: 9,
+        sent: 1,
+    };
+    let Some(view) = session(rt.alloc(), &[1, 0], phase)? else {
+        panic!(rt; "it is open")
+    };
+    let Some(mut pacer) = Pacer::start(&view, presentation) else {
+        panic!(rt; "it plays")
+    };
+    let mut sink = failing_at(usize::MAX);
+    let Some(other) = session(rt.alloc(), &[1, 0], PLAYING)? else {
+        panic!(rt; "it is open")
+    };
+    assert!(rt; !pacer.is_of(&other) && pacer.turn(&other, 1_000, &mut sink) == Turn::OtherPlay);
+    assert!(rt; sink.sent == 0 && pacer.next_due() == Some(1_000));
+    assert!(rt; pacer.turn(&view, 1_019, &mut sink) == Turn::More && sink.sent == 2);
+    assert!(rt; sink.heads[0] == [0x80, 0, 0, 0, 0, 0, 0, 0x40, 0, 0, 0, 1]);
+    assert!(rt; sink.heads[1] == [0x80, 8, 0, 0, 0, 0, 0, 0x40, 0, 0, 0, 2]);
+    assert!(rt; pacer.turn(&view, 5_000, &mut sink) == Turn::AtEnd && sink.sent == 4);
+    assert!(rt; sink.last_unit == 8 && pacer.turn(&view, 5_000, &mut sink) == Turn::AtEnd);
+    let Some(ready) = session(rt.alloc(), &[0], OPENING)? else {
+        panic!(rt; "it is open")
+    };
+    assert!(rt; Pacer::start(&ready, presentation).is_none());
+    Ok(())
+}

@@ -1,0 +1,222 @@
+//! A pool of lanes over devices that tell what they were asked. Each lane has one connection.
+
+ghost use Rattle.rtsp_lock.specs.Calls.{IsSeatOf, SameSeat};
+
+use crate::world::tone;
+use rtsp_content::Table;
+use rtsp_engine::{Asker, BindFault, Binder, Connection, Desk, Words};
+use rtsp_grammar::MessageFault;
+use rtsp_lock::{BookLock, BookSeat, open};
+use rtsp_server::{BookHandle, Lane, LaneTurn, PoolEnd, run_pool, whole_of};
+use rtsp_state::Room;
+use rtspd::{CountedWords, NoPlays, StandingClock};
+use std::alloc::Global;
+use std::net::{Net, TcpListener, TcpStream};
+use std::process::Abort;
+use std::rt::Clock;
+use std::sync::atomic::{AtomicBool, Ordering};
+use std::sync::{Arc, Wait};
+use std::test::Fail;
+use std::thread;
+use std::thread::Threads;
+use std::time::Duration;
+
+const SETUP: &str = "SETUP rtsp://h/tone/a RTSP/2.0\r\nCSeq: 1\r\n\
+    Transport: RTP/AVP;unicast;dest_addr=\":8000\"/\":8001\"\r\n\r\n";
+
+// How many milliseconds a binder waits for another lane.
+const PATIENCE: u32 = 10_000;
+
+// A binder that binds once something has happened, and refuses where it has waited too long.
+#[derive(Drop)]
+struct WaitingBinder<'a, R> {
+    rt: &'a R,
+    until: &'a AtomicBool,
+    failures: u64,
+}
+
+impl<R: Clock> Binder for WaitingBinder<'_, R> {
+    ghost use Rattle.std.specs.Prelude.{⊤};
+
+    ghost calls = { record { binds = λ b a p c. ⊤; fails = λ b a p c. ⊤; unbinds = λ b a p c. ⊤; failures = λ b. b.failures } };
+
+    fn bind(&mut self, _admission: u64, _pair: u16) -> Result<(), BindFault> {
+        for _ in 0..PATIENCE {
+            if self.until.load(Ordering::SeqCst) {
+                return Ok(());
+            }
+            thread::sleep(self.rt, Duration::from_millis(1));
+        }
+        self.failures = self.failures.saturating_add(1);
+        Err(BindFault)
+    }
+
+    fn unbind(&mut self, _admission: u64, _pair: u16) {}
+}
+
+// A lane of one connection, on which one SETUP comes.
+#[derive(Drop)]
+struct OneSetup {
+    // Its pair is bound once this is true.
+    until: Arc<AtomicBool>,
+    // It is told here that the SETUP was answered with 200.
+    answered: Arc<AtomicBool>,
+    // Its session has the id after so many.
+    ids: u64,
+}
+
+// Lends all parts to a desk, and pushes the request.
+fn push_lent<'a, R: Wait, B: Binder>(
+    rt: &'a R,
+    alloc: Global,
+    seat: &'a mut BookSeat,
+    lock: &'a BookLock,
+    binder: &'a mut B,
+    words: &'a mut CountedWords,
+    clock: &'a mut StandingClock,
+    plays: &'a mut NoPlays,
+    table: &'a Table,
+    asker: Asker,
+    input: &mut Connection,
+    room: &mut Room,
+) -> Result<(), MessageFault>
+    requires { IsSeatOf seat.old lock.now }
+    ensures { SameSeat seat.old seat.new }
+{
+    let mut desk = Desk {
+        rt,
+        seat,
+        lock,
+        binder,
+        words,
+        clock,
+        plays,
+        table,
+        asker,
+    };
+    desk.push(alloc, input, SETUP.as_bytes(), room)
+}
+
+// Whether the request is answered with 200.
+fn is_set_up<R: Wait, B: Binder>(
+    rt: &R,
+    alloc: Global,
+    handle: &mut BookHandle,
+    binder: &mut B,
+    words: &mut CountedWords,
+    table: &Table,
+    asker: Asker,
+) -> bool {
+    let mut clock = StandingClock;
+    let mut plays = NoPlays;
+    let mut input = Connection::new(alloc);
+    let mut room = Room::new(alloc);
+    let pushed = push_lent(
+        rt,
+        alloc,
+        &mut handle.seat,
+        &handle.lock,
+        binder,
+        words,
+        &mut clock,
+        &mut plays,
+        table,
+        asker,
+        &mut input,
+        &mut room,
+    );
+    pushed.is_ok() && room.as_bytes().starts_with(b"RTSP/2.0 200 OK\r\n")
+}
+
+impl OneSetup {
+    fn serve<R: Wait + Clock>(
+        &self,
+        rt: &R,
+        alloc: Global,
+        handle: &mut BookHandle,
+        table: &Table,
+    ) -> Option<()> {
+        let mut own = handle.split(rt)?;
+        let conn = own.draw(rt)?;
+        let mut binder = WaitingBinder {
+            rt,
+            until: &self.until,
+            failures: 0,
+        };
+        let mut words = CountedWords::new();
+        for _ in 0..self.ids {
+            let _ = words.id();
+        }
+        let asker = Asker { conn, peer: 0 };
+        if is_set_up(rt, alloc, &mut own, &mut binder, &mut words, table, asker) {
+            self.answered.store(true, Ordering::SeqCst);
+        }
+        Some(())
+    }
+}
+
+impl Lane for OneSetup {
+    fn turn<R: Wait + Net<Listener = TcpListener, Stream = TcpStream> + Clock>(
+        &mut self,
+        rt: &R,
+        alloc: Global,
+        handle: &mut BookHandle,
+        table: &Table,
+    ) -> LaneTurn {
+        LaneTurn {
+            ended: if self.serve(rt, alloc, handle, table).is_some() {
+                1
+            } else {
+                0
+            },
+            is_over: true,
+        }
+    }
+}
+
+fn flag(alloc: Global, is_set: bool) -> Result<Arc<AtomicBool>, Fail> {
+    let flag = Arc::new(alloc, AtomicBool::new(is_set))?;
+    Ok(flag)
+}
+
+// Runs two lanes, of which one binds its pair only once the other's SETUP is answered.
+fn run_two<
+    R: Threads + Wait + Net<Listener = TcpListener, Stream = TcpStream> + Clock + Abort + Sync,
+>(rt: &R, alloc: Global, table: &Table, is_waiting_first: bool) -> Result<(), Fail> {
+    let (lock, mut seat) = open(alloc, &whole_of(table))?;
+    let lock = Arc::new(alloc, lock)?;
+    let one = flag(alloc, false)?;
+    let two = flag(alloc, false)?;
+    let waiting = OneSetup {
+        until: Arc::try_clone(&two)?,
+        answered: Arc::try_clone(&one)?,
+        ids: 0,
+    };
+    let other = OneSetup {
+        until: flag(alloc, true)?,
+        answered: Arc::try_clone(&two)?,
+        ids: 1,
+    };
+    let mut lanes = Vec::new(alloc);
+    if is_waiting_first {
+        lanes.push(waiting)?;
+        lanes.push(other)?;
+    } else {
+        lanes.push(other)?;
+        lanes.push(waiting)?;
+    }
+    let end = run_pool(rt, alloc, lanes, &lock, &mut seat, table);
+    assert!(rt; end == PoolEnd { served: 2, idle: 0 });
+    assert!(rt; one.load(Ordering::SeqCst) && two.load(Ordering::SeqCst));
+    Ok(())
+}
+
+#[test]
+fn the_first_lane_waits_for_the_second(rt: HostRuntime) -> Result<(), Fail> {
+    run_two(&rt, rt.alloc(), &tone(&rt)?, true)
+}
+
+#[test]
+fn the_second_lane_waits_for_the_first(rt: HostRuntime) -> Result<(), Fail> {
+    run_two(&rt, rt.alloc(), &tone(&rt)?, false)
+}
