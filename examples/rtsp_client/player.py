@@ -1,0 +1,179 @@
+"""A player: a presentation is described, its tracks are set up, played, paused and torn down (RFC 7826 section 13)."""
+import re
+import time
+from typing import Callable, List, NamedTuple, Optional, Tuple
+
+from .connection import Connection, Refused, UdpPair, address_of
+from .messages import Message
+from .rtp import Reception
+
+OK = 200
+# SDP leaves out a clock that the payload type fixes; all of these have this one.
+TELEPHONE_CLOCK = 8000
+RTP_INFO = re.compile(r'url="([^"]*)" ssrc=([0-9a-fA-F]{8}):seq=(\d+);rtptime=(\d+)')
+RANGE = re.compile(r"npt=(\d+\.?\d*)-(\d+\.?\d*)")
+# After the end of a play packets may still be under way, in seconds.
+TAIL = 0.2
+TIMEOUT = 60
+
+
+class Track(NamedTuple):
+    """A track of a presentation, as its description has it."""
+
+    uri: str
+    media: str
+    payload_type: int
+    encoding: str
+    clock: int
+
+
+def read_description(text: str, base: str) -> List[Track]:
+    """The tracks of a description (SDP); their URIs are taken at its base."""
+    tracks = []
+    for part in re.split(r"(?m)^m=", text)[1:]:
+        media = re.match(r"(\w+) \d+ RTP/AVP (\d+)", part)
+        control = re.search(r"(?m)^a=control:(\S+)", part)
+        if not media or not control:
+            continue
+        mapped = re.search(rf"(?m)^a=rtpmap:{media[2]} ([^/\s]+)/(\d+)", part)
+        encoding, clock = (mapped[1], int(mapped[2])) if mapped else ("unknown", TELEPHONE_CLOCK)
+        uri = control[1] if "://" in control[1] else base + control[1]
+        tracks.append(Track(uri, media[1], int(media[2]), encoding, clock))
+    return tracks
+
+
+class Stream:
+    """A track that was set up."""
+
+    def __init__(self, track: Track, transport: str, channel: Optional[int], ports: Optional[UdpPair]) -> None:
+        found = re.search(r"ssrc=([0-9a-fA-F]{8})", transport)
+        if not found:
+            raise Refused(f"the server names no SSRC: {transport!r}")
+        self.track = track
+        self.transport = transport
+        self.channel = channel
+        self.ports = ports
+        self.reception = Reception(int(found[1], 16), track.clock)
+
+
+class Player:
+    """One session on one connection."""
+
+    def __init__(self, uri: str, over_tcp: bool, receive_buffer: Optional[int] = None) -> None:
+        self.uri = uri
+        self.over_tcp = over_tcp
+        self.connection = Connection(*address_of(uri), receive_buffer)
+        self.streams: List[Stream] = []
+        self.session: Optional[str] = None
+        self.timeout = TIMEOUT
+        self.is_playing = False
+        # What is played, in seconds.
+        self.range: Tuple[float, float] = (0.0, 0.0)
+
+    def ask(self, method: str, uri: Optional[str] = None, *headers: Tuple[str, str]) -> Message:
+        """The answer to a request of this session, which has to be 200."""
+        named = [("Session", self.session)] if self.session else []
+        answer = self.connection.ask(method, uri or self.uri, [*named, *headers])
+        if answer.status != OK:
+            raise Refused(f"{method} was answered {answer.first_line.partition(' ')[2]}")
+        return answer
+
+    def describe(self) -> List[Track]:
+        answer = self.ask("DESCRIBE", None, ("Accept", "application/sdp"))
+        base = answer.header("Content-Base") or self.uri.rstrip("/") + "/"
+        return read_description(answer.body.decode("utf-8", "replace"), base)
+
+    def set_up(self, track: Track) -> Stream:
+        """Sets up one track, in the session of the tracks before it."""
+        ports = None if self.over_tcp else UdpPair(self.connection.socket.getsockname()[0])
+        if ports:
+            wanted = f'RTP/AVP;unicast;dest_addr=":{ports.port}"/":{ports.port + 1}"'
+        else:
+            wanted = f"RTP/AVP/TCP;unicast;interleaved={2 * len(self.streams)}-{2 * len(self.streams) + 1}"
+        try:
+            answer = self.ask("SETUP", track.uri, ("Transport", wanted))
+            stream = Stream(track, answer.header("Transport") or "", self._channel_of(answer), ports)
+        except Refused:
+            if ports:
+                ports.close()
+            raise
+        identity, _, parameters = (answer.header("Session") or "").partition(";")
+        timeout = re.search(r"timeout=(\d+)", parameters)
+        self.session, self.timeout = identity.strip(), int(timeout[1]) if timeout else self.timeout
+        self.streams.append(stream)
+        if ports:
+            self.connection.datagrams[ports.rtp] = stream.reception.take
+            self.connection.datagrams[ports.rtcp] = lambda datagram, at: None
+        else:
+            self.connection.channels[stream.channel] = stream.reception.take
+        return stream
+
+    def _channel_of(self, answer: Message) -> Optional[int]:
+        found = re.search(r"interleaved=(\d+)-", answer.header("Transport") or "")
+        if self.over_tcp and not found:
+            raise Refused("the server names no channel")
+        return int(found[1]) if found else None
+
+    def play(self, start: Optional[float] = None, stop: Optional[float] = None) -> Message:
+        """Plays from a second to another; without a start from where it stopped, without a stop to the end."""
+        wanted = []
+        if start is not None or stop is not None:
+            wanted = [("Range", f"npt={start or 0:.3f}-" + (f"{stop:.3f}" if stop is not None else ""))]
+        self.connection.requests.clear()
+        answer = self.ask("PLAY", None, *wanted)
+        self.is_playing = True
+        played = RANGE.search(answer.header("Range") or "")
+        if played:
+            self.range = float(played[1]), float(played[2])
+        for _, ssrc, sequence, timestamp in RTP_INFO.findall(answer.header("RTP-Info") or ""):
+            for stream in self.streams:
+                if stream.reception.ssrc == int(ssrc, 16):
+                    stream.reception.starts(int(sequence), int(timestamp))
+        return answer
+
+    @property
+    def notice(self) -> Optional[Message]:
+        """What the server said at the end of the play."""
+        for request in self.connection.requests:
+            if request.first_line.startswith("PLAY_NOTIFY ") and request.header("Session") == self.session:
+                return request
+        return None
+
+    def listen(self, seconds: float, is_enough: Callable[[], bool] = lambda: False) -> bool:
+        """Receives until the play ends, for so many seconds at most; true where it ended. Keeps the session alive."""
+        until = time.monotonic() + seconds
+        done = lambda: is_enough() or self.notice is not None or self.connection.is_closed
+        while not done() and time.monotonic() < until:
+            self.connection.wait(min(self.timeout / 2, until - time.monotonic()), done)
+            if not done() and time.monotonic() < until:
+                self.ask("GET_PARAMETER")
+        if self.notice is None:
+            return False
+        self.connection.wait(TAIL)
+        for _, ssrc, sequence, _ in RTP_INFO.findall(self.notice.header("RTP-Info") or ""):
+            for stream in self.streams:
+                if stream.reception.ssrc == int(ssrc, 16) and stream.reception.first_sequence is not None:
+                    stream.reception.ends(int(sequence))
+        return True
+
+    def pause(self) -> Message:
+        answer = self.ask("PAUSE")
+        self.is_playing = False
+        return answer
+
+    def tear_down(self) -> None:
+        """Ends the session, if there is one, and the connection."""
+        try:
+            if self.session and not self.connection.is_closed:
+                if self.is_playing:
+                    self.pause()
+                self.ask("TEARDOWN")
+        finally:
+            self.close()
+
+    def close(self) -> None:
+        """Goes without a word."""
+        self.connection.close()
+        for stream in self.streams:
+            if stream.ports:
+                stream.ports.close()

@@ -1,0 +1,111 @@
+"""RTP packets as they are received (RFC 3550): which came, which are missing, how late each was."""
+import statistics
+from typing import List, NamedTuple, Optional
+
+HEADER = 12
+SEQUENCE = 1 << 16
+TIMESTAMP = 1 << 32
+FIRST_BYTE = 0x80
+
+
+class Packet(NamedTuple):
+    """A packet, and the second at which it came, on a clock of the player's."""
+
+    payload_type: int
+    sequence: int
+    timestamp: int
+    ssrc: int
+    payload: bytes
+    at: float
+
+
+def read_packet(datagram: bytes, at: float) -> Optional[Packet]:
+    """A packet without extensions, contributing sources and padding; None for any other bytes."""
+    if len(datagram) < HEADER or datagram[0] != FIRST_BYTE:
+        return None
+    number = lambda start, end: int.from_bytes(datagram[start:end], "big")
+    return Packet(datagram[1] & 0x7F, number(2, 4), number(4, 8), number(8, 12), bytes(datagram[HEADER:]), at)
+
+
+class Lateness(NamedTuple):
+    """Milliseconds that packets came after the moment that the earliest of them sets for all."""
+
+    middle: float
+    most_of_99: float
+    greatest: float
+
+
+class Reception:
+    """The packets of one stream, in the order in which they came.
+
+    Places count from the first packet that the server told of (RTP-Info), so they don't wrap round.
+    """
+
+    def __init__(self, ssrc: int, clock: int) -> None:
+        self.ssrc = ssrc
+        self.clock = clock
+        self.packets: List[Packet] = []
+        self.places: List[int] = []
+        self.strangers = 0
+        self.first_sequence: Optional[int] = None
+        self.first_timestamp = 0
+        self.end: Optional[int] = None
+        self._last = 0
+
+    def place_of(self, sequence: int) -> int:
+        """How many packets a sequence number lies behind the first, taken nearest to the last one that came."""
+        assert self.first_sequence is not None
+        offset = (sequence - self.first_sequence - self._last + SEQUENCE // 2) % SEQUENCE - SEQUENCE // 2
+        return self._last + offset
+
+    def starts(self, sequence: int, timestamp: int) -> None:
+        """What RTP-Info says of the first packet. Later plays go on from the first one's numbers."""
+        if self.first_sequence is None:
+            self.first_sequence, self.first_timestamp = sequence, timestamp
+
+    def ends(self, sequence: int) -> None:
+        """What the server says of the packet that would come next."""
+        self.end = self.place_of(sequence)
+
+    def take(self, datagram: bytes, at: float) -> None:
+        packet = read_packet(datagram, at)
+        if packet is None or packet.ssrc != self.ssrc:
+            self.strangers += 1
+            return
+        # A packet may overtake the answer to PLAY.
+        self.starts(packet.sequence, packet.timestamp)
+        place = self.place_of(packet.sequence)
+        self._last = max(place, self._last)
+        self.packets.append(packet)
+        self.places.append(place)
+
+    @property
+    def repeats(self) -> int:
+        return len(self.places) - len(set(self.places))
+
+    @property
+    def missing(self) -> List[int]:
+        """The places of the packets that didn't come, up to the last that did or that the server told of."""
+        end = max([self.end or 0, *(place + 1 for place in self.places)])
+        return sorted(set(range(end)) - set(self.places))
+
+    @property
+    def gaps(self) -> int:
+        """How many runs of missing packets there are."""
+        missing = self.missing
+        return sum(before != place - 1 for before, place in zip([None, *missing], missing))
+
+    def tick_of(self, packet: Packet) -> int:
+        """The clock ticks from the first packet to this one."""
+        offset = (packet.timestamp - self.first_timestamp) % TIMESTAMP
+        return offset - TIMESTAMP if offset >= TIMESTAMP // 2 else offset
+
+    def late(self, packets: Optional[List[Packet]] = None) -> List[float]:
+        """Milliseconds that each packet of one play came too late, beside the earliest of them."""
+        early = [it.at - self.tick_of(it) / self.clock for it in (self.packets if packets is None else packets)]
+        base = min(early, default=0.0)
+        return [(it - base) * 1000 for it in early]
+
+    def lateness(self) -> Lateness:
+        late = sorted(self.late()) or [0.0]
+        return Lateness(statistics.median(late), late[(len(late) - 1) * 99 // 100], late[-1])

@@ -1,0 +1,86 @@
+"""How the program starts and ends: its words, its files, its port, and three messages."""
+import pathlib
+import subprocess
+
+from checks import Checks
+
+from .runner import serving_test
+from .server import HERE, TONE, TRIED, Server, configuration, lease
+
+BAD_WORDS, BAD_CONFIGURATION, FAILED = 1, 1, 4
+NO_WORDS, NO_CONFIGURATION = b"rtspd: bad command line\n", b"rtspd: bad configuration\n"
+NO_FILE = b"rtspd: read or write failed\n"
+OVER_TCP = ("Transport", "RTP/AVP/TCP;unicast;interleaved=0-1")
+
+
+@serving_test(limit=20)
+def three_messages(checks: Checks) -> None:
+    """OPTIONS, SETUP and TEARDOWN; after the one connection that it is told to serve it ends, and says nothing more."""
+    with Server(checks, words=("--connections", "1")) as server:
+        talk = server.connect()
+        options = talk.ask("OPTIONS", "*")
+        checks.same("OPTIONS", (200, 1), (options.status, options.cseq))
+        setup = talk.ask("SETUP", f"{server.uri}/a", [OVER_TCP])
+        checks.same("SETUP", (200, 2), (setup.status, setup.cseq))
+        session = (setup.header("Session") or "").partition(";")[0]
+        checks.same("the length of the session's id", 32, len(session))
+        teardown = talk.ask("TEARDOWN", server.uri, [("Session", session)])
+        checks.same("TEARDOWN", (200, 3), (teardown.status, teardown.cseq))
+        talk.close()
+        checks.same("the status after one connection", 0, server.ends(5))
+
+
+@serving_test(limit=20)
+def ends_after_so_many_connections(checks: Checks) -> None:
+    """Three connections, two of them at once; a session over UDP and a play are there still, and all threads end."""
+    with Server(checks, words=("--connections", "3")) as server:
+        first, player = server.connect(), server.player(over_tcp=False)
+        checks.that("a session over UDP", lease(first, f"{server.uri}/a") is not None)
+        for track in player.describe():
+            player.set_up(track)
+        player.play()
+        first.close()
+        server.answers("the third connection")
+        checks.same("it runs while a connection is open", None, server.process.poll())
+        player.close()
+        checks.same("the status after three connections", 0, server.ends(5))
+
+
+def said(folder: pathlib.Path, *words: str) -> tuple:
+    done = subprocess.run([TRIED, *words], cwd=folder, capture_output=True, stdin=subprocess.DEVNULL, timeout=10)
+    return done.returncode, done.stdout, done.stderr
+
+
+@serving_test(limit=30)
+def refused_starts(checks: Checks) -> None:
+    """A bad command line, a bad configuration, a file that isn't there, and a port that is taken, each by its line."""
+    with Server(checks) as server:
+        here = server.path
+        config, listen = ("--config", "server.toml"), ("--listen", f"{HERE}:{server.port}")
+        for words in (
+            (),
+            (*config, *config),
+            (*config, "--listen", "nowhere"),
+            (*config, "--listen", "[::1]:8554"),
+            (*config, "--listen", "127.0.0.1"),
+            (*config, "--listen", "127.0.0.1:65536"),
+            (*config, "--connections", "-1"),
+            (*config, "--connections", "x"),
+            (*config, "--journal", "j.txt"),
+            (*config, "--", "x"),
+            (*config, "--help"),
+        ):
+            checks.same(f"serve {' '.join(words)}", (BAD_WORDS, b"", NO_WORDS), said(here, "serve", *words))
+        checks.same("a port that is taken", (FAILED, b"", NO_FILE), said(here, "serve", *config, *listen))
+        server.answers("the first server goes on")
+        missing = said(here, "serve", "--config", "none.toml", *listen)
+        checks.same("no such configuration", (FAILED, b"", NO_FILE), missing)
+        (here / "bad.toml").write_text("[server]\n")
+        refused = BAD_CONFIGURATION, b"", NO_CONFIGURATION
+        checks.same("a bad configuration", refused, said(here, "serve", "--config", "bad.toml"))
+        text = configuration(TONE, server.first_port)
+        (here / "short.raw").write_bytes(b"\x7f" * 79_999)
+        for name, outcome in (("short", refused), ("none", (FAILED, b"", NO_FILE))):
+            (here / f"{name}.toml").write_text(text.replace("a.raw", f"{name}.raw"))
+            came = said(here, "serve", "--config", f"{name}.toml", "--listen", f"{HERE}:1")
+            checks.same(f"a track's file that is {name}", outcome, came)

@@ -1,0 +1,151 @@
+"""Many connections at once: those that say nothing, those that say little, and more than are allowed."""
+import resource
+import socket
+import statistics
+import threading
+import time
+from typing import List
+
+from checks import Checks
+from rtsp_client.messages import Message, Reader, written
+
+from .runner import serving_test
+from .server import Server
+
+IDLE = 10_000
+MOST_CONNECTIONS = 16_384
+# What a process needs beside its connections.
+OTHER_DESCRIPTORS = 300
+SLOW = 1000
+
+
+def milliseconds_to_answer(server: Server) -> float:
+    """From the start of a new connection to its answer."""
+    began = time.monotonic()
+    talk = server.connect()
+    talk.ask("OPTIONS", "*")
+    took = (time.monotonic() - began) * 1000
+    talk.close()
+    return took
+
+
+def is_closed_by_server(talk: socket.socket, seconds: float) -> bool:
+    talk.settimeout(seconds)
+    try:
+        return talk.recv(1) == b""
+    except ConnectionError:
+        return True
+    except TimeoutError:
+        return False
+
+
+def many(server: Server, count: int) -> List[socket.socket]:
+    return [server.socket() for _ in range(count)]
+
+
+@serving_test(limit=60, is_timed=True)
+def ten_thousand_idle_connections(checks: Checks) -> None:
+    """A new connection is answered within 50 ms beside them; above the greatest number one is closed at once."""
+    _, hard = resource.getrlimit(resource.RLIMIT_NOFILE)
+    count = min(IDLE, hard - OTHER_DESCRIPTORS)
+    with Server(checks) as server:
+        before, memory = server.descriptors_at_rest(), server.resident_bytes()
+        idle = many(server, count)
+        took = [milliseconds_to_answer(server) for _ in range(30)]
+        soon = sorted(took)[len(took) * 9 // 10 - 1]
+        checks.that(f"beside {count} connections 9 of 10 are answered within 50 ms", soon <= 50, sorted(took))
+        each = (server.resident_bytes() - memory) / count
+        checks.that("an idle connection takes less than 4 kB of memory", each < 4096, each)
+        spent = server.processor_seconds()
+        time.sleep(1.0)
+        spent = server.processor_seconds() - spent
+        checks.that("idle connections take no processor time", spent <= 0.1, spent)
+        if hard >= MOST_CONNECTIONS + OTHER_DESCRIPTORS:
+            idle += many(server, MOST_CONNECTIONS - count)
+            more = many(server, 10)
+            closed = [is_closed_by_server(talk, 3.0) for talk in more]
+            checks.same("above the greatest number each is closed at once", [True] * 10, closed)
+            idle[0].sendall(written("OPTIONS * RTSP/2.0", [("CSeq", "1")]))
+            idle[0].settimeout(5)
+            checks.that("those that are there are answered", idle[0].recv(100).startswith(b"RTSP/2.0 200 OK"))
+            for talk in [*idle[1:101], *more]:
+                talk.close()
+            time.sleep(0.5)
+            server.answers("once some have gone a new one is answered")
+        else:
+            print(f"the hard limit of {hard} descriptors doesn't let {MOST_CONNECTIONS} connections be tried")
+        for talk in idle:
+            talk.close()
+        checks.same("the descriptors afterwards", before, server.descriptors_fall_to(before, 15.0))
+
+
+@serving_test(limit=40, is_timed=True)
+def a_byte_a_second_on_a_thousand_connections(checks: Checks) -> None:
+    """Beside them, and at last on them, half of the answers come within 100 ms."""
+    with Server(checks) as server:
+        slow = many(server, SLOW)
+        request = written("OPTIONS * RTSP/2.0", [("CSeq", "1")])
+        sent = 0
+
+        def feed() -> None:
+            nonlocal sent
+            for sent in range(1, 7):
+                began = time.monotonic()
+                for number, talk in enumerate(slow):
+                    talk.sendall(request[sent - 1 : sent])
+                    if number % 50 == 49:
+                        time.sleep(max(began + number / SLOW - time.monotonic(), 0))
+
+        feeding = threading.Thread(target=feed)
+        feeding.start()
+        beside = []
+        while feeding.is_alive():
+            beside.append(milliseconds_to_answer(server))
+            time.sleep(0.05)
+        middle = statistics.median(beside)
+        checks.that("half of the new connections are answered within 100 ms", middle <= 100, middle)
+        took = []
+        for talk in slow:
+            began = time.monotonic()
+            talk.sendall(request[sent:])
+            talk.settimeout(5)
+            answers = [it for it in Reader().take(talk.recv(4096)) if isinstance(it, Message)]
+            took.append((time.monotonic() - began) * 1000)
+            if [it.status for it in answers] != [200]:
+                checks.that("each of the thousand is answered", False, answers)
+                break
+        middle = statistics.median(took)
+        checks.that("half of the thousand are answered within 100 ms", middle <= 100, middle)
+
+
+@serving_test(limit=30)
+def sixty_four_descriptors(checks: Checks) -> None:
+    """Where none is left, a connection is accepted and closed; those that are there are served, and nothing spins."""
+    with Server(checks, descriptors=64) as server:
+        before = server.descriptors_at_rest()
+        first = [server.connect() for _ in range(20)]
+        checks.same("the first 20", [200] * 20, [talk.ask("OPTIONS", "*").status for talk in first])
+        more = many(server, 120)
+        last = time.monotonic() + 10.0
+        while len(closed := [talk for talk in more if is_closed_by_server(talk, 0.01)]) < 20 and time.monotonic() < last:
+            time.sleep(0.5)
+        left = [talk for talk in more if talk not in closed]
+        checks.that("of 120 more at least 20 are closed at once", len(closed) >= 20, len(closed))
+        checks.same("the first 20 are still served", [200] * 20, [talk.ask("OPTIONS", "*").status for talk in first])
+        udp = ("Transport", 'RTP/AVP;unicast;dest_addr=":9"/":9"')
+        refused = first[0].ask("SETUP", f"{server.uri}/a", [udp]).status
+        checks.same("a SETUP for which there are no descriptors", 503, refused)
+        spent = server.processor_seconds()
+        time.sleep(1.0)
+        spent = server.processor_seconds() - spent
+        checks.that("it doesn't spin meanwhile", spent <= 0.3, spent)
+        for talk in left:
+            talk.close()
+        checks.that("descriptors are free again", server.descriptors_fall_to(before + 20, 3.0) <= before + 20)
+        server.answers("then a new connection is answered")
+        last = time.monotonic() + 3.0
+        while (status := first[0].ask("SETUP", f"{server.uri}/a", [udp]).status) == 503 and time.monotonic() < last:
+            time.sleep(0.2)
+        checks.same("and a SETUP over UDP", 200, status)
+        for talk in first:
+            talk.close()

@@ -1,0 +1,257 @@
+"""What is sent: each packet once and as the file has it, over UDP and over the connection."""
+import array
+import os
+import re
+import signal
+import socket
+import subprocess
+import sys
+import threading
+import time
+import wave
+from typing import Callable, List
+
+from checks import EXAMPLES, Checks
+from rtsp_client.player import Player, Stream
+from rtsp_client.rtp import Reception
+from rtsp_client.sound import SAMPLES
+
+from .runner import serving_test
+from .server import HERE, TONE, Presentation, Server, Track, is_alive, lease
+
+AT_MOST_LATE = 40.0
+# A packet that is sent before the PAUSE is answered may come after that answer, in seconds.
+UNDER_WAY = 0.1
+
+
+def set_up_all(player: Player) -> List[Stream]:
+    return [player.set_up(track) for track in player.describe()]
+
+
+def runs(places: List[int]) -> str:
+    """Numbers as they came, those side by side as one run."""
+    parts: List[List[int]] = []
+    for place in places:
+        if parts and parts[-1][1] + 1 == place:
+            parts[-1][1] = place
+        else:
+            parts.append([place, place])
+    return ", ".join(f"{first}" if first == last else f"{first} to {last}" for first, last in parts)
+
+
+def numbers_fit(checks: Checks, where: str, stream: Stream, track: Track, units: int) -> None:
+    """That each packet came once, in order, with the number, the timestamp, the type and the octets of its unit."""
+    came = stream.reception
+    checks.same(f"{where}: the units", runs(list(range(units))), runs(came.places))
+    checks.same(f"{where}: datagrams of somebody else", 0, came.strangers)
+    for place, packet in zip(came.places, came.packets):
+        fits = came.tick_of(packet) == place * track.ticks and packet.payload_type == track.pt
+        fits = fits and packet.payload == track.unit(place)
+        if not checks.that(f"{where}: unit {place} is as the file has it", fits):
+            break
+
+
+def notice_fits(checks: Checks, where: str, player: Player, cseq: int) -> None:
+    """That the server told of the end of the play, on the connection that asked for it."""
+    notice = player.notice
+    if not checks.that(f"{where}: PLAY_NOTIFY came", notice is not None):
+        return
+    parts = []
+    for stream, track in zip(player.streams, TONE.tracks):
+        came = stream.reception
+        sequence = (came.first_sequence + TONE.units) % 2**16
+        timestamp = (came.first_timestamp + TONE.units * track.ticks) % 2**32
+        parts.append(f'url="{stream.track.uri}" ssrc={came.ssrc:08x}:seq={sequence};rtptime={timestamp}')
+    wanted = [("CSeq", "1"), ("Session", player.session or ""), ("Notify-Reason", "end-of-stream")]
+    wanted += [("Request-Status", f'cseq={cseq} status=200 reason="OK"'), ("Range", "npt=-10.000")]
+    wanted += [("RTP-Info", ",".join(parts))]
+    checks.same(f"{where}: PLAY_NOTIFY", f"PLAY_NOTIFY {player.uri} RTSP/2.0", notice.first_line)
+    checks.same(f"{where}: its headers", wanted, notice.headers)
+
+
+def play_with_a_pause(checks: Checks, server: Server, over_tcp: bool) -> None:
+    """Ten seconds of tone with a pause in them."""
+    where = "TCP" if over_tcp else "UDP"
+    player = server.player(over_tcp)
+    streams = set_up_all(player)
+    player.play(0.0)
+    player.listen(8.0, lambda: all(len(stream.reception.packets) >= 200 for stream in streams))
+    # In the middle of a unit: one that is due and hasn't left yet isn't sent any more.
+    player.connection.wait(TONE.unit_ms / 2000)
+    paused = player.pause()
+    player.connection.wait(UNDER_WAY)
+    sent = [len(stream.reception.packets) for stream in streams]
+    player.connection.wait(0.6)
+    checks.same(f"{where}: nothing is sent after PAUSE", sent, [len(it.reception.packets) for it in streams])
+    point = TONE.unit_ms * sent[0] / 1000
+    checks.same(f"{where}: the Range of PAUSE", f"npt={point:.3f}-10.000", paused.header("Range"))
+    firsts = [(it.reception.first_sequence, it.reception.first_timestamp) for it in streams]
+    again = player.play()
+    checks.same(f"{where}: the Range of the second PLAY", paused.header("Range"), again.header("Range"))
+    told = re.findall(r"seq=(\d+);rtptime=(\d+)", again.header("RTP-Info") or "")
+    wanted = [((seq + sent[0]) % 2**16, (rtptime + 160 * sent[0]) % 2**32) for seq, rtptime in firsts]
+    checks.same(f"{where}: RTP-Info goes on", wanted, [(int(seq), int(rtptime)) for seq, rtptime in told])
+    cseq = player.connection.cseq
+    checks.that(f"{where}: the play ends", player.listen(12.0))
+    for stream, track in zip(streams, TONE.tracks):
+        numbers_fit(checks, f"{where}, {track.name}", stream, track, TONE.units)
+        came = stream.reception
+        for part in came.packets[: sent[0]], came.packets[sent[0] :]:
+            late = sorted(came.late(part))
+            most = late[(len(late) - 1) * 99 // 100] if late else 0.0
+            checks.that(f"{where}, {track.name}: 99 % at most {AT_MOST_LATE} ms late", most <= AT_MOST_LATE, most)
+    notice_fits(checks, where, player, cseq)
+    player.tear_down()
+
+
+def side_by_side(checks: Checks, *parts: Callable[[], None]) -> None:
+    """Runs the parts of a test at once; one that stops is a difference."""
+
+    def kept(part: Callable[[], None]) -> None:
+        try:
+            part()
+        except Exception as why:
+            checks.that("a part of the test goes to its end", False, f"{type(why).__name__}: {why}")
+
+    threads = [threading.Thread(target=kept, args=(part,)) for part in parts]
+    for thread in threads:
+        thread.start()
+    for thread in threads:
+        thread.join()
+
+
+@serving_test(limit=40, is_timed=True)
+def two_players_at_once(checks: Checks) -> None:
+    """One over UDP and one over its connection, each with ten seconds of tone and a pause in them."""
+    with Server(checks) as server:
+        tasks = [lambda over=over: play_with_a_pause(checks, server, over) for over in (False, True)]
+        side_by_side(checks, *tasks)
+
+
+def samples_of(path: os.PathLike) -> List[List[int]]:
+    """The channels of a .wav."""
+    with wave.open(os.fspath(path), "rb") as wav:
+        samples = array.array("h", wav.readframes(wav.getnframes()))
+        if sys.byteorder == "big":
+            samples.byteswap()
+        return [list(samples[number :: wav.getnchannels()]) for number in range(wav.getnchannels())]
+
+
+@serving_test(limit=40, is_timed=True)
+def the_player_of_the_examples(checks: Checks) -> None:
+    """examples/play: the samples that it writes are the file's; a refusal is one line; ^C tears down."""
+    with Server(checks) as server:
+
+        def heard(*words: str) -> None:
+            out = server.path / f"{len(words)}.wav"
+            command = [EXAMPLES / "play", server.uri, "--from", "8.5", "--out", out, *words]
+            done = subprocess.run(command, capture_output=True, text=True, timeout=20)
+            where = f"play {' '.join(words)}"
+            checks.same(f"{where}: status and standard error", (0, ""), (done.returncode, done.stderr))
+            for name in "a", "b":
+                counted = rf"(?m)^track {name}: PCM[UA], 75 packets, 0 gaps, 0 repeats; late by .* ms"
+                checks.that(f"{where}: what it counts", re.search(counted, done.stdout) is not None, done.stdout)
+            wanted = []
+            for track in TONE.tracks:
+                octets = b"".join(map(track.unit, range(425, 500)))
+                wanted.append([SAMPLES[track.encoding][octet] for octet in octets])
+            checks.that(f"{where}: the samples are the file's", samples_of(out) == wanted)
+
+        side_by_side(checks, heard, lambda: heard("--tcp"), lambda: stopped(checks, server))
+        done = subprocess.run([EXAMPLES / "play", f"{server.uri}x"], capture_output=True, text=True, timeout=20)
+        came = done.returncode, done.stderr
+        checks.same("play of what isn't there", (1, "play: DESCRIBE was answered 404 Not Found\n"), came)
+        for words in (), ("x",), (server.uri, "--from", "x"), (server.uri, "--none"), (server.uri, server.uri):
+            done = subprocess.run([EXAMPLES / "play", *words], capture_output=True, text=True, timeout=20)
+            came = done.returncode, done.stdout, done.stderr.count("\n")
+            checks.same(f"play {' '.join(words)}: status 2 and one line", (2, "", 1), came)
+
+
+def stopped(checks: Checks, server: Server) -> None:
+    """A player that is stopped by ^C has counted, and its session is gone."""
+    pipes = {"stdout": subprocess.PIPE, "stderr": subprocess.PIPE, "text": True}
+    with subprocess.Popen([EXAMPLES / "play", server.uri], **pipes) as running:
+        first = running.stdout.readline()
+        checks.same("play: its first line", "playing 0.000 to 10.000 s over UDP; ^C ends it\n", first)
+        time.sleep(0.5)
+        running.send_signal(signal.SIGINT)
+        said, complaint = running.communicate(timeout=10)
+        checks.same("play, after ^C", (0, ""), (running.returncode, complaint))
+        checks.same("play, after ^C: it has counted", 2, len(re.findall(r"(?m)^track [ab]: .* 0 repeats", said)))
+
+
+@serving_test(limit=20)
+def pairs_that_others_hold(checks: Checks) -> None:
+    """A pair one port of which another process has is passed over; where all are taken, it is 503."""
+    with Server(checks, pairs=3) as server:
+        talk = server.connect()
+        with socket.socket(socket.AF_INET, socket.SOCK_DGRAM) as first, socket.socket(
+            socket.AF_INET, socket.SOCK_DGRAM
+        ) as second:
+            first.bind(("0.0.0.0", server.first_port))
+            second.bind(("0.0.0.0", server.first_port + 5))
+            granted = lease(talk, f"{server.uri}/a")
+            checks.same("the pair that is free", server.first_port + 2, granted.port if granted else None)
+            checks.same("no pair is left", None, lease(talk, f"{server.uri}/a"))
+        ports = [granted.port if granted else None for granted in (lease(talk, f"{server.uri}/a") for _ in range(2))]
+        checks.same("the others, once they are free", [server.first_port, server.first_port + 4], ports)
+        talk.close()
+
+
+@serving_test(limit=20, is_timed=True)
+def a_player_that_opens_its_port_late(checks: Checks) -> None:
+    """Packets to a port that nobody has are lost; from the first that is received on none is."""
+    with Server(checks) as server, socket.socket(socket.AF_INET, socket.SOCK_DGRAM) as late:
+        late.bind((HERE, 0))
+        port = late.getsockname()[1]
+        late.close()
+        talk = server.connect()
+        ports = ("Transport", f'RTP/AVP;unicast;dest_addr=":{port}"/":{port + 1 if port < 65535 else port - 1}"')
+        setup = talk.ask("SETUP", f"{server.uri}/a", [ports])
+        session = (setup.header("Session") or "").partition(";")[0]
+        played = talk.ask("PLAY", server.uri, [("Session", session)])
+        checks.same("PLAY", 200, played.status)
+        time.sleep(0.5)
+        ssrc = re.search(r"ssrc=([0-9a-f]{8})", setup.header("Transport") or "")
+        reception = Reception(int(ssrc[1], 16), 8000)
+        with socket.socket(socket.AF_INET, socket.SOCK_DGRAM) as open_at_last:
+            open_at_last.bind((HERE, port))
+            open_at_last.settimeout(1)
+            for _ in range(50):
+                reception.take(open_at_last.recv(2048), time.monotonic())
+        checks.same("50 packets side by side", runs(list(range(50))), runs(reception.places))
+        checks.that("the session lives", is_alive(talk, server.uri, session))
+        talk.close()
+
+
+LONG = Presentation("long", units=200_000, tracks=(Track("a", octets=1400),))
+
+
+@serving_test(limit=30, is_timed=True)
+def a_file_that_is_cut_short(checks: Checks) -> None:
+    """A file too large to be held in memory is cut while it plays: its packets stop, the server goes on."""
+    server = Server(checks, LONG)
+    # A file of zeros, which takes no room.
+    with open(server.path / "a.raw", "wb") as file:
+        file.truncate(LONG.units * 1400)
+    with server:
+        player = server.player(over_tcp=True)
+        stream = set_up_all(player)[0]
+        player.play(0.0)
+        came = stream.reception.packets
+        player.connection.wait(1.0)
+        before = len(came)
+        checks.that("it plays", before >= 40, before)
+        checks.that("the octets are the file's", {packet.payload for packet in came} == {bytes(1400)})
+        os.truncate(server.path / "a.raw", 0)
+        player.connection.wait(0.3)
+        stopped_at = len(came)
+        player.connection.wait(0.7)
+        checks.same("without its file nothing is sent", stopped_at, len(came))
+        server.answers("meanwhile it answers others")
+        checks.same("meanwhile it answers the player", 200, player.ask("GET_PARAMETER").status)
+        os.truncate(server.path / "a.raw", LONG.units * 1400)
+        player.connection.wait(1.0)
+        checks.that("with its file it goes on", len(came) >= stopped_at + 20, len(came) - stopped_at)
+        checks.same("PAUSE", 200, player.pause().status)
+        player.tear_down()

@@ -1,0 +1,150 @@
+"""Runs the tests side by side, each in a process of its own with a limit of time, some of them up to three times."""
+import os
+import pathlib
+import queue
+import resource
+import signal
+import subprocess
+import sys
+import threading
+import time
+from typing import Callable, Dict, List, NamedTuple, NoReturn, Set
+
+from checks import Checks, Failed, run
+
+# So many tests at once: more would disturb those that measure time.
+SIDE_BY_SIDE = 6
+# A test that measures time is tried so often before it fails, since the machine has other work.
+TRIES = 3
+
+
+class Test(NamedTuple):
+    """A test: what it does, in how many seconds it has to end, how often it is tried, whether it takes a minute."""
+
+    name: str
+    test: Callable[[Checks], None]
+    limit: int
+    tries: int
+    is_long: bool
+
+
+TESTS: Dict[str, Test] = {}
+# A test ends itself at its limit; one that doesn't is ended so many seconds later.
+GRACE = 10
+# The tests that are running, each the leader of a group of processes.
+running_tests: Set[int] = set()
+
+
+def serving_test(limit: int, is_timed: bool = False, is_long: bool = False):
+    """Marks a function as a test; its name is the test's."""
+
+    def marked(test: Callable[[Checks], None]) -> Callable[[Checks], None]:
+        TESTS[test.__name__] = Test(test.__name__, test, limit, TRIES if is_timed else 1, is_long)
+        return test
+
+    return marked
+
+
+class Outcome(NamedTuple):
+    """How a test ended: how often it was tried, the seconds of the last try, and what each try said."""
+
+    test: Test
+    has_passed: bool
+    tries: int
+    seconds: float
+    said: str
+
+
+def tried_once(script: pathlib.Path, test: Test, number: int) -> Outcome:
+    began = time.monotonic()
+    pipes = {"stdout": subprocess.PIPE, "stderr": subprocess.STDOUT, "stdin": subprocess.DEVNULL}
+    with subprocess.Popen([script, test.name], errors="replace", start_new_session=True, **pipes) as running:
+        running_tests.add(running.pid)
+        try:
+            said, _ = running.communicate(timeout=test.limit + GRACE)
+        except subprocess.TimeoutExpired:
+            # With it go the servers that it started.
+            os.killpg(running.pid, signal.SIGKILL)
+            said, _ = running.communicate()
+            said += f"{test.name} had to be killed\n"
+        running_tests.discard(running.pid)
+    return Outcome(test, running.returncode == 0, number, time.monotonic() - began, said)
+
+
+def tried(script: pathlib.Path, test: Test) -> Outcome:
+    """Runs a test until it passes or its tries are spent."""
+    outcome = tried_once(script, test, 1)
+    while not outcome.has_passed and outcome.tries < test.tries:
+        again = tried_once(script, test, outcome.tries + 1)
+        outcome = again._replace(said=outcome.said + again.said)
+    return outcome
+
+
+def work(script: pathlib.Path, waiting: "queue.Queue[Test]", outcomes: "queue.Queue[Outcome]") -> None:
+    while True:
+        try:
+            test = waiting.get_nowait()
+        except queue.Empty:
+            return
+        outcomes.put(tried(script, test))
+
+
+def tell(checks: Checks, outcome: Outcome) -> None:
+    tries = f", at try {outcome.tries}" if outcome.tries > 1 else ""
+    how = "passed" if outcome.has_passed else "FAILED"
+    print(f"{how} after {outcome.seconds:4.1f} s{tries}: {outcome.test.name}", flush=True)
+    if not checks.that(outcome.test.name, outcome.has_passed) or outcome.tries > 1:
+        print("".join(f"  {line}\n" for line in outcome.said.splitlines()), end="", flush=True)
+
+
+def run_all(script: pathlib.Path, checks: Checks) -> None:
+    """Runs all tests, the longest first; with RTSPD_FAST those that take no minute."""
+    chosen = [test for test in TESTS.values() if not (test.is_long and os.environ.get("RTSPD_FAST"))]
+    waiting: "queue.Queue[Test]" = queue.Queue()
+    outcomes: "queue.Queue[Outcome]" = queue.Queue()
+    for test in sorted(chosen, key=lambda it: -it.limit):
+        waiting.put(test)
+    threads: List[threading.Thread] = []
+    for _ in range(SIDE_BY_SIDE):
+        threads.append(threading.Thread(target=work, args=(script, waiting, outcomes), daemon=True))
+        threads[-1].start()
+    for _ in chosen:
+        tell(checks, outcomes.get())
+
+
+def run_one(test: Test) -> NoReturn:
+    """Runs one test in this process, and ends."""
+
+    def too_long(_number: int, _frame: object) -> NoReturn:
+        raise Failed(f"{test.name} had not ended after {test.limit} seconds")
+
+    signal.signal(signal.SIGALRM, too_long)
+    signal.alarm(test.limit)
+    _, hard = resource.getrlimit(resource.RLIMIT_NOFILE)
+    resource.setrlimit(resource.RLIMIT_NOFILE, (hard, hard))
+    checks = Checks("comparisons")
+    run(checks, lambda: test.test(checks))
+
+
+def stopped(number: int, _frame: object) -> NoReturn:
+    """Ends the tests that are running, and this."""
+    for group in list(running_tests):
+        os.killpg(group, signal.SIGKILL)
+    os._exit(128 + number)
+
+
+def main(script: pathlib.Path, words: List[str], need_program: Callable[[], None]) -> None:
+    if len(words) == 1 and words[0] in TESTS:
+        run_one(TESTS[words[0]])
+    if words:
+        print(f"serve: it takes no word, or the name of a test: {', '.join(TESTS)}", file=sys.stderr)
+        sys.exit(2)
+    checks = Checks("tests of the server")
+    for number in signal.SIGINT, signal.SIGTERM, signal.SIGHUP:
+        signal.signal(number, stopped)
+
+    def test() -> None:
+        need_program()
+        run_all(script, checks)
+
+    run(checks, test)

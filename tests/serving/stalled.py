@@ -1,0 +1,243 @@
+"""Players that don't read: what becomes of them, and that nobody else notices."""
+import multiprocessing
+import socket
+import threading
+import time
+from typing import List
+
+from checks import Checks
+from rtsp_client.connection import Refused
+from rtsp_client.messages import Message, Reader, written
+from rtsp_client.player import Player
+
+from .runner import serving_test
+from .server import Presentation, Server, Track, is_alive
+
+AT_MOST_LATE = 40.0
+# When a player that reads nothing has to be gone, in seconds after its PLAY.
+GONE_AFTER, GONE_BEFORE = 10.0, 13.0
+TONE_OF_A_MINUTE = Presentation(units=3000)
+# 1,400,000 bytes a second.
+LOUD = Presentation("loud", units=20_000, unit_ms=1, tracks=(Track("a", octets=1400, ticks=8),))
+MEGABYTES = 1 << 20
+
+
+def played(server: Server, receive_buffer: int) -> Player:
+    """A player over its connection that has just begun to play."""
+    player = server.player(over_tcp=True, receive_buffer=receive_buffer)
+    for track in player.describe():
+        player.set_up(track)
+    player.play(0.0)
+    return player
+
+
+def ended_at(server: Server, stalled: Player, before: int, began: float) -> float:
+    """After how many seconds the descriptor of the stalled connection was gone."""
+    while server.descriptors() >= before and time.monotonic() < began + GONE_BEFORE + 3:
+        time.sleep(0.05)
+    return time.monotonic() - began
+
+
+@serving_test(limit=45, is_timed=True)
+def a_player_that_never_reads(checks: Checks) -> None:
+    """It is gone after ten seconds, and its session; beside it another one hears every packet on time."""
+    with Server(checks, TONE_OF_A_MINUTE) as server:
+        reader = played(server, 1 << 18)
+        stalled = played(server, 4096)
+        began = time.monotonic()
+        before = server.descriptors()
+        listening = threading.Thread(target=lambda: reader.listen(GONE_BEFORE + 2))
+        listening.start()
+        seconds = ended_at(server, stalled, before, began)
+        is_right = GONE_AFTER <= seconds <= GONE_BEFORE
+        checks.that("the player that never reads is gone after 10 to 13 s", is_right, seconds)
+        time.sleep(0.5)
+        talk = server.connect()
+        checks.same("its session has ended", False, is_alive(talk, server.uri, stalled.session or ""))
+        talk.close()
+        listening.join()
+        for stream in reader.streams:
+            came = stream.reception
+            checks.that("the other one has played all the while", len(came.packets) >= 50 * (GONE_BEFORE + 1))
+            checks.same("the other one: gaps and repeats", (0, 0), (came.gaps, came.repeats))
+            late = came.lateness()
+            checks.that(f"the other one: 99 % at most {AT_MOST_LATE} ms late", late.most_of_99 <= AT_MOST_LATE, late)
+        reader.tear_down()
+        stalled.close()
+
+
+@serving_test(limit=30, is_timed=True)
+def a_player_that_pauses_its_reading(checks: Checks) -> None:
+    """What it missed are whole frames; each of its requests is answered."""
+    asked = 30
+    with Server(checks, LOUD) as server:
+        player = played(server, 1 << 16)
+        for _ in range(asked):
+            time.sleep(0.1)
+            player.connection.send("OPTIONS", "*")
+        connection = player.connection
+        first = connection.cseq - asked + 1
+        connection.wait(5.0, lambda: len(connection.answers) >= asked)
+        cseqs = [answer.cseq for answer in connection.answers]
+        checks.same("the answers", list(range(first, first + asked)), cseqs)
+        came = player.streams[0].reception
+        checks.that("frames were dropped", len(came.missing) > 0)
+        checks.same("no frame came twice", 0, came.repeats)
+        track = LOUD.tracks[0]
+        whole = all(packet.payload == track.unit(place) for place, packet in zip(came.places, came.packets))
+        checks.that("each frame is whole, and as the file has it", whole)
+        checks.same("datagrams that aren't its own", 0, came.strangers)
+        player.close()
+
+
+def send_all(talk: socket.socket, data: bytes) -> None:
+    try:
+        talk.sendall(data)
+    except OSError:
+        # What is answered is counted by whoever reads.
+        pass
+
+
+def asked_without_reading(talk: socket.socket, seconds: float) -> int:
+    """Asks as much as the server takes, and tells how many requests are under way."""
+    request = written("OPTIONS * RTSP/2.0", [("CSeq", "1")])
+    talk.setblocking(False)
+    until, sent = time.monotonic() + seconds, 0
+    block = request * 100
+    while time.monotonic() < until:
+        try:
+            sent += talk.send(block[sent % len(request) :])
+        except BlockingIOError:
+            time.sleep(0.001)
+    talk.setblocking(True)
+    # The request that is cut is sent to its end while answers are read.
+    rest = request[sent % len(request) :] if sent % len(request) else b""
+    threading.Thread(target=send_all, args=(talk, rest), daemon=True).start()
+    return (sent + len(rest)) // len(request)
+
+
+def answers_to(talk: socket.socket, count: int) -> int:
+    """How many answers of 200 come, of so many."""
+    talk.settimeout(5)
+    reader, came = Reader(), 0
+    while came < count:
+        try:
+            piece = talk.recv(1 << 20)
+        except (TimeoutError, ConnectionError):
+            break
+        if not piece:
+            break
+        came += sum(isinstance(item, Message) and item.status == 200 for item in reader.take(piece))
+    return came
+
+
+@serving_test(limit=45, is_timed=True)
+def one_that_asks_and_doesnt_read(checks: Checks) -> None:
+    """The server stops reading what it can't answer: its memory stays small, and later each request is answered."""
+    with Server(checks) as server:
+        server.answers("before")
+        before = server.resident_bytes()
+        talk = server.socket()
+        count = asked_without_reading(talk, 2.0)
+        grown = server.resident_bytes() - before
+        checks.that("it asked much", count > 1000, count)
+        checks.that("the server's memory grew by less than 4 MB", grown < 4 * MEGABYTES, grown)
+        server.answers("meanwhile it answers others")
+        checks.same("the answers", count, answers_to(talk, count))
+        talk.close()
+
+
+FLOODS = 8
+IN_ONE_FLOOD = 300
+
+
+def flood(server: Server) -> None:
+    """Asks without end, and reads what is answered."""
+    talk = server.socket()
+    block = written("OPTIONS * RTSP/2.0", [("CSeq", "1")]) * IN_ONE_FLOOD
+    reader = Reader()
+    while True:
+        talk.sendall(block)
+        left = IN_ONE_FLOOD
+        while left > 0:
+            left -= len(list(reader.take(talk.recv(1 << 16))))
+
+
+@serving_test(limit=30, is_timed=True)
+def one_that_floods(checks: Checks) -> None:
+    """Eight connections ask without end and read: a new one is answered soon."""
+    with Server(checks) as server:
+        floods = [multiprocessing.Process(target=flood, args=(server,), daemon=True) for _ in range(FLOODS)]
+        for process in floods:
+            process.start()
+        time.sleep(0.5)
+        took = []
+        for _ in range(40):
+            began = time.monotonic()
+            server.answers("a new connection")
+            took.append((time.monotonic() - began) * 1000)
+        checks.same("how many still flood", FLOODS, sum(process.is_alive() for process in floods))
+        for process in floods:
+            process.kill()
+            process.join()
+        middle = sorted(took)[len(took) // 2]
+        checks.that("half of the new connections are answered within 100 ms", middle <= 100, middle)
+
+
+@serving_test(limit=20)
+def a_reset_in_the_middle_of_an_answer(checks: Checks) -> None:
+    """Connections that are reset while they are answered, or play: nothing of them is left."""
+    with Server(checks) as server:
+        before = server.descriptors_at_rest()
+        block = written("OPTIONS * RTSP/2.0", [("CSeq", "1")]) * 2000
+        for number in range(40):
+            talk = server.socket()
+            talk.sendall(block)
+            talk.recv(10 + number)
+            talk.setsockopt(socket.SOL_SOCKET, socket.SO_LINGER, b"\1\0\0\0\0\0\0\0")
+            talk.close()
+        sessions = []
+        for _ in range(8):
+            player = played(server, 1 << 16)
+            sessions.append(player.session or "")
+            player.connection.socket.setsockopt(socket.SOL_SOCKET, socket.SO_LINGER, b"\1\0\0\0\0\0\0\0")
+            player.close()
+        checks.same("the descriptors afterwards", before, server.descriptors_fall_to(before, 5.0))
+        talk = server.connect()
+        checks.same("sessions that live", [], [it for it in sessions if is_alive(talk, server.uri, it)])
+        talk.close()
+        player = played(server, 1 << 16)
+        checks.that("a new player plays", len(player.streams) == 2)
+        try:
+            player.tear_down()
+        except Refused as why:
+            checks.that("a new player tears down", False, why)
+
+
+@serving_test(limit=20)
+def one_that_half_closes(checks: Checks) -> None:
+    """After 1,000 requests it says that it sends no more: each is answered, also where it plays."""
+    with Server(checks) as server:
+        for plays in False, True:
+            where = "while it plays" if plays else "with requests alone"
+            player = played(server, 1 << 16) if plays else None
+            talk = player.connection.socket if player else server.socket()
+            requests = (written("OPTIONS * RTSP/2.0", [("CSeq", str(number))]) for number in range(5001, 6001))
+            talk.sendall(b"".join(requests))
+            talk.shutdown(socket.SHUT_WR)
+            talk.settimeout(5)
+            reader = player.connection.reader if player else Reader()
+            came: List[int] = []
+            while True:
+                piece = talk.recv(1 << 16)
+                items = [it for it in reader.take(piece) if isinstance(it, Message)]
+                came += [it.cseq for it in items if it.status == 200 and (it.cseq or 0) > 5000]
+                if not piece:
+                    break
+            checks.same(f"{where}: the answers", list(range(5001, 6001)), came)
+            checks.same(f"{where}: what is left at the end", b"", bytes(reader.held))
+            talk.close()
+            if player:
+                other = server.connect()
+                checks.same("its session has ended", False, is_alive(other, server.uri, player.session or ""))
+                other.close()
