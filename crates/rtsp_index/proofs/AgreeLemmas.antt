@@ -27,6 +27,7 @@ use Rattle.rtsp_index.specs.Named.{AreNamesOf}
 use Rattle.rtsp_index.specs.Counted.{AreCountsOf}
 use Rattle.rtsp_index.specs.declared.parts.Parts.{Parts}
 use Rattle.rtsp_index.specs.Agreeing.{Agree, HasRoomFor}
+use Rattle.rtsp_index.proofs.TableLemmas.{less_room}
 
 -- a record that is allowed where all parts agree
 pub follows : (w : Whole) (b : Book) (pools : Pools) (names : Names) (counts : Counts) (r : Record) → Agree w b pools names counts → Allowed w b r → Follows w b r
@@ -40,10 +41,10 @@ pub fits : (w : Whole) (b : Book) (r : Record) → Sound w b → Allowed w b r �
 fits w b r ok h = (all_fit w b (r ∷ []) ok (h, tt)).0
 
 -- the parts after memory was taken
-pub reserved : (w : Whole) (b c : Book) (pools more : Pools) (names next : Names) (counts : Counts) → Agree w b pools names counts → c ≡ b → more.pairs.whole ≡ pools.pairs.whole
-    → ((b : Book) → ArePoolsOf b pools → ArePoolsOf b more) → ((b : Book) → AreNamesOf b names → AreNamesOf b next) → Agree w c more next counts
-reserved w b c pools more names next counts ok same whole keeps finds =
-    subst (λ c. Agree w c more next counts) (sym same)
+pub reserved : (w : Whole) (b c : Book) (pools more : Pools) (names next : Names) (counts now : Counts) → Agree w b pools names counts → c ≡ b → more.pairs.whole ≡ pools.pairs.whole
+    → ((b : Book) → ArePoolsOf b pools → ArePoolsOf b more) → ((b : Book) → AreNamesOf b names → AreNamesOf b next) → ((b : Book) → AreCountsOf b counts → AreCountsOf b now) → Agree w c more next now
+reserved w b c pools more names next counts now ok same whole keeps finds counted =
+    subst (λ c. Agree w c more next now) (sym same)
     (record {
       sound = ok.sound;
       ports = ok.ports;
@@ -51,7 +52,7 @@ reserved w b c pools more names next counts ok same whole keeps finds =
       whole = whole ∙ ok.whole;
       pools = keeps b ok.pools;
       names = finds b ok.names;
-      counts = ok.counts;
+      counts = counted b ok.counts;
     })
 
 -- the parts after a record
@@ -164,8 +165,12 @@ room_next p cs k r lt is room =
 pub room_now : (p : Parts) (i j k x y z : ℕ) → HasRoomFor p (i + x) (j + y) (k + z) → HasRoomFor p x y z
 room_now p i j k x y z room =
     record {
-      rows = (omega (arith, room.rows.0), omega (arith, room.rows.1));
+      rows = less_room p.sessions x i (subst (λ n. HasRoom p.sessions n) (sum_of i x) room.rows);
       ids = omega (arith, room.ids);
       startups = omega (arith, room.startups);
       chans = omega (arith, room.chans);
+      bindings = omega (arith, room.bindings);
     }
+  where
+    sum_of : (n m : ℕ) → n + m ≡ m + n
+    sum_of n m = omega arith

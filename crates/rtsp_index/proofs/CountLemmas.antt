@@ -1,20 +1,26 @@
 -- Counts follow the records of a book.
-use Rattle.std.proofs.Common.{◌≡◌, ◌+◌, ◌^◌, ◌<◌, refl, sym, ◌∙◌, ap, subst, arith}
+use Rattle.std.proofs.Common.{◌≡◌, ◌==◌, ℕ, ◌+◌, ◌-◌, ◌^◌, ◌<◌, ◌≤◌, List, [], ◌∷◌, refl, sym, ◌∙◌, ap, subst, arith}
+use Rattle.std.specs.Prelude.{Option, Some, None, sum_by}
 use Rattle.std.specs.FinMap.{entries, entries_sorted, get-entries}
+use Rattle.std.proofs.lemmas.List.Sums.{sum_by-cons}
 use Rattle.rtsp_record.specs.declared.holdings.Whole.{Whole}
+use Rattle.rtsp_record.specs.declared.holdings.Admission.{Admission}
+use Rattle.rtsp_record.specs.declared.payloads.Binding.{Binding}
 use Rattle.rtsp_record.specs.declared.changes.Record.{Record}
 use Rattle.rtsp_record.specs.declared.changes.Record.TheVariants.{Open, Close, Hold, Free, Add, Drop, Move, Touch, Bind, Unbind}
 use Rattle.rtsp_record.specs.Records.{inverse_of}
-use Rattle.rtsp_record.specs.Books.{Book, after}
-use Rattle.rtsp_record.specs.Sums.{one_if, sessions, returns, living, owed}
+use Rattle.rtsp_record.specs.Books.{Session, Book, after}
+use Rattle.rtsp_record.specs.Sums.{one_if, if_there, of_session, amount, sessions, returns, living, owed}
 use Rattle.rtsp_record.specs.Sound.{Sound}
 use Rattle.rtsp_record.proofs.Tables.{same_table}
+use Rattle.rtsp_record.proofs.Sound.{at_most_one}
 use Rattle.rtsp_record.proofs.Balance.{gain, balance}
 use Rattle.rtsp_sessions.specs.Plain.{table_of, is_open}
 use Rattle.rtsp_sessions.proofs.SortedRows.{told, get_from}
 use Rattle.rtsp_sessions.proofs.FitLemmas.{owed_few}
 use Rattle.rtsp_index.specs.Following.{Follows}
 use Rattle.rtsp_index.specs.Counting.{brought}
+use Rattle.rtsp_index.specs.Bound.{bindings_of}
 
 opens_gain : (r : Record) → gain sessions r ≡ one_if (is_open r)
 opens_gain (Open k) = refl
@@ -56,3 +62,51 @@ living_small w b r f small = omega (arith, f.sound.few, small)
 pub owed_small : (w : Whole) (b : Book) (r : Record) → Follows w b r → w.sessions < 2 ^ 16 → owed b < 2 ^ 32
 owed_small w b r f small =
     omega (arith, small, ap owed (table_back b), owed_few w (entries b) (told _ (entries_sorted b)) (subst (Sound w) (sym (table_back b)) f.sound))
+
+pub bound_after : (w : Whole) (b : Book) (r : Record) (c : ℕ) → Follows w b r → amount (bindings_of c) (after b r) + gain (bindings_of c) (inverse_of r) ≡ amount (bindings_of c) b + gain (bindings_of c) r
+bound_after w b r c f = balance (bindings_of c) b r f.allowed.0
+
+-- no more are bound to a connection than live
+one_bound : (c : ℕ) (o : Option (ℕ × ℕ)) → if_there (bindings_of c).binding o ≤ if_there (λ _. 1) o
+one_bound c None = omega arith
+one_bound c (Some k) = at_most_one (k.0 == c)
+
+no_more_bound : (c : ℕ) (es : List (ℕ × Session)) → sum_by (λ e. of_session (bindings_of c) e.1) es ≤ sum_by (λ e. of_session returns e.1) es
+no_more_bound c [] = omega arith
+no_more_bound c (e ∷ es) =
+    omega (arith, no_more_bound c es, sum_by-cons (λ (e : ℕ × Session). of_session (bindings_of c) e.1) e es, sum_by-cons (λ (e : ℕ × Session). of_session returns e.1) e es, one_bound c e.1.binding, no_part (entries e.1.admissions))
+  where
+    nought : {X : Type 0} (o : Option X) → if_there (λ _. 0) o ≡ 0
+    nought None = refl
+    nought (Some x) = refl
+
+    no_part : (es : List (ℕ × Admission)) → sum_by (λ e. if_there (λ _. 0) e.1.rate + if_there (λ _. 0) e.1.address + if_there (λ _. 0) e.1.stream) es ≡ 0
+    no_part [] = refl
+    no_part (e ∷ es) = omega (arith, no_part es, sum_by-cons (λ (e : ℕ × Admission). if_there (λ _. 0) e.1.rate + if_there (λ _. 0) e.1.address + if_there (λ _. 0) e.1.stream) e es, nought e.1.rate, nought e.1.address, nought e.1.stream)
+
+pub bound_small : (w : Whole) (b : Book) (r : Record) (c : ℕ) → Follows w b r → w.sessions < 2 ^ 16 → amount (bindings_of c) b < 2 ^ 32 - 1
+bound_small w b r c f small =
+    omega (arith, small, no_more_bound c (entries b), ap owed (table_back b), owed_few w (entries b) (told _ (entries_sorted b)) (subst (Sound w) (sym (table_back b)) f.sound))
+
+-- a Bind is one more on its connection, an Unbind one less, and another record none
+pub bound_by : (w : Whole) (b : Book) (r : Record) (k : Binding) → r ≡ Bind k → Follows w b r → (c : ℕ) → amount (bindings_of c) (after b r) ≡ amount (bindings_of c) b + one_if (k.conn == c)
+bound_by w b r k is =
+    subst (λ r. Follows w b r → (c : ℕ) → amount (bindings_of c) (after b r) ≡ amount (bindings_of c) b + one_if (k.conn == c)) (sym is)
+    (λ f c. omega (arith, bound_after w b (Bind k) c f))
+
+pub unbound_by : (w : Whole) (b : Book) (r : Record) (k : Binding) → r ≡ Unbind k → Follows w b r → (c : ℕ) → amount (bindings_of c) (after b r) + one_if (k.conn == c) ≡ amount (bindings_of c) b
+unbound_by w b r k is =
+    subst (λ r. Follows w b r → (c : ℕ) → amount (bindings_of c) (after b r) + one_if (k.conn == c) ≡ amount (bindings_of c) b) (sym is)
+    (λ f c. omega (arith, bound_after w b (Unbind k) c f))
+
+pub bound_still : (w : Whole) (b : Book) (r : Record) → ((k : Binding) → r ≡ Bind k → ⊥) → ((k : Binding) → r ≡ Unbind k → ⊥) → Follows w b r → (c : ℕ) → amount (bindings_of c) (after b r) ≡ amount (bindings_of c) b
+bound_still w b (Open k) h g f c = omega (arith, bound_after w b (Open k) c f)
+bound_still w b (Close k) h g f c = omega (arith, bound_after w b (Close k) c f)
+bound_still w b (Hold k) h g f c = omega (arith, bound_after w b (Hold k) c f)
+bound_still w b (Free k) h g f c = omega (arith, bound_after w b (Free k) c f)
+bound_still w b (Add k) h g f c = omega (arith, bound_after w b (Add k) c f)
+bound_still w b (Drop k) h g f c = omega (arith, bound_after w b (Drop k) c f)
+bound_still w b (Move k) h g f c = omega (arith, bound_after w b (Move k) c f)
+bound_still w b (Touch k) h g f c = omega (arith, bound_after w b (Touch k) c f)
+bound_still w b (Bind k) h g f c = absurd (h k refl)
+bound_still w b (Unbind k) h g f c = absurd (g k refl)

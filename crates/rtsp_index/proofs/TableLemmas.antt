@@ -1,7 +1,7 @@
 -- A table of sessions as a book: what it has at a number, and what one change of it makes.
 use Rattle.std.proofs.Common.{◌≡◌, ◌≢◌, ℕ, zero, suc, ◌+◌, ◌<◌, Bool, true, false, cond, List, [], ◌∷◌, length, refl, sym, ◌∙◌, ap, subst, inl, inr, arith}
-use Rattle.std.specs.Prelude.{Option, Some, None, Result, Ok, Err, OnOk, IsOk, option_map, option_and_then, nat_eq, slice_get, IsSome}
-use Rattle.std.specs.FinMap.{get}
+use Rattle.std.specs.Prelude.{Option, Some, None, Result, Ok, Err, OnOk, IsOk, option_map, option_and_then, nat_eq, nat_le, slice_get, IsSome, ◌≤◌}
+use Rattle.std.specs.FinMap.{get, entries}
 use Rattle.std.specs.Map.{lookup}
 use Rattle.std.proofs.lemmas.Bool.{cases_eq}
 use Rattle.std.proofs.lemmas.Map.Entries.{place_from_lookup}
@@ -10,11 +10,15 @@ use Rattle.slab.specs.Slab.{Slab, Updates, get as row_in}
 use Rattle.rtsp_record.specs.Tables.{set}
 use Rattle.rtsp_record.specs.Books.{Session, Book}
 use Rattle.rtsp_record.proofs.Tables.{tied, same_table, get-set, get-set_own, get-set_else, get-none}
-use Rattle.rtsp_sessions.specs.Lookups.{session_at}
+use Rattle.rtsp_sessions.specs.Lookups.{session_at, expired_in}
+use Rattle.rtsp_sessions.specs.Searches.{is_expired}
 use Rattle.rtsp_index.specs.declared.table.SessionTable.{SessionTable}
+use Rattle.rtsp_index.specs.declared.moments.Moments.{Moments}
+use Rattle.rtsp_index.specs.Dating.{moment_at, AreDated}
 use Rattle.rtsp_index.specs.Contents.{HasRoom}
 use Rattle.rtsp_index.specs.Searching.{Passes}
 use Rattle.rtsp_index.specs.Placing.{row_at, number_at, gathered, IsPlaced}
+use Rattle.rtsp_index.proofs.SearchLemmas.{least_number}
 
 tied_is : (q k : ℕ) → tied q k ≡ nat_eq q k
 tied_is q k = grind (arith, nat_tests)
@@ -162,20 +166,26 @@ none_is (Some x) h is = absurd cc
 
 -- room for more is room for less
 pub less_room : (t : SessionTable) (n m : ℕ) → HasRoom t (n + m) → HasRoom t n
-less_room t n m h = (omega (arith, h.0), omega (arith, h.1))
+less_room t n m h = (omega (arith, h.0), omega (arith, h.1), λ some. h.2 (omega (arith, some)))
 
--- the session of a row passes, or doesn't
-pub passing : (p : ℕ × Session → Bool) (b : Book) (s : ℕ) (v : ℕ × Session) → get b s ≡ Some v.1 → v.0 ≡ s → p v ≡ true → Passes p b s
-passing p b s v at number on = (v.1, at, ap p (λ t. (sym number t, v.1)) ∙ on)
+-- the session of a place lives
+pub lives : (es : List (ℕ × ℕ)) (rows : Slab (ℕ × Session)) (s k : ℕ) → IsPlaced (λ q. lookup (nat_eq q) es) rows → lookup (nat_eq s) es ≡ Some k
+    → (f : Session) × (get (gathered rows es) s ≡ Some f) × (row_in rows k ≡ Some (s, f))
+lives es rows s k placed at =
+    let row = numbered (row_in rows k) s (placed s k at) in
+    (row.0, at_place rows es s ∙ ap (option_and_then (row_at rows)) at ∙ ap (option_map (λ (v : ℕ × Session). v.1)) row.1, row.1)
 
-pub not_passing : (p : ℕ × Session → Bool) (b : Book) (s : ℕ) (v : ℕ × Session) → get b s ≡ Some v.1 → v.0 ≡ s → p v ≡ false → Passes p b s → ⊥
-not_passing p b s v at number off h =
-    let same : h.0 ≡ v.1 = some_session h.0 v.1 (sym h.1 ∙ at) in
-    differs (p v) off (ap p (λ t. (number t, sym same t)) ∙ h.2)
+-- two sessions of one number are one
+pub same_session : (o : Option Session) (f g : Session) → o ≡ Some f → o ≡ Some g → f ≡ g
+same_session o f g one two = some_is f g (sym one ∙ two)
   where
-    some_session : (f g : Session) → ◌≡◌ {A = Option Session} (Some f) (Some g) → f ≡ g
-    some_session f g h = cc
+    some_is : (f g : Session) → ◌≡◌ {A = Option Session} (Some f) (Some g) → f ≡ g
+    some_is f g h = cc
 
+-- what a test says of the session of a number
+pub told_apart : (p : ℕ × Session → Bool) (b : Book) (s : ℕ) (t : Bool) → ((f : Session) → get b s ≡ Some f → t ≡ p (s, f)) → t ≡ false → Passes p b s → ⊥
+told_apart p b s t is off h = differs (p (s, h.0)) (sym (is h.0 h.1) ∙ off) h.2
+  where
     differs : (t : Bool) → t ≡ false → t ≡ true → ⊥
     differs t off on = let bad = sym off ∙ on in absurd cc
 
@@ -200,3 +210,73 @@ has_entry es rows s f is =
     within [] j e h = absurd cc
     within (d ∷ es) zero e h = omega arith
     within (d ∷ es) (suc j) e h = omega (arith, within es j e h)
+
+-- Rows and the moments of their places.
+
+pub same_row_of : (v w : ℕ × Session) → ◌≡◌ {A = Option (ℕ × Session)} (Some v) (Some w) → v ≡ w
+same_row_of v w h = cc
+
+-- a row is written at a place, and its expiry
+pub dated_with : (rows more : Slab (ℕ × Session)) (m next : Moments) (k : ℕ) (v : ℕ × Session) → AreDated rows m → Updates rows more k (Some v) → k < m.places → next.places ≡ m.places
+    → moment_at next k ≡ v.1.expires → ((p : ℕ) → p ≢ k → moment_at next p ≡ moment_at m p) → AreDated more next
+dated_with rows more m next k v dated up within places here others j w at =
+    elim (cases_eq j k) [
+      | inl same ↦
+          let is : v ≡ w = same_row_of v w (sym up.changed ∙ ap (row_in more) (sym same) ∙ at) in
+          (omega (arith, same, places, within), ap (moment_at next) same ∙ here ∙ ap (λ (v : ℕ × Session). v.1.expires) is)
+      | inr apart ↦
+          let was = dated j w (sym (up.others j apart) ∙ at) in
+          (omega (arith, was.0, places), others j apart ∙ was.1)
+    ]
+
+-- the row of a place is taken out
+pub dated_without : (rows more : Slab (ℕ × Session)) (m next : Moments) (k : ℕ) → AreDated rows m → Updates rows more k None → next.places ≡ m.places
+    → ((p : ℕ) → p ≢ k → moment_at next p ≡ moment_at m p) → AreDated more next
+dated_without rows more m next k dated up places others j w at =
+    elim (cases_eq j k) [
+      | inl same ↦ absurd (gone (row_in more k) up.changed (ap (row_in more) (sym same) ∙ at))
+      | inr apart ↦
+          let was = dated j w (sym (up.others j apart) ∙ at) in
+          (omega (arith, was.0, places), others j apart ∙ was.1)
+    ]
+  where
+    gone : (o : Option (ℕ × Session)) → o ≡ None → o ≡ Some w → ⊥
+    gone o none some = let bad = sym none ∙ some in absurd cc
+
+-- the same rows, with more places
+pub dated_wider : (rows more : Slab (ℕ × Session)) (m next : Moments) → AreDated rows m → ((k : ℕ) → row_in more k ≡ row_in rows k) → m.places ≤ next.places
+    → ((p : ℕ) → p < m.places → moment_at next p ≡ moment_at m p) → AreDated more next
+dated_wider rows more m next dated same wide kept j w at =
+    let was = dated j w (sym (same j) ∙ at) in
+    (omega (arith, was.0, wide), kept j was.0 ∙ was.1)
+
+-- the expiry of a living session stands at a place
+date_of : (es : List (ℕ × ℕ)) (rows : Slab (ℕ × Session)) (m : Moments) (s : ℕ) (f : Session) → AreDated rows m → get (gathered rows es) s ≡ Some f → (k : ℕ) × (k < m.places) × (moment_at m k ≡ f.expires)
+date_of es rows m s f dated at =
+    elim (lookup (nat_eq s) es) as (λ o. option_and_then (row_at rows) o ≡ Some f → (k : ℕ) × (k < m.places) × (moment_at m k ≡ f.expires)) [
+      | None ↦ λ bad. absurd cc
+      | Some k ↦ λ is.
+          elim (row_in rows k) as (λ o. row_in rows k ≡ o → option_map (λ (v : ℕ × Session). v.1) o ≡ Some f → (k : ℕ) × (k < m.places) × (moment_at m k ≡ f.expires)) [
+            | None ↦ λ _ bad. absurd cc
+            | Some v ↦ λ row is.
+                let date = dated k v row in
+                (k, date.0, date.1 ∙ ap (λ (f : Session). f.expires) (session_is v.1 f is))
+          ] refl is
+    ] (sym (at_place rows es s) ∙ at)
+  where
+    session_is : (f g : Session) → ◌≡◌ {A = Option Session} (Some f) (Some g) → f ≡ g
+    session_is f g h = cc
+
+-- no session has expired before the least moment
+pub none_due : (es : List (ℕ × ℕ)) (rows : Slab (ℕ × Session)) (m : Moments) (moment least : ℕ) → AreDated rows m → ((p : ℕ) → p < m.places → least ≤ moment_at m p) → moment < least
+    → None ≡ expired_in moment (entries (gathered rows es))
+none_due es rows m moment least dated below early =
+    least_number (gathered rows es) (is_expired moment) None tt (λ s h. late s h.0 h.1 h.2)
+  where
+    is_late : (n k : ℕ) → nat_le n k ≡ true → n ≤ k
+    is_late n k h = grind (arith, nat_tests)
+
+    late : (s : ℕ) (f : Session) → get (gathered rows es) s ≡ Some f → nat_le f.expires moment ≡ true → ⊥
+    late s f at on =
+        let date = date_of es rows m s f dated at in
+        absurd (omega (arith, below date.0 date.1, date.2, early, is_late f.expires moment on))

@@ -1,15 +1,19 @@
 -- Parts that speak of one book.
-use Rattle.std.specs.Prelude.{◌≡◌, ℕ, ◌^◌, ◌<◌, ◌≤◌}
+use Rattle.std.specs.Prelude.{◌≡◌, ℕ, ◌+◌, ◌^◌, ◌<◌, ◌≤◌}
 use Rattle.indexmap.specs.IndexMap.{spare}
 use Rattle.rtsp_record.specs.declared.holdings.Whole.{Whole}
 use Rattle.rtsp_record.specs.Books.{Book}
+use Rattle.rtsp_record.specs.declared.changes.Record.{Record}
+use Rattle.rtsp_record.specs.Sums.{one_if}
 use Rattle.rtsp_record.specs.Sound.{Sound}
 use Rattle.rtsp_record.specs.Choices.{HasPorts}
+use Rattle.rtsp_sessions.specs.Plain.{is_open}
 use Rattle.rtsp_index.specs.declared.counts.Counts.{Counts}
 use Rattle.rtsp_index.specs.declared.names.Names.{Names}
 use Rattle.rtsp_index.specs.declared.pools.Pools.{Pools}
 use Rattle.rtsp_index.specs.declared.parts.Parts.{Parts}
 use Rattle.rtsp_index.specs.Contents.{sessions_in, HasRoom}
+use Rattle.rtsp_index.specs.Following.{is_bind, is_chan_hold}
 use Rattle.rtsp_index.specs.Pooling.{ArePoolsOf}
 use Rattle.rtsp_index.specs.Named.{AreNamesOf}
 use Rattle.rtsp_index.specs.Counted.{AreCountsOf}
@@ -38,3 +42,8 @@ pub record HasRoomFor (p : Parts) (opens binds holds : ℕ) : Type 0 where
   pub ids : opens ≤ spare p.names.ids
   pub startups : binds ≤ spare p.names.startups
   pub chans : holds ≤ spare p.pools.chans.held
+  pub bindings : binds ≤ spare p.counts.bindings.counts
+
+-- there is room for so much more beside the record
+abbrev pub HasRoomBeside : Parts → Record → ℕ → ℕ → ℕ → Type 0
+HasRoomBeside p r opens binds holds = HasRoomFor p (opens + one_if (is_open r)) (binds + one_if (is_bind r)) (holds + one_if (is_chan_hold r))

@@ -1,9 +1,12 @@
 pub mod Placing
 pub mod Searching
+pub mod Lessers
+pub mod Dating
 pub mod Contents
 pub mod Following
 pub mod Pooling
 pub mod Counting
+pub mod Bound
 pub mod Counted
 pub mod Naming
 pub mod Named

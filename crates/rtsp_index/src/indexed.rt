@@ -11,8 +11,11 @@ use std::alloc::{AllocError, Global};
 use std::marker::Model;
 
 /// A book with indexes. A record, and a look-up by number, id or startup number, cost the same
-/// however many sessions live, and so do the choices and sums. `next_session`, `due` and `on_conn`
-/// look at all sessions.
+/// however many sessions live, and so do the choices and sums; of a record that opens or closes a
+/// session or moves its expiry, a part grows with the logarithm of their number. `due` and `on_conn`
+/// cost the same where they answer `None`. Where they find a session, and in `next_session`, all
+/// sessions are gone through: by their numbers and expiries alone, but for `on_conn`, which reads
+/// each row.
 #[derive(Drop)]
 pub struct IndexedBook {
     parts: Parts,
@@ -105,11 +108,11 @@ impl BookRep for IndexedBook {
     }
 
     fn due(&self, now: u64) -> Option<u64> {
-        self.parts().sessions.least(&Search::Expired(now))
+        self.parts().sessions.due(now)
     }
 
     fn on_conn(&self, conn: u64) -> Option<u64> {
-        self.parts().sessions.least(&Search::OnConn(conn))
+        self.parts().on_conn(conn)
     }
 
     fn owed(&self) -> usize {

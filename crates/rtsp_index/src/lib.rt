@@ -1,15 +1,17 @@
 //! A book of sessions with indexes, in which a record, a look-up or a choice costs the same however
 //! many sessions live.
 //!
-//! The definitions of `specs/` read in this order: Placing and Contents (the table of sessions),
-//! Searching (what sessions are searched by), Following (a record after a book), Pooling (what is
-//! free), Counting and Counted (what is counted), Naming and Named (what sessions are found by),
-//! Agreeing (parts that speak of one book).
+//! The definitions of `specs/` read in this order: Placing, Lessers, Dating and Contents (the table
+//! of sessions with their expiries), Searching (what sessions are searched by), Following (a record
+//! after a book), Pooling (what is free), Counting, Bound and Counted (what is counted), Naming and
+//! Named (what sessions are found by), Agreeing (parts that speak of one book).
 
 #![tactic(auto)]
 
+mod bindings;
 mod counts;
 mod indexed;
+mod moments;
 mod names;
 mod parts;
 mod pools;
@@ -17,6 +19,3 @@ mod search;
 mod table;
 
 pub use indexed::IndexedBook;
-
-#[cfg(test)]
-mod tests;

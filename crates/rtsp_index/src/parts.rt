@@ -1,19 +1,20 @@
 //! The parts of an indexed book, and how they change together.
 
 ghost use Rattle.std.specs.Prelude.{◌≡◌, ◌+◌, ◌<◌, ◌≤◌, ◌↔◌, ℕ, IsTrue, IsOk, IfOk, OnOk, count_by};
-ghost use Rattle.std.specs.FinMap.{empty};
+ghost use Rattle.std.specs.FinMap.{empty, entries};
 ghost use Rattle.indexmap.specs.IndexMap.{spare};
 ghost use Rattle.rtsp_record.specs.Books.{after, after_all};
 ghost use Rattle.rtsp_record.specs.Sums.{one_if, amount, sessions, with_id, bindings};
 ghost use Rattle.rtsp_record.specs.Rules.{Others, MayOpen, Allowed, AllAllowed};
 ghost use Rattle.rtsp_record.specs.Choices.{HasPorts};
-ghost use Rattle.rtsp_sessions.specs.Lookups.{TakesNoMemory};
+ghost use Rattle.rtsp_sessions.specs.Lookups.{TakesNoMemory, on_conn_in};
 ghost use Rattle.rtsp_sessions.specs.Plain.{is_open};
 ghost use Rattle.rtsp_index.specs.Following.{is_bind, is_chan_hold};
 
 use crate::counts::Counts;
 use crate::names::Names;
 use crate::pools::Pools;
+use crate::search::Search;
 use crate::table::SessionTable;
 use rtsp_record::{Record, Thing, Whole};
 use rtsp_sessions::owns;
@@ -67,7 +68,7 @@ fn chan_holds(changes: &[Record]) -> usize
 }
 
 impl Parts {
-    ghost use Rattle.rtsp_index.specs.Agreeing.{book_in, AllAgree, HasRoomFor};
+    ghost use Rattle.rtsp_index.specs.Agreeing.{book_in, AllAgree, HasRoomFor, HasRoomBeside};
     ghost use Rattle.rtsp_index.specs.Contents.{HasRoom};
 
     /// The parts of the book of no session.
@@ -84,7 +85,7 @@ impl Parts {
             sessions: SessionTable::new(alloc),
             pools,
             names: Names::new(alloc),
-            counts: Counts::new(),
+            counts: Counts::new(alloc),
         })
     }
 
@@ -112,7 +113,8 @@ impl Parts {
         self.pools.reserve(chan_holds(changes))
     }
 
-    // Takes memory for the ids and startup numbers that the records give.
+    // Takes memory for the ids and startup numbers that the records give, and for the connections
+    // that they bind to.
     fn reserve_names(&mut self, changes: &[Record]) -> Result<(), AllocError>
         requires { AllAgree self.old }
         ensures agree { AllAgree self.new }
@@ -121,9 +123,12 @@ impl Parts {
         ensures pools { self.new.pools ≡ self.old.pools }
         ensures ids { OnOk result (count_by is_open changes.now ≤ spare self.new.names.ids) }
         ensures startups { OnOk result (count_by is_bind changes.now ≤ spare self.new.names.startups) }
+        ensures bindings { OnOk result (count_by is_bind changes.now ≤ spare self.new.counts.bindings.counts) }
         ensures gives { TakesNoMemory changes.now → IsOk result }
     {
-        self.names.reserve(openings(changes), binds(changes))
+        let bound = binds(changes);
+        self.names.reserve(openings(changes), bound)?;
+        self.counts.reserve(bound)
     }
 
     /// Takes all memory that the records want.
@@ -149,7 +154,7 @@ impl Parts {
         ensures agree { AllAgree self.new }
         ensures whole { self.new.whole ≡ self.old.whole }
         ensures book { book_in self.new ≡ after (book_in self.old) change.now }
-        ensures room { (i j k : ℕ) → HasRoomFor self.old (i + one_if (is_open change.now)) (j + one_if (is_bind change.now)) (k + one_if (is_chan_hold change.now)) → HasRoomFor self.new i j k }
+        ensures room { (i j k : ℕ) → HasRoomBeside self.old change.now i j k → HasRoomFor self.new i j k }
     {
         self.pools.follow(change);
         self.names.follow(change);
@@ -222,5 +227,17 @@ impl Parts {
         ensures { IsTrue result ↔ Allowed self.now.whole (book_in self.now) change.now }
     {
         owns(self.sessions.get(change.session()), change) && self.others_allow(change)
+    }
+
+    /// The least number of a session that holds channels of the connection or is bound to it. None
+    /// at once where there is no such session; else it looks at all.
+    pub(crate) fn on_conn(&self, conn: u64) -> Option<u64>
+        requires { AllAgree self.now }
+        ensures { result ≡ on_conn_in conn (entries (book_in self.now)) }
+    {
+        if !self.pools.has_channels(conn) && !self.counts.has_bound(conn) {
+            return None;
+        }
+        self.sessions.least(&Search::OnConn(conn))
     }
 }

@@ -1,12 +1,12 @@
 //! What is free of a whole: pairs of ports, channels, and bits of the uplink.
 
-ghost use Rattle.std.specs.Prelude.{◌≡◌, ◌+◌, ◌≤◌, ◌↔◌, ℕ, IfOk, OnOk, IsOk, IsTrue};
+ghost use Rattle.std.specs.Prelude.{◌≡◌, ◌+◌, ◌≤◌, ◌↔◌, ℕ, true, false, IfOk, OnOk, IsOk, IsTrue};
 ghost use Rattle.std.specs.FinMap.{empty};
 ghost use Rattle.indexmap.specs.IndexMap.{spare};
 ghost use Rattle.rtsp_record.specs.Books.{Book, after};
-ghost use Rattle.rtsp_record.specs.Sums.{one_if, held_rate};
+ghost use Rattle.rtsp_record.specs.Sums.{one_if, held_rate, Channel};
 ghost use Rattle.rtsp_record.specs.Rules.{IsFree};
-ghost use Rattle.rtsp_record.specs.Choices.{HasPorts, least_pair, chosen_chan};
+ghost use Rattle.rtsp_record.specs.Choices.{HasPorts, is_free, least_pair, chosen_chan};
 ghost use Rattle.rtsp_index.specs.Following.{Follows, HoldsMore, IsHeld, is_chan, is_chan_hold};
 
 use rtsp_pools::{ChanPool, PairPool, RatePool};
@@ -122,6 +122,14 @@ impl Pools {
         ensures { (b : Book) → ArePoolsOf b self.now → result ≡ chosen_chan b conn wish }
     {
         self.chans.least_or_wish(conn, wish)
+    }
+
+    /// Whether a channel of the connection is held.
+    pub(crate) fn has_channels(&self, conn: u64) -> bool
+        ensures yes { (b : Book) → ArePoolsOf b self.now → result ≡ true → (l : ℕ) × (is_free b (Channel conn l) ≡ false) }
+        ensures no { (b : Book) → ArePoolsOf b self.now → result ≡ false → (l : ℕ) → is_free b (Channel conn l) ≡ true }
+    {
+        self.chans.has_held(conn)
     }
 
     /// All bits per second that are held.

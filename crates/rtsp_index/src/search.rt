@@ -1,8 +1,7 @@
 //! What a living session is searched by.
 
 ghost use Rattle.std.specs.Prelude.{◌≡◌};
-ghost use Rattle.rtsp_sessions.specs.Searches.{is_bound_on};
-ghost use Rattle.rtsp_index.specs.Searching.{passes};
+ghost use Rattle.rtsp_sessions.specs.Searches.{is_bound_on, is_on};
 
 use rtsp_sessions::SessionView;
 
@@ -26,15 +25,9 @@ fn is_bound_on(view: &SessionView, conn: u64) -> bool
     }
 }
 
-impl Search {
-    /// Whether the session is one that is searched.
-    pub(crate) fn takes(&self, view: &SessionView) -> bool
-        ensures { result ≡ passes self.now view.now }
-    {
-        match *self {
-            Search::From(least) => least <= view.session(),
-            Search::Expired(moment) => view.expires() <= moment,
-            Search::OnConn(conn) => view.has_channels_of(conn) || is_bound_on(view, conn),
-        }
-    }
+/// Whether the session holds channels of the connection or is bound to it.
+pub(crate) fn is_on(view: &SessionView, conn: u64) -> bool
+    ensures { result ≡ is_on conn view.now }
+{
+    view.has_channels_of(conn) || is_bound_on(view, conn)
 }

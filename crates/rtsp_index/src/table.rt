@@ -1,18 +1,20 @@
 //! The table of living sessions, by number.
 
-ghost use Rattle.std.specs.Prelude.{◌≡◌, ◌+◌, ◌≤◌, ℕ, nat_eq, Some, None, IsSome, IfSome, IsTrue, IsOk, OnOk, option_copied, slice_get, ◌⊎◌};
+ghost use Rattle.std.specs.Prelude.{◌≡◌, ◌+◌, ◌<◌, ◌≤◌, ℕ, nat_eq, Some, None, IsSome, IfSome, IsTrue, IsOk, OnOk, option_copied, slice_get, ◌⊎◌};
 ghost use Rattle.std.specs.FinMap.{get, empty, entries};
 ghost use Rattle.indexmap.specs.IndexMap.{get as get_place};
 ghost use Rattle.rtsp_record.specs.Tables.{set};
-ghost use Rattle.rtsp_record.specs.Books.{effect, after};
+ghost use Rattle.rtsp_record.specs.Books.{Session, effect, after};
 ghost use Rattle.rtsp_record.specs.Sums.{one_if};
 ghost use Rattle.rtsp_record.specs.Rules.{Living};
-ghost use Rattle.rtsp_sessions.specs.Lookups.{session_at, number_of};
+ghost use Rattle.rtsp_sessions.specs.Lookups.{session_at, number_of, expired_in};
 ghost use Rattle.rtsp_sessions.specs.Plain.{RoomFor, FitsIn, is_open};
 ghost use Rattle.rtsp_index.specs.Placing.{IsPlaced};
+ghost use Rattle.rtsp_index.specs.Dating.{AreDated};
 ghost use Rattle.rtsp_index.specs.Searching.{passes, Passes, AtMost};
 
-use crate::search::Search;
+use crate::moments::Moments;
+use crate::search::{Search, is_on};
 use indexmap::IndexMap;
 use rtsp_record::Record;
 use rtsp_sessions::SessionView;
@@ -20,12 +22,15 @@ use slab::Slab;
 use std::alloc::{AllocError, Global};
 
 /// The living sessions. Each has a place, where its row stands until it ends; no row is moved when
-/// another comes or goes.
+/// another comes or goes. Its expiry stands once more beside the others', of which the least is at
+/// hand.
 #[derive(Drop)]
 pub(crate) struct SessionTable {
     places: IndexMap<u64, usize>,
     rows: Slab<SessionView>,
+    expiries: Moments,
     ghost placed: { IsPlaced (λ s. get_place nat_eq places s) rows },
+    ghost dated: { AreDated rows expiries },
 }
 
 impl SessionTable {
@@ -38,6 +43,7 @@ impl SessionTable {
         SessionTable {
             places: IndexMap::new(alloc),
             rows: Slab::new(alloc),
+            expiries: Moments::new(alloc),
         }
     }
 
@@ -48,8 +54,12 @@ impl SessionTable {
         ensures succeeds { additional ≡ 0 → IsOk result }
     {
         let _capacity = self.rows.capacity();
+        if additional == 0 {
+            return Ok(());
+        }
         self.places.reserve(additional)?;
-        self.rows.reserve(additional)
+        self.rows.reserve(additional)?;
+        self.expiries.reserve(self.rows.capacity())
     }
 
     /// The session of this number, where it lives.
@@ -68,7 +78,9 @@ impl SessionTable {
         ensures room { (n : ℕ) → HasRoom self.old (n + 1) → HasRoom self.new n }
     {
         let session = view.session();
+        let expires = view.expires();
         let place = self.rows.insert_reserved(view);
+        self.expiries.set(place, expires);
         match self.places.insert(session, place) {
             Ok(_) => {}
             Err(_) => unreachable!(),
@@ -84,6 +96,7 @@ impl SessionTable {
         match self.places.swap_remove(&session) {
             Some(place) => {
                 self.rows.remove(place);
+                self.expiries.set(place, u64::MAX);
             }
             None => unreachable!(),
         }
@@ -96,10 +109,17 @@ impl SessionTable {
         ensures room { (n : ℕ) → HasRoom self.old n → HasRoom self.new n }
     {
         match self.places.get(&session) {
-            Some(place) => match self.rows.get_mut(*place) {
-                Some(row) => row.change(change),
-                None => unreachable!(),
-            },
+            Some(place) => {
+                let place = *place;
+                match self.rows.get_mut(place) {
+                    Some(row) => {
+                        row.change(change);
+                        let expires = row.expires();
+                        self.expiries.set(place, expires);
+                    }
+                    None => unreachable!(),
+                }
+            }
             None => unreachable!(),
         }
     }
@@ -118,14 +138,29 @@ impl SessionTable {
         }
     }
 
+    // Whether the session of this number, which has this place, is one that is searched. Its row is
+    // read only for what the connection has of it.
+    fn takes(&self, search: &Search, session: u64, place: usize) -> bool
+        requires { get_place nat_eq self.now.places session ≡ Some place }
+        ensures { (f : Session) → get (sessions_in self.now) session ≡ Some f → result ≡ passes search.now (session, f) }
+    {
+        match *search {
+            Search::From(least) => least <= session,
+            Search::Expired(moment) => self.expiries.at(place) <= moment,
+            Search::OnConn(conn) => match self.rows.get(place) {
+                Some(view) => is_on(view, conn),
+                None => unreachable!(),
+            },
+        }
+    }
+
     // The number at this place in the order of the look-ups, where its session is searched.
     fn searched_at(&self, index: usize, search: &Search) -> Option<u64>
         ensures found { IfSome result (Passes (passes search.now) (sessions_in self.now)) }
         ensures only { (e : ℕ × ℕ) → slice_get self.now.places.entries index ≡ Some e → Passes (passes search.now) (sessions_in self.now) e.0 → result ≡ Some e.0 }
     {
         let entry = self.places.get_index(index)?;
-        let view = self.rows.get(*entry.1)?;
-        if search.takes(view) {
+        if self.takes(search, *entry.0, *entry.1) {
             Some(*entry.0)
         } else {
             None
@@ -141,6 +176,17 @@ impl SessionTable {
             least = lesser(least, self.searched_at(index, search));
         }
         least
+    }
+
+    /// The least number of a session whose expiry is at this moment or before, in milliseconds. None
+    /// at once where there is no such session; else it looks at the expiries of all.
+    pub(crate) fn due(&self, moment: u64) -> Option<u64>
+        ensures { result ≡ expired_in moment (entries (sessions_in self.now)) }
+    {
+        if moment < self.expiries.least() {
+            return None;
+        }
+        self.least(&Search::Expired(moment))
     }
 }
 

@@ -63,6 +63,10 @@ after v v' v1 v2 k k' es held noted put more =
 pub unnoted : (v v1 : View) (j : List Entry) (n : ℕ) → v1 ≡ holding v j n → v1 ≡ noting v1 j n
 unnoted v v1 j n held = held ∙ sym (ap (λ (x : View). noting x j n) held)
 
+-- what is noted where nothing was added
+pub nothing_more : (v v1 : View) (k k' : History) → v1 ≡ holding v k.journal k.next → k'.journal ≡ k.journal → (es : List Entry) × (k'.journal ≡ v1.found ++ es) × OnlyOf v1.actor es
+nothing_more v v1 k k' held same = ([], same ∙ (sym (append-nil k.journal) ∙ ap (λ (u : View). u.found ++ []) (sym held)), tt)
+
 -- the same where a seat was made
 pub after_cut : (v v' v1 v2 v3 : View) (k k' : History) → v1 ≡ holding v k.journal k.next → v2 ≡ noting v1 k'.journal k'.next → v3 ≡ parent v2 → v' ≡ settled v3 → k'.journal ≡ k.journal → After v v' k k' []
 after_cut v v' v1 v2 v3 k k' held noted cut put same =
@@ -103,6 +107,12 @@ numbers_none a b e = let none : b - a ≡ 0 = omega (arith, e) in ap (numbers a)
 
 numbers_one : (a b : ℕ) → b ≡ a + 1 → numbers a (b - a) ≡ a ∷ []
 numbers_one a b e = let one : b - a ≡ 1 = omega (arith, e) in ap (numbers a) one
+
+-- a seat that was made takes a number from nobody: its maker has drawn what it had
+pub cut_draws_none : (v v' v1 v2 v3 : View) (k k' : History) → v1 ≡ holding v k.journal k.next → v2 ≡ noting v1 k'.journal k'.next → v3 ≡ parent v2 → v' ≡ settled v3 → v'.drawn ≡ v.drawn
+cut_draws_none v v' v1 v2 v3 k k' held noted cut put =
+    let e : v' ≡ settled (parent (noting (holding v k.journal k.next) k'.journal k'.next)) = put ∙ ap settled (cut ∙ ap parent (noted ∙ ap (λ (x : View). noting x k'.journal k'.next) held)) in
+    ap (λ (x : View). x.drawn) e ∙ (ap (λ (l : List ℕ). v.drawn ++ l) (numbers_none k'.next k'.next refl) ∙ append-nil v.drawn)
 
 -- a seat's turn: it holds a book, notes what it leaves, and puts that back
 pub record Turn (v v1 v2 v' : View) (k k' : History) : Type 0 where

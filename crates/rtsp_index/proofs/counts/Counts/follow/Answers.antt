@@ -7,27 +7,33 @@ use Rattle.rtsp_index.proofs.counts.Counts.follow.Goals as goal
 
 pub overflow_add-self : goal.overflow_add-self
 overflow_add-self c =
-    let q = c.requires in
+    let q = c.requires.follows in
     omega (arith, c.opens.ensures.small, q.4.living, living_small q.0 q.2 c.args.change.now q.3 q.1)
 
 pub overflow_sub-self : goal.overflow_sub-self
 overflow_sub-self c =
-    let q = c.requires in
+    let q = c.requires.follows in
     omega (arith, c.opens.ensures.value, c.opens-2.ensures.value, ap (λ r. one_if (is_open r)) c.inverse-back.ensures, q.4.living, living_after q.0 q.2 c.args.change.now q.3)
 
 pub overflow_add-self-2 : goal.overflow_add-self-2
 overflow_add-self-2 c =
-    let q = c.requires in
+    let q = c.requires.follows in
     omega (arith, c.brought.ensures.small, q.4.owed, owed_small q.0 q.2 c.args.change.now q.3 q.1)
 
 pub overflow_sub-self-2 : goal.overflow_sub-self-2
 overflow_sub-self-2 c =
-    let q = c.requires in
+    let q = c.requires.follows in
     omega (arith, c.brought.ensures.value, c.brought-2.ensures.value, ap brought c.inverse-back.ensures, q.4.owed, owed_after q.0 q.2 c.args.change.now q.3)
 
-pub returns : goal.returns
-returns c w b f ok =
+pub follow-requires-clause-follows : goal.follow-requires-clause-follows
+follow-requires-clause-follows c =
+    let q = c.requires.follows in
+    (q.0, q.1, q.2, q.3, q.4.bindings)
+
+pub returns-clause-follows : goal.returns-clause-follows
+returns-clause-follows c w b f ok =
     record {
       living = omega (arith, c.opens.ensures.value, c.opens-2.ensures.value, ap (λ r. one_if (is_open r)) c.inverse-back.ensures, ok.living, living_after w b c.args.change.now f);
       owed = omega (arith, c.brought.ensures.value, c.brought-2.ensures.value, ap brought c.inverse-back.ensures, ok.owed, owed_after w b c.args.change.now f);
+      bindings = c.follow.ensures.follows w b f ok.bindings;
     }

@@ -4,4 +4,4 @@ use Rattle.rtsp_sessions.specs.Lookups.{expired_in}
 use Rattle.rtsp_index.proofs.indexed.IndexedBookBookRep.due.Goals as goal
 
 pub returns : goal.returns
-returns c = c.least.ensures ∙ ap (λ b. expired_in c.args.now (entries b)) c.parts.ensures.book
+returns c = c.due.ensures ∙ ap (λ b. expired_in c.args.now (entries b)) c.parts.ensures.book

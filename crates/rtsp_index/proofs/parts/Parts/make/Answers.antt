@@ -8,8 +8,8 @@ follow-requires-clause-follows c =
     let p = c.args.self.now in
     (book_in p, follows_in p.whole (book_in p) p.pools p.names p.counts c.args.change.now c.requires.agree c.requires.allowed, c.requires.agree.pools)
 
-pub follow-requires-3 : goal.follow-requires-3
-follow-requires-3 c =
+pub follow-requires-3-clause-follows : goal.follow-requires-3-clause-follows
+follow-requires-3-clause-follows c =
     let p = c.args.self.now in
     (p.whole, c.requires.agree.small, book_in p, follows p.whole (book_in p) p.pools p.names p.counts c.args.change.now c.requires.agree c.requires.allowed, c.requires.agree.counts)
 
@@ -30,7 +30,7 @@ returns-clause-agree c =
     made p.whole b _ p.pools _ p.names _ p.counts _ r c.requires.agree c.requires.allowed c.make.ensures.table c.follow.ensures.whole
     (c.follow.ensures.follows b (follows_in p.whole b p.pools p.names p.counts r c.requires.agree c.requires.allowed) c.requires.agree.pools)
     (c.follow-2.ensures.follows p.whole b after_it c.requires.agree.names)
-    (c.follow-3.ensures p.whole b after_it c.requires.agree.counts)
+    (c.follow-3.ensures.follows p.whole b after_it c.requires.agree.counts)
 
 pub returns-clause-room : goal.returns-clause-room
 returns-clause-room c i j k h =
@@ -39,4 +39,5 @@ returns-clause-room c i j k h =
       ids = omega (arith, h.ids, c.follow-2.ensures.ids);
       startups = omega (arith, h.startups, c.follow-2.ensures.startups);
       chans = omega (arith, h.chans, c.follow.ensures.room);
+      bindings = omega (arith, h.bindings, c.follow-3.ensures.room);
     }

@@ -12,5 +12,6 @@ returns-clause-room c =
       rows = subst (λ t. HasRoom t (count_by is_open c.args.changes.now)) (sym (c.reserve_names.ensures.sessions ∙ c.reserve_channels.ensures.sessions)) c.in_ok-reserve_sessions.ensures.rows;
       ids = c.in_ok-reserve_names.ensures.ids;
       startups = c.in_ok-reserve_names.ensures.startups;
+      bindings = c.in_ok-reserve_names.ensures.bindings;
       chans = subst (λ p. count_by is_chan_hold c.args.changes.now ≤ spare p.chans.held) (sym c.reserve_names.ensures.pools) c.in_ok-reserve_channels.ensures.chans;
     }

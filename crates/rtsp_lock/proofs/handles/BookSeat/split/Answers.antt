@@ -1,7 +1,19 @@
 use Rattle.std.proofs.Common.{ap, sym, subst, ◌∙◌, append-nil, []}
 use Rattle.rtsp_book.specs.Kept.{History}
-use Rattle.rtsp_lock.proofs.Answering.{Lawful, view_is, after, after_cut, draw_leaves, looks, makes}
+use Rattle.rtsp_lock.specs.Calls.{seat_view}
+use Rattle.rtsp_lock.proofs.Answering.{Lawful, view_is, nothing_more, after, after_cut, cut_draws_none, draw_leaves, looks, makes}
 use Rattle.rtsp_lock.proofs.handles.BookSeat.split.Goals as goal
+
+pub note-kept-requires-clause-more : goal.note-kept-requires-clause-more
+note-kept-requires-clause-more g c =
+    let d = c.draw-actor.ensures in
+    let k = c.take-kept.result in
+    let k' = c.draw-actor.new.self in
+    nothing_more (seat_view c.args.self.now) _ k k' (view_is c.take-kept.ensures.seat) (draw_leaves k k' c.draw-actor.result _ d.drawn d.spent).journal
+
+pub returns-in-Ok-clause-drawn : goal.returns-in-Ok-clause-drawn
+returns-in-Ok-clause-drawn g c =
+    cut_draws_none (seat_view c.args.self.now) _ _ _ _ c.take-kept.result c.draw-actor.new.self (view_is c.take-kept.ensures.seat) (view_is c.note-kept.ensures.seat) (view_is c.cut-made.ensures.seat) (view_is c.put_back.ensures.seat)
 
 pub returns-in-Ok-clause-looked : goal.returns-in-Ok-clause-looked
 returns-in-Ok-clause-looked g c =
