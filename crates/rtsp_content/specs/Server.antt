@@ -1,5 +1,5 @@
 -- The numbers of the server.
-use Rattle.std.specs.Prelude.{◌≡◌, ◌==◌, ◌+◌, ◌*◌, ◌%◌, ◌≤◌, nat_le, codes, Ok}
+use Rattle.std.specs.Prelude.{◌≡◌, ◌==◌, ◌+◌, ◌-◌, ◌*◌, ◌%◌, ◌≤◌, ◌<◌, nat_le, codes, Ok}
 use Rattle.toml.specs.Data.{Members}
 use Rattle.rtsp_content.specs.declared.fault.TableFault.TheVariants.{BadValue}
 use Rattle.rtsp_content.specs.declared.server.Server.{Server}
@@ -8,7 +8,8 @@ use Rattle.rtsp_text.specs.Results.{◌>>=◌}
 use Rattle.rtsp_content.specs.Limits.{least_port, greatest_port, max_pairs, max_uplink, max_sessions, max_timeout, max_journal, max_workers}
 use Rattle.rtsp_content.specs.Keys.{number_at, number_at_or}
 
--- what the table `[server]` says; all ports of all pairs are at most 65,535
+-- what the table `[server]` says; all ports of all pairs are at most 65,535, and the step of renewals, in milliseconds,
+-- is below the timeout, in seconds
 abbrev pub server_of : Members → Read Server
 server_of ms = do
   first_port ← number_at (codes "first_port") least_port greatest_port ms
@@ -18,9 +19,10 @@ server_of ms = do
   uplink ← number_at (codes "uplink") 0 max_uplink ms
   sessions ← number_at (codes "sessions") 1 max_sessions ms
   timeout ← number_at_or (codes "timeout") 1 max_timeout 60 ms
+  renewal_step ← number_at_or (codes "renewal_step") 1 (timeout * 1000 - 1) 1 ms
   journal ← number_at_or (codes "journal") 1 max_journal max_journal ms
   workers ← number_at_or (codes "workers") 1 max_workers 4 ms
-  Ok (record { first_port = first_port; pairs = pairs; uplink = uplink; sessions = sessions; timeout = timeout; journal = journal; workers = workers })
+  Ok (record { first_port = first_port; pairs = pairs; uplink = uplink; sessions = sessions; timeout = timeout; renewal_step = renewal_step; journal = journal; workers = workers })
 
 -- the limits of these numbers
 pub record IsWithinLimits (server : Server) : Type 0 where
@@ -33,6 +35,8 @@ pub record IsWithinLimits (server : Server) : Type 0 where
   pub sessions_most : server.sessions ≤ max_sessions
   pub timeout_least : 1 ≤ server.timeout
   pub timeout_most : server.timeout ≤ max_timeout
+  pub step_least : 1 ≤ server.renewal_step
+  pub step_most : server.renewal_step < server.timeout * 1000
   pub journal_least : 1 ≤ server.journal
   pub journal_most : server.journal ≤ max_journal
   pub workers_least : 1 ≤ server.workers

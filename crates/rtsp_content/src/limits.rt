@@ -14,6 +14,9 @@ pub const MAX_SESSIONS: u64 = 4096;
 pub const MAX_TIMEOUT: u64 = 86_400;
 /// The seconds that it lives where the configuration doesn't say.
 pub const DEFAULT_TIMEOUT: u64 = 60;
+/// The milliseconds by which a renewal makes a session last longer, where the configuration
+/// doesn't say.
+pub const DEFAULT_RENEWAL_STEP: u64 = 1;
 /// The most entries of the journal, and as many where the configuration doesn't say.
 pub const MAX_JOURNAL: u64 = 1_000_000;
 /// The most threads that serve connections.

@@ -7,8 +7,8 @@ ghost use Rattle.rtsp_content.specs.Server.{server_of, IsWithinLimits};
 use crate::fault::{TableFault, must};
 use crate::keys::{number_at, number_at_or};
 use crate::limits::{
-    DEFAULT_TIMEOUT, DEFAULT_WORKERS, GREATEST_PORT, LEAST_PORT, MAX_JOURNAL, MAX_PAIRS,
-    MAX_SESSIONS, MAX_TIMEOUT, MAX_UPLINK, MAX_WORKERS,
+    DEFAULT_RENEWAL_STEP, DEFAULT_TIMEOUT, DEFAULT_WORKERS, GREATEST_PORT, LEAST_PORT, MAX_JOURNAL,
+    MAX_PAIRS, MAX_SESSIONS, MAX_TIMEOUT, MAX_UPLINK, MAX_WORKERS,
 };
 
 /// The numbers of the server.
@@ -28,6 +28,10 @@ pub struct Server {
 
     /// The seconds that a session lives without a request.
     pub timeout: u32,
+
+    /// A request moves the end of its session only where that makes it later by so many
+    /// milliseconds at least. From 1, with which each request moves it, to less than the timeout.
+    pub renewal_step: u32,
 
     /// How many entries the journal may have, counting the returns that they owe.
     pub journal: u32,
@@ -51,6 +55,8 @@ pub(crate) fn read_server(table: &toml::Table) -> Result<Server, TableFault>
     let uplink = number_at(table, "uplink", 0, MAX_UPLINK)?;
     let sessions = number_at(table, "sessions", 1, MAX_SESSIONS)?;
     let timeout = number_at_or(table, "timeout", 1, MAX_TIMEOUT, DEFAULT_TIMEOUT)?;
+    let most_step = timeout * 1000 - 1;
+    let renewal_step = number_at_or(table, "renewal_step", 1, most_step, DEFAULT_RENEWAL_STEP)?;
     let journal = number_at_or(table, "journal", 1, MAX_JOURNAL, MAX_JOURNAL)?;
     let workers = number_at_or(table, "workers", 1, MAX_WORKERS, DEFAULT_WORKERS)?;
     Ok(Server {
@@ -59,6 +65,7 @@ pub(crate) fn read_server(table: &toml::Table) -> Result<Server, TableFault>
         uplink,
         sessions: sessions as u16,
         timeout: timeout as u32,
+        renewal_step: renewal_step as u32,
         journal: journal as u32,
         workers: workers as u8,
     })

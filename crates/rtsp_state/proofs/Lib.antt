@@ -9,6 +9,7 @@ pub mod OrderLemmas
 pub mod ShownLemmas
 pub mod ValidLemmas
 pub mod LawLemmas
+pub mod RenewalLemmas
 pub mod RoomLemmas
 pub mod MessageLemmas
 pub mod ReplyLemmas

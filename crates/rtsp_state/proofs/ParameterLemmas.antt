@@ -8,7 +8,7 @@ use Rattle.rtsp_state.specs.declared.status.Status.TheVariants.{ParameterNotUnde
 use Rattle.rtsp_state.specs.declared.fault.Fault.{Fault}
 use Rattle.rtsp_state.specs.declared.fault.Fault.TheVariants.{Refused}
 use Rattle.rtsp_state.specs.declared.parameters.Parameter.{Parameter}
-use Rattle.rtsp_state.specs.Fault.{◌>>=◌}
+use Rattle.rtsp_text.specs.Results.{◌>>=◌}
 use Rattle.rtsp_state.specs.GetParameter.{first_line, parameter_of, parameters_in}
 
 -- ---- one line

@@ -5,7 +5,8 @@ use Rattle.rtsp_state.specs.declared.status.Status.{Status}
 use Rattle.rtsp_state.specs.declared.status.Status.TheVariants.{NotFound}
 use Rattle.rtsp_state.specs.declared.fault.Fault.{Fault}
 use Rattle.rtsp_state.specs.declared.fault.Fault.TheVariants.{Refused}
-use Rattle.rtsp_state.specs.Fault.{◌>>=◌, must}
+use Rattle.rtsp_text.specs.Results.{◌>>=◌}
+use Rattle.rtsp_state.specs.Fault.{must}
 use Rattle.rtsp_state.specs.Context.{known}
 
 -- what holds of the value that is given, and of the fault that it is refused for

@@ -28,7 +28,8 @@ use Rattle.rtsp_state.specs.declared.response_start.ResponseStart.{ResponseStart
 use Rattle.rtsp_state.specs.declared.plan.Plan.{Plan}
 use Rattle.rtsp_state.specs.declared.request.Screen.{Screen}
 use Rattle.rtsp_state.specs.declared.request.Screen.TheVariants.{Answered, Asks}
-use Rattle.rtsp_state.specs.Fault.{◌>>=◌, must}
+use Rattle.rtsp_text.specs.Results.{◌>>=◌}
+use Rattle.rtsp_state.specs.Fault.{must}
 use Rattle.rtsp_grammar.specs.Method.{method_of as method_named}
 use Rattle.rtsp_grammar.specs.declared.version.Version.{Version}
 use Rattle.rtsp_grammar.specs.declared.version.Version.TheVariants as versions

@@ -6,7 +6,7 @@ use Rattle.rtsp_state.specs.declared.fault.Fault.TheVariants.{Refused}
 use Rattle.rtsp_state.specs.declared.request.Target.{Target}
 use Rattle.rtsp_state.specs.declared.request.Target.TheVariants as targets
 use Rattle.rtsp_state.specs.declared.plan.Plan.{Plan}
-use Rattle.rtsp_state.specs.Fault.{◌>>=◌}
+use Rattle.rtsp_text.specs.Results.{◌>>=◌}
 use Rattle.rtsp_content.specs.Sdp.{sdp_of}
 use Rattle.rtsp_state.specs.declared.words.Word.TheVariants as words
 use Rattle.rtsp_state.specs.Lines.{base_line, type_line, length_line}

@@ -13,7 +13,8 @@ use Rattle.rtsp_state.specs.declared.words.Word.TheVariants as words
 use Rattle.rtsp_state.specs.declared.parameters.Parameter.{Parameter}
 use Rattle.rtsp_state.specs.declared.parameters.Parameter.TheVariants.{Position, Duration}
 use Rattle.rtsp_state.specs.declared.plan.Plan.{Plan}
-use Rattle.rtsp_state.specs.Fault.{◌>>=◌, must}
+use Rattle.rtsp_text.specs.Results.{◌>>=◌}
+use Rattle.rtsp_state.specs.Fault.{must}
 use Rattle.rtsp_state.specs.Words.{text_of}
 use Rattle.rtsp_state.specs.Lines.{type_line, length_line}
 use Rattle.rtsp_state.specs.Context.{ContextValue, Living, timing_of, known, plainly}

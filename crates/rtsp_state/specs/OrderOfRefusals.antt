@@ -20,7 +20,8 @@ use Rattle.rtsp_state.specs.declared.request.Target.TheVariants as targets
 use Rattle.rtsp_state.specs.declared.request.Name.{Name}
 use Rattle.rtsp_state.specs.declared.request.Name.TheVariants.{Id, Startup}
 use Rattle.rtsp_state.specs.declared.order_of_refusals.Asked.{Asked}
-use Rattle.rtsp_state.specs.Fault.{◌>>=◌, must}
+use Rattle.rtsp_text.specs.Results.{◌>>=◌}
+use Rattle.rtsp_state.specs.Fault.{must}
 use Rattle.rtsp_state.specs.Method.{method_of, needs_session, takes_star}
 use Rattle.rtsp_state.specs.Values.{single_value, joined, joined_in, id_of, session_name, tags_in, unknown_tags, uri_of, bare_text, with_slash}
 

@@ -7,7 +7,8 @@ use Rattle.rtsp_state.specs.declared.request.Target.{Target}
 use Rattle.rtsp_state.specs.declared.request.Target.TheVariants as targets
 use Rattle.rtsp_state.specs.declared.plan.Plan.{Plan}
 use Rattle.rtsp_state.specs.declared.plan.Plan.TheVariants as plans
-use Rattle.rtsp_state.specs.Fault.{◌>>=◌, must}
+use Rattle.rtsp_text.specs.Results.{◌>>=◌}
+use Rattle.rtsp_state.specs.Fault.{must}
 use Rattle.rtsp_record.specs.Moments.{point}
 use Rattle.rtsp_record.specs.declared.streams.Stream.{Stream}
 use Rattle.rtsp_npt.specs.Reading.{range_of}

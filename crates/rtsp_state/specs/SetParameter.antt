@@ -3,7 +3,8 @@ use Rattle.std.specs.Prelude.{◌==◌, [], length, Result, Ok}
 use Rattle.rtsp_state.specs.declared.status.Status.TheVariants.{ParameterNotUnderstood}
 use Rattle.rtsp_state.specs.declared.fault.Fault.{Fault}
 use Rattle.rtsp_state.specs.declared.plan.Plan.{Plan}
-use Rattle.rtsp_state.specs.Fault.{◌>>=◌, must}
+use Rattle.rtsp_text.specs.Results.{◌>>=◌}
+use Rattle.rtsp_state.specs.Fault.{must}
 use Rattle.rtsp_state.specs.Context.{ContextValue, plainly}
 
 -- no parameter can be set

@@ -12,7 +12,8 @@ use Rattle.rtsp_state.specs.declared.setup_plan.SetupSession.TheVariants.{New, L
 use Rattle.rtsp_state.specs.declared.setup_plan.Delivery.{Delivery}
 use Rattle.rtsp_state.specs.declared.setup_plan.Delivery.TheVariants.{Udp, Interleaved}
 use Rattle.rtsp_state.specs.declared.setup_plan.SetupPlan.{SetupPlan}
-use Rattle.rtsp_state.specs.Fault.{◌>>=◌, must}
+use Rattle.rtsp_text.specs.Results.{◌>>=◌}
+use Rattle.rtsp_state.specs.Fault.{must}
 use Rattle.rtsp_transport.specs.Picking.{pick_of}
 use Rattle.rtsp_transport.specs.declared.picks.Pick.{Pick}
 use Rattle.rtsp_transport.specs.declared.picks.Pick.TheVariants as picks

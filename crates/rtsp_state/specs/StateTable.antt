@@ -12,7 +12,8 @@ use Rattle.rtsp_state.specs.declared.request.Name.TheVariants.{Id, Startup}
 use Rattle.rtsp_state.specs.declared.response_start.ResponseStart.{ResponseStart}
 use Rattle.rtsp_state.specs.declared.plan.Plan.{Plan}
 use Rattle.rtsp_state.specs.declared.plan.Plan.TheVariants as plans
-use Rattle.rtsp_state.specs.Fault.{◌>>=◌, must}
+use Rattle.rtsp_text.specs.Results.{◌>>=◌}
+use Rattle.rtsp_state.specs.Fault.{must}
 use Rattle.rtsp_state.specs.ParsedRequest.{ParsedValue}
 use Rattle.rtsp_state.specs.Method.{needs_session}
 use Rattle.rtsp_state.specs.Response.{refused}

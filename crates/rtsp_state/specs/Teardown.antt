@@ -7,7 +7,8 @@ use Rattle.rtsp_state.specs.declared.request.Target.{Target}
 use Rattle.rtsp_state.specs.declared.request.Target.TheVariants as targets
 use Rattle.rtsp_state.specs.declared.plan.Plan.{Plan}
 use Rattle.rtsp_state.specs.declared.plan.Plan.TheVariants as plans
-use Rattle.rtsp_state.specs.Fault.{◌>>=◌, must}
+use Rattle.rtsp_text.specs.Results.{◌>>=◌}
+use Rattle.rtsp_state.specs.Fault.{must}
 use Rattle.rtsp_book.specs.Sessions.{is_ready}
 use Rattle.rtsp_book.specs.declared.steps.Step.TheVariants as steps
 use Rattle.rtsp_state.specs.declared.plan.Details.TheVariants as details

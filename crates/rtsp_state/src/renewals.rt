@@ -1,7 +1,7 @@
 //! The renewal of the session that a request names.
 
-ghost use Rattle.std.specs.Prelude.{◌≡◌};
-ghost use Rattle.rtsp_state.specs.Renewal.{renewal, renewal_refused};
+ghost use Rattle.std.specs.Prelude.{◌≡◌, ◌≤◌};
+ghost use Rattle.rtsp_state.specs.Renewal.{later_by, renewal, renewal_refused};
 
 use crate::context::expiry;
 use crate::method::Method;
@@ -11,16 +11,38 @@ use crate::response_start::ResponseStart;
 use rtsp_book::{Refusal, SessionView};
 use rtsp_content::Table;
 
-/// The moment to which a request renews the living session that it names, before it is decided: by the timeout of the
-/// configuration, for every method but TEARDOWN. Milliseconds. Where that step (`Touch`) is refused, the request ends
-/// with `renewal_refused`.
-#[tactic(auto, unfolding(crate::specs::Renewal::renewal))]
-pub fn renewal(request: &ParsedRequest<'_>, table: &Table, moment: u64) -> Option<u64>
-    ensures { result ≡ renewal table.now request.now moment }
+// A new end of a session, where it is later than the old one by the step at least. All in milliseconds.
+fn later_by(step: u32, expires: u64, until: u64) -> Option<u64>
+    requires { 1 ≤ step }
+    ensures { result ≡ later_by step expires until }
 {
+    if until.saturating_sub(expires) >= u64::from(step) {
+        Some(until)
+    } else {
+        None
+    }
+}
+
+/// The moment to which a request renews the living session that it names, before it is decided: by the timeout of the
+/// configuration, for every method but TEARDOWN, where that moves the session's end by the configuration's step at
+/// least. Milliseconds. Where that step of the book (`Touch`) is refused, the request ends with `renewal_refused`.
+#[tactic(auto, unfolding(crate::specs::Renewal::renewal))]
+pub fn renewal(
+    request: &ParsedRequest<'_>,
+    table: &Table,
+    view: &SessionView,
+    moment: u64,
+) -> Option<u64>
+    ensures { result ≡ renewal table.now request.now view.now moment }
+{
+    let server = table.server();
     match request.method {
         Method::Teardown => None,
-        _ => Some(expiry(moment, table.server().timeout)),
+        _ => later_by(
+            server.renewal_step,
+            view.expires(),
+            expiry(moment, server.timeout),
+        ),
     }
 }
 
