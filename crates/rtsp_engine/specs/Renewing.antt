@@ -28,13 +28,13 @@ Looks conn None found v u = (found ≡ None) × (u ≡ v)
 Looks conn (Some name) found v u = Looked v u × (found ≡ session_named (book_of u.seen) (lock_name conn name))
 
 -- the step that renews a session to a moment
-abbrev pub renewal_step : Option (ℕ × Session) → Option ℕ → Option Step
-renewal_step (Some view) (Some until) = Some (step.Touch view.0 until)
-renewal_step (Some view) None = None
-renewal_step None until = None
+abbrev pub renewing : ℕ × Session → Option ℕ → Option Step
+renewing view (Some until) = Some (step.Touch view.0 until)
+renewing view None = None
 
 abbrev pub renewal_at : Service → ParsedValue → ℕ → Option (ℕ × Session) → Option Step
-renewal_at service request moment found = renewal_step found (renewal service.table request moment)
+renewal_at service request moment (Some view) = renewing view (renewal service.table request view moment)
+renewal_at service request moment None = None
 
 -- the session is looked up again where its renewal was recorded
 abbrev pub LooksAgain : ℕ → Option Name → List Record → Option (ℕ × Session) → Option (ℕ × Session) → View → View → Type 0
@@ -56,7 +56,7 @@ pub record RefusesRenewal (service : Service) (request : ParsedValue) (moment : 
   pub session : ℕ × Session
   pub lives : found ≡ Some session
   pub until : ℕ
-  pub renewal : renewal service.table request moment ≡ Some until
+  pub renewal : renewal service.table request session moment ≡ Some until
   pub refusal : Refusal
   pub acted : Acted v u (step.Touch session.0 until) (Err refusal)
   pub answer : response ≡ renewal_refused request session refusal

@@ -62,6 +62,13 @@ impl Connection {
         self.feed.capacity() == 0
     }
 
+    /// How many bytes have come of the item that is begun.
+    pub fn len(&self) -> usize
+        ensures { result ≡ length self.now }
+    {
+        self.feed.len()
+    }
+
     /// How many bytes of memory it holds.
     pub fn capacity(&self) -> usize
         ensures enough { length self.now ≤ result }

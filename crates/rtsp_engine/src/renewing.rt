@@ -60,7 +60,7 @@ pub(crate) fn renew<R: Wait>(
     let Some(view) = found else {
         return Ok(None);
     };
-    let Some(until) = renewal(request, table, moment) else {
+    let Some(until) = renewal(request, table, &view, moment) else {
         return Ok(Some(view));
     };
     let touch = Step::Touch {

@@ -75,6 +75,13 @@ impl Feed {
         }
     }
 
+    /// How many bytes are unread.
+    pub fn len(&self) -> usize
+        ensures { result ≡ length self.now.unread }
+    {
+        self.bytes.len()
+    }
+
     /// How many bytes of memory it holds.
     pub fn capacity(&self) -> usize
         ensures enough { length self.now.unread ≤ result }

@@ -1,6 +1,7 @@
 //! What wakes a pacer: plays that were begun, and the end.
 
-ghost use Rattle.std.specs.Prelude.{◌<◌};
+ghost use Rattle.std.specs.Prelude.{◌≡◌, IfOk, vec_len, option_copied};
+ghost use Rattle.rtsp_pacing.specs.Bells.{bell_of};
 
 use crate::noted::NewPlay;
 use std::alloc::{AllocError, Global};
@@ -68,6 +69,10 @@ impl Bell {
     }
 }
 
+// 2^64 divided by the golden ratio. The numbers of sessions come in steps, since each SETUP and each
+// connection draws several: by their remainders alone one pacer would have them all.
+const SPREAD: u64 = 0x9E37_79B9_7F4A_7C15;
+
 /// The bells of all pacers. A session's plays are all sent by one of them.
 #[derive(Drop)]
 pub struct Bells {
@@ -77,22 +82,29 @@ pub struct Bells {
 impl Bells {
     /// The bells of so many pacers, for so many sessions. All memory for handing plays over is
     /// taken here, as long as no session begins more plays than the pacer can hear.
-    pub fn new(alloc: Global, pacers: usize, sessions: u16) -> Result<Bells, AllocError> {
+    pub fn new(alloc: Global, pacers: usize, sessions: u16) -> Result<Bells, AllocError>
+        ensures { IfOk result (λ b. vec_len b.bells ≡ pacers) }
+    {
         let mut bells = Vec::new(alloc);
-        for _ in 0..pacers {
+        for _count in 0..pacers {
             bells.push(Bell::new(alloc, usize::from(sessions))?)?;
         }
         Ok(Bells { bells })
     }
 
     /// All of them, each for one pacer.
-    pub fn as_slice(&self) -> &[Bell] {
+    pub fn as_slice(&self) -> &[Bell]
+        ensures { result.now ≡ self.now.bells.items }
+    {
         self.bells.as_slice()
     }
 
     /// The bell of the pacer that has a session. `None` where there is no pacer.
-    pub fn of(&self, session: u64) -> Option<&Bell> {
-        let place = session.checked_rem(self.bells.len() as u64)?;
+    pub fn of(&self, session: u64) -> Option<&Bell>
+        ensures { option_copied result ≡ bell_of self.now.bells.items session }
+    {
+        let spread = session.wrapping_mul(SPREAD) / (1 << 32);
+        let place = spread.checked_rem(self.bells.len() as u64)?;
         self.bells.get(usize::try_from(place).ok()?)
     }
 

@@ -54,11 +54,11 @@ impl NotedPlays {
     /// Hands the plays that were begun over to the pacers of their sessions, once the answers to
     /// their PLAYs are put into the outlet of the connection. A play that finds no room with its
     /// pacer is dropped: it is begun, and nothing of it is sent.
-    pub fn hand_over<R: Wait>(&mut self, rt: &R, bells: &Bells, outlet: &Arc<Outlet>) {
-        for _ in 0..self.begun.len() {
-            let Some(noted) = self.begun.pop() else {
-                return;
-            };
+    pub fn hand_over<R: Wait>(&mut self, rt: &R, bells: &Bells, outlet: &Arc<Outlet>)
+        ensures begun { self.new.begun.items ≡ [] }
+        ensures noted { self.new.noted ≡ self.old.noted }
+    {
+        while let Some(noted) = self.begun.pop() {
             if let Some(bell) = bells.of(noted.session)
                 && let Ok(outlet) = Arc::try_clone(outlet)
             {

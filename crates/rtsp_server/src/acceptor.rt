@@ -109,21 +109,18 @@ impl Acceptor {
         }
     }
 
-    // Accepts a connection by the descriptor in reserve, and closes it. Whether there was one.
-    fn turn_away(&mut self, listener: &TcpListener) -> bool {
+    // Accepts a connection by the descriptor in reserve, where there is one, and closes it.
+    fn turn_away(&mut self, listener: &TcpListener) -> io::Result<()> {
         self.reserve = None;
-        let turned_away = listener.accept().is_ok();
+        let turned_away = listener.accept().map(drop);
         self.restore();
         turned_away
     }
 
-    /// Accepts a connection.
-    pub(crate) fn accept(&mut self, listener: &TcpListener, now: u64) -> Accepted {
-        let fault = match listener.accept() {
-            Ok((stream, peer)) => return Accepted::Stream(stream, ipv4_of(peer)),
-            Err(fault) => fault,
-        };
-        if has_gone(&fault) || (wants_descriptor(&fault) && self.turn_away(listener)) {
+    // What comes of a fault. Where a descriptor was at hand and none waits, the system tells of the
+    // next one; after any other fault it is tried again.
+    fn failed(&mut self, fault: &io::Error, now: u64) -> Accepted {
+        if has_gone(fault) {
             return Accepted::Gone;
         }
         self.is_ready = false;
@@ -131,5 +128,22 @@ impl Acceptor {
             self.retry_at = Some(now.saturating_add(ACCEPT_RETRY));
         }
         Accepted::Nothing
+    }
+
+    /// Accepts a connection. None is let in without a descriptor in reserve: where another lane has
+    /// taken it, the descriptor of the next connection is what is kept in reserve.
+    pub(crate) fn accept(&mut self, listener: &TcpListener, now: u64) -> Accepted {
+        self.restore();
+        if self.reserve.is_some() {
+            match listener.accept() {
+                Ok((stream, peer)) => return Accepted::Stream(stream, ipv4_of(peer)),
+                Err(fault) if wants_descriptor(&fault) => {}
+                Err(fault) => return self.failed(&fault, now),
+            }
+        }
+        match self.turn_away(listener) {
+            Ok(()) => Accepted::Gone,
+            Err(fault) => self.failed(&fault, now),
+        }
     }
 }

@@ -221,15 +221,16 @@ impl Client {
         let piece = piece.as_slice();
         let piece = piece.split_at(n.min(piece.len())).0;
         let asker = self.asker;
-        let answered = room.as_bytes().len();
+        let all = self.input.len().saturating_add(piece.len());
         let given = words.given();
         let pushed = self
             .handle
             .push(service, asker, words, plays, &mut self.input, piece, room);
         self.has_setup = self.has_setup || words.given() != given;
+        // Where some of the bytes have gone, an item was finished, and what is left is another one.
         if self.input.is_idle() {
             self.begun = None;
-        } else if self.begun.is_none() || room.as_bytes().len() != answered {
+        } else if self.begun.is_none() || self.input.len() < all {
             self.begun = Some(service.now);
         }
         pushed

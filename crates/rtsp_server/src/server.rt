@@ -1,5 +1,6 @@
 //! A server: all its threads, from their start until they are joined.
 
+ghost use Rattle.std.specs.Prelude.{◌≡◌};
 ghost use Rattle.rtsp_lock.specs.Calls.{IsSeatOf};
 ghost use Rattle.rtsp_record.specs.Choices.{HasPorts};
 
@@ -108,7 +109,10 @@ fn open_book(alloc: Global, whole: &Whole) -> Result<BookHandle, AllocError>
 
 /// What there is to hold by a configuration.
 pub fn whole_of(table: &Table) -> Whole
-    ensures { HasPorts result }
+    ensures ports { HasPorts result }
+    ensures pairs { (result.first_port ≡ table.now.server.first_port) × (result.pairs ≡ table.now.server.pairs) }
+    ensures limits { (result.uplink ≡ table.now.server.uplink) × (result.sessions ≡ table.now.server.sessions) }
+    ensures journal { result.journal ≡ table.now.server.journal }
 {
     let server = table.server();
     Whole {
@@ -316,7 +320,9 @@ impl Server {
     }
 
     /// The address that it listens on.
-    pub fn address(&self) -> SocketAddr {
+    pub fn address(&self) -> SocketAddr
+        ensures { result ≡ self.now.address }
+    {
         self.address
     }
 

@@ -17,7 +17,9 @@ pub struct RunningClock<'a, R> {
 
 impl<'a, R: rt::Clock> RunningClock<'a, R> {
     /// A clock that counts from this instant.
-    pub fn new(rt: &'a R, begun: Instant) -> RunningClock<'a, R> {
+    pub fn new(rt: &'a R, begun: Instant) -> RunningClock<'a, R>
+        ensures { result.last ≡ 0 }
+    {
         RunningClock { rt, begun, last: 0 }
     }
 

@@ -1,5 +1,8 @@
 //! The writing side of a connection.
 
+ghost use Rattle.std.specs.Prelude.{◌≡◌, ◌≤◌, IfSome};
+ghost use Rattle.rtsp_sockets.specs.Rooms.{all_room};
+
 use crate::message::Message;
 use crate::pending::Pending;
 use crate::put::Put;
@@ -27,7 +30,9 @@ pub struct Outlet {
 
 impl Outlet {
     /// The outlet of a connection, which doesn't block. It takes no memory.
-    pub fn new(alloc: Global, stream: TcpStream) -> Outlet {
+    pub fn new(alloc: Global, stream: TcpStream) -> Outlet
+        ensures { result.stream ≡ stream }
+    {
         Outlet {
             stream,
             pending: Mutex::new(Pending::new(alloc)),
@@ -41,13 +46,18 @@ impl Outlet {
     }
 
     /// The connection, to be read from.
-    pub fn stream(&self) -> &TcpStream {
+    pub fn stream(&self) -> &TcpStream
+        ensures { result.now ≡ self.now.stream }
+    {
         &self.stream
     }
 
     /// The number of the next request of the server on this connection, from 1. After 999,999,999,
     /// the greatest (RFC 7826 section 20.2.3), it begins anew.
-    pub fn next_cseq<R: Wait>(&self, rt: &R) -> u32 {
+    pub fn next_cseq<R: Wait>(&self, rt: &R) -> u32
+        ensures least { 1 ≤ result }
+        ensures most { result ≤ 999_999_999 }
+    {
         let mut requests = self.requests.lock(rt);
         *requests = *requests % 999_999_999 + 1;
         *requests
@@ -72,7 +82,9 @@ impl Outlet {
 
     /// Writes what waits, as far as it goes at once: how many bytes are left, or `None` where the
     /// connection is closed. It is called whenever the connection can be written.
-    pub fn flush<R: Wait>(&self, rt: &R, now: u64) -> Option<usize> {
+    pub fn flush<R: Wait>(&self, rt: &R, now: u64) -> Option<usize>
+        ensures { IfSome result (λ left. left ≤ all_room) }
+    {
         let mut pending = self.pending.lock(rt);
         let was_closed = pending.is_closed();
         let left = pending.flush(&mut &self.stream, now);
@@ -83,14 +95,18 @@ impl Outlet {
     }
 
     /// Takes no more frames: how many bytes still wait.
-    pub fn drain<R: Wait>(&self, rt: &R) -> usize {
+    pub fn drain<R: Wait>(&self, rt: &R) -> usize
+        ensures { result ≤ all_room }
+    {
         let mut pending = self.pending.lock(rt);
         pending.drain();
         pending.len()
     }
 
     /// How many bytes wait.
-    pub fn waiting<R: Wait>(&self, rt: &R) -> usize {
+    pub fn waiting<R: Wait>(&self, rt: &R) -> usize
+        ensures { result ≤ all_room }
+    {
         self.pending.lock(rt).len()
     }
 

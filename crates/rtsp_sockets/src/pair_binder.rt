@@ -1,5 +1,7 @@
 //! Binds pairs of ports by their sockets.
 
+ghost use Rattle.std.specs.Prelude.{◌≡◌};
+
 use crate::pairs::PairTable;
 use rtsp_engine::{BindFault, Binder};
 use std::net::Net;
@@ -15,7 +17,9 @@ pub struct PairBinder<'a, R> {
 
 impl<'a, R> PairBinder<'a, R> {
     /// A binder of the table's pairs. Any number of binders may have one table.
-    pub fn new(rt: &'a R, table: &'a PairTable) -> PairBinder<'a, R> {
+    pub fn new(rt: &'a R, table: &'a PairTable) -> PairBinder<'a, R>
+        ensures { result.failed ≡ 0 }
+    {
         PairBinder {
             rt,
             table,

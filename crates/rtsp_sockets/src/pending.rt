@@ -2,7 +2,7 @@
 
 ghost use Rattle.std.specs.Prelude.{◌≡◌, ◌≤◌, ◌<◌, ◌+◌, ◌++◌, ◌↔◌, [], take, length, IsTrue, IfSome, IfNone};
 ghost use Rattle.std.specs.Io.KnownBytes.{Appends};
-ghost use Rattle.rtsp_sockets.specs.Rooms.{room_of};
+ghost use Rattle.rtsp_sockets.specs.Rooms.{all_room, room_of};
 ghost use Rattle.rtsp_sockets.specs.Passing.{Puts, Flushed, IsClosed, IsStalled, Keeps};
 
 use crate::message::Message;
@@ -75,7 +75,8 @@ impl Pending {
 
     // How many bytes wait.
     pub(crate) fn len(&self) -> usize
-        ensures { result ≡ length self.now.bytes }
+        ensures count { result ≡ length self.now.bytes }
+        ensures most { result ≤ all_room }
     {
         self.bytes.len()
     }
@@ -162,6 +163,7 @@ impl Pending {
     pub(crate) fn flush<W: Write>(&mut self, to: &mut W, now: u64) -> Option<usize>
         ensures some { IfSome result (λ n. Flushed (W.contents to.old) (W.contents to.new) self.old self.new n) }
         ensures none { IfNone result (IsClosed self.new) }
+        ensures most { IfSome result (λ n. n ≤ all_room) }
     {
         if self.condition == Condition::Closed {
             return None;

@@ -1,7 +1,7 @@
 //! Which pairs of ports are bound, each under an admission.
 
-ghost use Rattle.std.specs.Prelude.{◌≡◌};
-ghost use Rattle.rtsp_sockets.specs.Slots.{place_of};
+ghost use Rattle.std.specs.Prelude.{◌≡◌, ◌≢◌, Some, None, IfOk, IfSome, IfNone, replicate};
+ghost use Rattle.rtsp_sockets.specs.Slots.{place_of, slot, IsBoundUnder, IsNotUnder, Puts, Takes, Stays};
 
 use crate::pairs::PairSockets;
 use std::alloc::{AllocError, Global};
@@ -30,9 +30,12 @@ fn place_of(first: u16, pair: u16) -> usize
 }
 
 impl Slots {
-    pub(crate) fn open(alloc: Global, first_port: u16, pairs: u16) -> Result<Slots, AllocError> {
+    pub(crate) fn open(alloc: Global, first_port: u16, pairs: u16) -> Result<Slots, AllocError>
+        ensures first { IfOk result (λ s. s.first_port ≡ first_port) }
+        ensures pairs { IfOk result (λ s. s.pairs.items ≡ replicate pairs None) }
+    {
         let mut slots = Vec::with_capacity(alloc, usize::from(pairs))?;
-        for _ in 0..pairs {
+        for _count in 0..pairs {
             slots.push(None)?;
         }
         Ok(Slots {
@@ -42,7 +45,12 @@ impl Slots {
     }
 
     // Puts a pair where none is bound. It is given back where one is, or outside the range.
-    pub(crate) fn put(&mut self, pair: u16, bound: BoundPair) -> Option<BoundPair> {
+    pub(crate) fn put(&mut self, pair: u16, bound: BoundPair) -> Option<BoundPair>
+        ensures put { IfNone result (Puts self.old pair bound self.new) }
+        ensures taken { IfSome result (λ b. slot self.old pair ≢ Some None) }
+        ensures given { IfSome result (λ b. b ≡ bound) }
+        ensures stays { IfSome result (λ b. Stays self.old self.new) }
+    {
         let place = place_of(self.first_port, pair);
         match self.pairs.get_mut(place) {
             Some(slot) if slot.is_none() => {
@@ -54,7 +62,11 @@ impl Slots {
     }
 
     // Takes the pair out that is bound under this admission.
-    pub(crate) fn take(&mut self, admission: u64, pair: u16) -> Option<BoundPair> {
+    pub(crate) fn take(&mut self, admission: u64, pair: u16) -> Option<BoundPair>
+        ensures takes { IfSome result (λ b. Takes self.old admission pair b self.new) }
+        ensures none { IfNone result (IsNotUnder self.old admission pair) }
+        ensures stays { IfNone result (Stays self.old self.new) }
+    {
         let slot = self.pairs.get_mut(place_of(self.first_port, pair))?;
         match slot {
             Some(bound) if bound.admission == admission => slot.take(),
@@ -63,7 +75,10 @@ impl Slots {
     }
 
     // The sockets of the pair that is bound under this admission.
-    pub(crate) fn get(&self, admission: u64, pair: u16) -> Option<&Arc<PairSockets>> {
+    pub(crate) fn get(&self, admission: u64, pair: u16) -> Option<&Arc<PairSockets>>
+        ensures found { IfSome result (λ s. (b : BoundPair) × IsBoundUnder self.now admission pair b × s.now ≡ b.sockets) }
+        ensures none { IfNone result (IsNotUnder self.now admission pair) }
+    {
         match self.pairs.get(place_of(self.first_port, pair))? {
             Some(bound) if bound.admission == admission => Some(&bound.sockets),
             _ => None,

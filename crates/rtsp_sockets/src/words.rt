@@ -1,6 +1,6 @@
 //! Words of the system.
 
-ghost use Rattle.std.specs.Prelude.{◌≡◌, ◌≤◌, ◌+◌, ◌%◌, ◌^◌, OnOk, OnErr};
+ghost use Rattle.std.specs.Prelude.{◌≡◌, ◌<◌, ◌≤◌, ◌+◌, ◌-◌, ◌%◌, ◌^◌, slice_range, IfOk, OnOk, OnErr};
 ghost use Rattle.rtsp_admit.specs.Binder.{raised};
 
 use rtsp_engine::WordsFault;
@@ -28,8 +28,11 @@ pub struct RandomWords {
 }
 
 impl RandomWords {
-    /// Opens the source.
-    pub fn open<R: Files<File = File>>(rt: &R) -> io::Result<RandomWords> {
+    /// Opens the source. Nothing of the pool is given before it is read.
+    pub fn open<R: Files<File = File>>(rt: &R) -> io::Result<RandomWords>
+        ensures spent { IfOk result (λ w. w.used ≡ 32) }
+        ensures counts { IfOk result (λ w. (w.words ≡ 0) × (w.failed ≡ 0)) }
+    {
         Ok(RandomWords {
             source: File::open(rt, SOURCE)?,
             pool: [0; POOL],
@@ -60,6 +63,9 @@ impl RandomWords {
     // The next bytes. None are given twice.
     pub(crate) fn take<const N: usize>(&mut self) -> Result<[u8; N], WordsFault>
         requires { N ≤ 32 }
+        ensures bytes { IfOk result (λ bytes. bytes ≡ slice_range self.new.pool (self.new.used - N) self.new.used) }
+        ensures next { self.old.used + N ≤ 32 → (self.new.used ≡ self.old.used + N) × (self.new.pool ≡ self.old.pool) }
+        ensures first { 32 < self.old.used + N → OnOk result (self.new.used ≡ N) }
         ensures ok { OnOk result (self.new.failed ≡ self.old.failed) }
         ensures counted { OnOk result (self.new.words ≡ (self.old.words + 1) % 2 ^ 64) }
         ensures err { OnErr result (self.new.failed ≡ raised self.old.failed) }

@@ -24,9 +24,10 @@ pub record Binds (b : PairSet) (a p : ℕ) (c : PairSet) : Type 0 where
   pub others : (q : ℕ) → q ≢ place_of b.first_port p → slot c q ≡ slot b q
   pub first : c.first_port ≡ b.first_port
 
--- only the count of failures is changed
-abbrev pub Fails : PairSet → ℕ → ℕ → PairSet → Type 0
-Fails b a p c = c ≡ record b { failed = raised b.failed }
+-- the pair wasn't free, and only the count of failures is changed
+pub record Fails (b : PairSet) (a p : ℕ) (c : PairSet) : Type 0 where
+  pub taken : slot b (place_of b.first_port p) ≢ Some None
+  pub counted : c ≡ record b { failed = raised b.failed }
 
 -- the pair isn't this admission's any more, and nothing else is changed
 pub record Unbinds (b : PairSet) (a p : ℕ) (c : PairSet) : Type 0 where

@@ -1,6 +1,6 @@
 //! Words that are counted, for a program whose answers are the same in each run.
 
-ghost use Rattle.rtspd.specs.CountedWords.{calls, Fails};
+ghost use Rattle.rtspd.specs.CountedWords.{calls, Counts};
 
 use rtsp_engine::{Words, WordsFault};
 
@@ -28,7 +28,7 @@ impl CountedWords {
     }
 
     fn fail(&mut self) -> WordsFault
-        ensures { Fails self.old self.new }
+        ensures { Counts self.old self.new }
     {
         self.failed = self.failed.saturating_add(1);
         WordsFault
