@@ -39,6 +39,22 @@ def is_closed_by_server(talk: socket.socket, seconds: float) -> bool:
         return False
 
 
+def answered_among(talks: List[socket.socket], seconds: float) -> List[socket.socket]:
+    """Those that are answered, of connections that the server answers or closes within so many seconds."""
+    until = time.monotonic() + seconds
+    answered = []
+    for talk in talks:
+        try:
+            talk.sendall(written("OPTIONS * RTSP/2.0", [("CSeq", "1")]))
+            talk.settimeout(max(until - time.monotonic(), 0.01))
+            if talk.recv(4096).startswith(b"RTSP/2.0 200 OK"):
+                answered.append(talk)
+        except OSError:
+            # It was closed, or it waits: whoever asks next sees which.
+            pass
+    return answered
+
+
 def many(server: Server, count: int) -> List[socket.socket]:
     return [server.socket() for _ in range(count)]
 
@@ -126,11 +142,11 @@ def sixty_four_descriptors(checks: Checks) -> None:
         first = [server.connect() for _ in range(20)]
         checks.same("the first 20", [200] * 20, [talk.ask("OPTIONS", "*").status for talk in first])
         more = many(server, 120)
-        last = time.monotonic() + 10.0
-        while len(closed := [talk for talk in more if is_closed_by_server(talk, 0.01)]) < 20 and time.monotonic() < last:
-            time.sleep(0.5)
-        left = [talk for talk in more if talk not in closed]
-        checks.that("of 120 more at least 20 are closed at once", len(closed) >= 20, len(closed))
+        left = answered_among(more, 3.0)
+        waiting = [talk for talk in more if talk not in left and not is_closed_by_server(talk, 0.01)]
+        checks.same("of 120 more, those that wait", 0, len(waiting))
+        closed = len(more) - len(left)
+        checks.that("of 120 more at least 60 are closed at once", closed >= 60, closed)
         checks.same("the first 20 are still served", [200] * 20, [talk.ask("OPTIONS", "*").status for talk in first])
         udp = ("Transport", 'RTP/AVP;unicast;dest_addr=":9"/":9"')
         refused = first[0].ask("SETUP", f"{server.uri}/a", [udp]).status

@@ -9,16 +9,18 @@ from .server import Presentation, Server, is_alive, is_free, lease, leases
 
 ONE_TRACK = Presentation(tracks=Presentation().tracks[:1])
 TIMEOUT = 5
+# The step of renewals, in milliseconds: below the timeout less the time between two polls.
+STEP = 1_000
 # A session may live so much longer than its timeout, in seconds: the sweeps are a second apart.
 SWEPT_WITHIN = 1.5
 
 
 @serving_test(limit=30, is_timed=True)
 def a_silent_session_expires(checks: Checks) -> None:
-    """Many sessions over UDP that say nothing, one of which plays, end within a sweep; a renewed one lives on."""
+    """Many sessions over UDP that say nothing, one of which plays, end within a sweep; one renewed in steps lives."""
     count = 150
     rate = ONE_TRACK.whole_rate
-    settings = {"pairs": count, "sessions": count, "uplink": count * rate, "timeout": TIMEOUT}
+    settings = {"pairs": count, "sessions": count, "uplink": count * rate, "timeout": TIMEOUT, "renewal_step": STEP}
     with Server(checks, ONE_TRACK, **settings) as server:
         before = server.descriptors_at_rest()
         player = server.player(over_tcp=False)

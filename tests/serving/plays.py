@@ -1,6 +1,7 @@
 """What is sent: each packet once and as the file has it, over UDP and over the connection."""
 import array
 import os
+import pathlib
 import re
 import signal
 import socket
@@ -9,7 +10,7 @@ import sys
 import threading
 import time
 import wave
-from typing import Callable, List
+from typing import Callable, Dict, List
 
 from checks import EXAMPLES, Checks
 from rtsp_client.player import Player, Stream
@@ -200,7 +201,7 @@ def pairs_that_others_hold(checks: Checks) -> None:
 
 @serving_test(limit=20, is_timed=True)
 def a_player_that_opens_its_port_late(checks: Checks) -> None:
-    """Packets to a port that nobody has are lost; from the first that is received on none is."""
+    """Packets to a port that nobody has are lost, at first and later; from the first that is received on none is."""
     with Server(checks) as server, socket.socket(socket.AF_INET, socket.SOCK_DGRAM) as late:
         late.bind((HERE, 0))
         port = late.getsockname()[1]
@@ -213,13 +214,15 @@ def a_player_that_opens_its_port_late(checks: Checks) -> None:
         checks.same("PLAY", 200, played.status)
         time.sleep(0.5)
         ssrc = re.search(r"ssrc=([0-9a-f]{8})", setup.header("Transport") or "")
-        reception = Reception(int(ssrc[1], 16), 8000)
-        with socket.socket(socket.AF_INET, socket.SOCK_DGRAM) as open_at_last:
-            open_at_last.bind((HERE, port))
-            open_at_last.settimeout(1)
-            for _ in range(50):
-                reception.take(open_at_last.recv(2048), time.monotonic())
-        checks.same("50 packets side by side", runs(list(range(50))), runs(reception.places))
+        for time_open in "first", "second":
+            reception = Reception(int(ssrc[1], 16), 8000)
+            with socket.socket(socket.AF_INET, socket.SOCK_DGRAM) as open_at_last:
+                open_at_last.bind((HERE, port))
+                open_at_last.settimeout(1)
+                for _ in range(50):
+                    reception.take(open_at_last.recv(2048), time.monotonic())
+            checks.same(f"50 packets side by side, the {time_open} time", runs(list(range(50))), runs(reception.places))
+            time.sleep(0.3)
         checks.that("the session lives", is_alive(talk, server.uri, session))
         talk.close()
 
@@ -231,9 +234,12 @@ LONG = Presentation("long", units=200_000, tracks=(Track("a", octets=1400),))
 def a_file_that_is_cut_short(checks: Checks) -> None:
     """A file too large to be held in memory is cut while it plays: its packets stop, the server goes on."""
     server = Server(checks, LONG)
-    # A file of zeros, which takes no room.
+    track = LONG.tracks[0]
+    first = b"".join(map(track.unit, range(500)))
+    # Behind its first units the file is zeros, which take no room.
     with open(server.path / "a.raw", "wb") as file:
-        file.truncate(LONG.units * 1400)
+        file.write(first)
+        file.truncate(LONG.units * track.octets)
     with server:
         player = server.player(over_tcp=True)
         stream = set_up_all(player)[0]
@@ -242,7 +248,6 @@ def a_file_that_is_cut_short(checks: Checks) -> None:
         player.connection.wait(1.0)
         before = len(came)
         checks.that("it plays", before >= 40, before)
-        checks.that("the octets are the file's", {packet.payload for packet in came} == {bytes(1400)})
         os.truncate(server.path / "a.raw", 0)
         player.connection.wait(0.3)
         stopped_at = len(came)
@@ -250,8 +255,45 @@ def a_file_that_is_cut_short(checks: Checks) -> None:
         checks.same("without its file nothing is sent", stopped_at, len(came))
         server.answers("meanwhile it answers others")
         checks.same("meanwhile it answers the player", 200, player.ask("GET_PARAMETER").status)
-        os.truncate(server.path / "a.raw", LONG.units * 1400)
+        (server.path / "a.raw").write_bytes(first)
+        os.truncate(server.path / "a.raw", LONG.units * track.octets)
         player.connection.wait(1.0)
         checks.that("with its file it goes on", len(came) >= stopped_at + 20, len(came) - stopped_at)
+        checks.same("the units", runs(list(range(len(came)))), runs(stream.reception.places))
+        whole = all(packet.payload == track.unit(place) for place, packet in zip(stream.reception.places, came))
+        checks.that("the octets are the file's", whole)
         checks.same("PAUSE", 200, player.pause().status)
         player.tear_down()
+
+
+def busy_threads(server: Server, seconds: float, wakes: int) -> int:
+    """How many threads of the server have gone to sleep at least so often within so many seconds."""
+    tasks = pathlib.Path(f"/proc/{server.process.pid}/task")
+
+    def sleeps() -> Dict[str, int]:
+        texts = {it.name: (it / "status").read_text() for it in tasks.iterdir()}
+        return {name: int(re.search(r"(?m)^voluntary_ctxt_switches:\s*(\d+)", text)[1]) for name, text in texts.items()}
+
+    before = sleeps()
+    time.sleep(seconds)
+    return sum(count - before.get(name, 0) >= wakes for name, count in sleeps().items())
+
+
+@serving_test(limit=20, is_timed=True)
+def plays_of_two_pacers(checks: Checks) -> None:
+    """Sessions with even and with odd numbers play at once: each packet once; each pacer has its share."""
+    with Server(checks) as server:
+        players = [server.player(over_tcp=False) for _ in range(4)]
+        # A track more makes the number of the next session odd where this one's is even.
+        for place, player in enumerate(players):
+            for track in player.describe()[: 2 - place % 2]:
+                player.set_up(track)
+        began = [player.play(9.0) for player in players]
+        checks.same("PLAY", [200] * 4, [it.status for it in began])
+        pacers = max(len(os.sched_getaffinity(0)) // 2, 1)
+        checks.same("threads that send", min(pacers, 2), busy_threads(server, 0.6, 20))
+        for player in players:
+            checks.that("the play ends", player.listen(3.0))
+            for stream in player.streams:
+                checks.same(f"units of {stream.track.uri}", runs(list(range(50))), runs(stream.reception.places))
+            player.tear_down()

@@ -8,7 +8,7 @@ import socket
 import subprocess
 import tempfile
 import time
-from typing import List, NamedTuple, Optional, Sequence, Tuple
+from typing import Dict, List, NamedTuple, Optional, Sequence, Tuple
 
 from checks import PROGRAM, Checks, Failed
 from rtsp_client.connection import Connection
@@ -112,6 +112,7 @@ class Server:
         self.port = free_ports(socket.SOCK_STREAM, 1)
         self.text = text or configuration(presentation, self.first_port, **server)
         self.folder = tempfile.TemporaryDirectory()
+        self.environment: Dict[str, str] = {}
         self.status: Optional[int] = None
 
     @property
@@ -133,7 +134,8 @@ class Server:
         (self.path / "server.toml").write_text(self.text)
         command = [TRIED, "serve", "--config", "server.toml", "--listen", f"{HERE}:{self.port}", *self.words]
         limit = self.descriptors_allowed or "$(ulimit -Hn)"
-        shell = ["bash", "-c", f'ulimit -n {limit} && exec "$0" "$@"', *command]
+        given = [f"{name}={value}" for name, value in self.environment.items()]
+        shell = ["bash", "-c", f'ulimit -n {limit} && exec "$0" "$@"', "env", *given, *command]
         pipes = {"stdout": subprocess.PIPE, "stderr": subprocess.PIPE, "stdin": subprocess.DEVNULL}
         return subprocess.Popen(shell, cwd=self.path, **pipes)
 

@@ -5,12 +5,15 @@ from typing import Dict, List, Optional
 
 from checks import Checks
 from rtsp_client.connection import Connection
+from rtsp_client.messages import frame
 
 from .runner import serving_test
 from .server import Server, is_alive, lease
 
 # The limits of the server, in seconds, and what a sweep may add.
 SILENT, UNFINISHED, SWEPT_WITHIN = 60, 30, 3.0
+# What connections send each second on which some item is always begun, and each is finished.
+CUT = {"frames, cut": frame(0, bytes(100)), "requests, cut": b"OPTIONS * RTSP/2.0\r\nCSeq: 1\r\n\r\n"}
 
 
 def is_open(talk: socket.socket) -> bool:
@@ -46,7 +49,7 @@ def ends_of(talks: Dict[str, socket.socket], until: float, each_second) -> Dict[
 def silent_connections_are_closed(checks: Checks) -> None:
     """Without a session after 60 s, with a message that isn't finished after 30 s, however slowly it goes on."""
     with Server(checks) as server:
-        names = "silent", "one request", "begun", "a byte a second", "a frame begun", "asks", "over TCP"
+        names = "silent", "one request", "begun", "a byte a second", "a frame begun", "asks", "over TCP", *CUT
         connections: Dict[str, Connection] = {name: server.connect() for name in names}
         talks = {name: connection.socket for name, connection in connections.items()}
         udp = server.connect()
@@ -65,6 +68,10 @@ def silent_connections_are_closed(checks: Checks) -> None:
                     talks["a byte a second"].send(b"O")
                 except OSError:
                     pass
+            for name, item in CUT.items():
+                if name in are_open:
+                    # The end of one item, and the beginning of the next.
+                    talks[name].send(item[1:] + item[:1] if second > 1 else item[:1])
             if second % 20 == 0 and "asks" in are_open:
                 talks["asks"].send(b"OPTIONS * RTSP/2.0\r\nCSeq: 1\r\n\r\n")
                 lived.append(is_alive(udp, server.uri, leased.session if leased else ""))
@@ -80,7 +87,8 @@ def silent_connections_are_closed(checks: Checks) -> None:
             seconds = ends[name]
             is_right = seconds is not None and limit - 0.5 <= seconds <= limit + SWEPT_WITHIN
             checks.that(f"the connection '{name}' is closed {limit} s later, within a sweep", is_right, seconds)
-        checks.same("the one that asks is open", None, ends["asks"])
+        for name in "asks", *CUT:
+            checks.same(f"the connection '{name}' is open", None, ends[name])
         checks.same("a session over UDP that is renewed lives", [True] * 3, lived)
         for connection in [*connections.values(), udp]:
             connection.close()

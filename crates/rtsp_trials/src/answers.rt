@@ -8,8 +8,9 @@ use rtsp_record::Thing;
 use rtsp_state::{
     Drawn, Name, Plan, Reply, Room, Screen, SessionKey, SetupPlan, Status, decide,
     law_allowed_is_valid, law_answers_in_order, law_answers_refusal, law_reads_once,
-    law_shows_allowed, law_shows_session, renewal, renewal_refused, screen,
+    law_renews_in_steps, law_shows_allowed, law_shows_session, renewal, renewal_refused, screen,
 };
+use rtspd::EXAMPLE;
 use std::alloc::{AllocError, Global};
 use std::process::Abort;
 use std::test::Fail;
@@ -270,22 +271,41 @@ fn what_has_no_number_is_screened(rt: HostRuntime) -> Result<(), Fail> {
     Ok(())
 }
 
-// The moment to which a request of the session that is Ready renews it, at the moment 1,000.
-fn renewed_until(alloc: Global, table: &Table, method: &str) -> Result<Option<u64>, AllocError> {
+// The moment to which a request of the session that is Ready, and ends at 60,000, renews it.
+fn renewed_until(
+    alloc: Global,
+    table: &Table,
+    method: &str,
+    moment: u64,
+) -> Result<Option<u64>, Fail> {
     let request = request(alloc, (method, TONE), READY, "", "")?;
-    match screen(alloc, &request, table)? {
-        Screen::Answered(_) => Ok(None),
-        Screen::Asks(parsed) => Ok(renewal(&parsed, table, 1_000)),
+    let kept = sessions(alloc)?;
+    match (screen(alloc, &request, table)?, kept.book().session(2)) {
+        (Screen::Asks(parsed), Some(view)) => Ok(renewal(&parsed, table, &view, moment)),
+        _ => Ok(None),
     }
 }
 
 #[test]
 fn a_session_is_renewed_but_by_its_teardown(rt: HostRuntime) -> Result<(), Fail> {
     let table = tone(&rt)?;
-    let renewed = renewed_until(rt.alloc(), &table, "PLAY")?;
+    let renewed = renewed_until(rt.alloc(), &table, "PLAY", 1_000)?;
     assert_eq!(rt; renewed, Some(61_000));
-    let ended = renewed_until(rt.alloc(), &table, "TEARDOWN")?;
+    let ended = renewed_until(rt.alloc(), &table, "TEARDOWN", 1_000)?;
     assert_eq!(rt; ended, None);
+    let same = renewed_until(rt.alloc(), &table, "PLAY", 0)?;
+    assert_eq!(rt; same, None);
+    Ok(())
+}
+
+#[test]
+fn a_session_is_renewed_by_a_step_at_least(rt: HostRuntime) -> Result<(), Fail> {
+    let text = EXAMPLE.replacen(rt.alloc(), "timeout", "renewal_step = 5000\ntimeout", 1)?;
+    let table = Table::read(rt.alloc(), text.as_bytes())?;
+    let too_little = renewed_until(rt.alloc(), &table, "PLAY", 4_999)?;
+    assert_eq!(rt; too_little, None);
+    let enough = renewed_until(rt.alloc(), &table, "PLAY", 5_000)?;
+    assert_eq!(rt; enough, Some(65_000));
     Ok(())
 }
 
@@ -310,6 +330,7 @@ fn a_refused_renewal_ends_the_request(rt: HostRuntime) -> Result<(), Fail> {
 #[test]
 fn the_laws_hold() {
     law_reads_once();
+    law_renews_in_steps();
     law_answers_refusal();
     law_shows_allowed();
     law_allowed_is_valid();

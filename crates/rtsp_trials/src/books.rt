@@ -14,9 +14,9 @@ use std::alloc::{AllocError, Global};
 use std::process::Abort;
 use std::test::Fail;
 
-// A step of a session, which its actor asks for.
+/// A step of a session, which its actor asks for.
 #[derive(Clone, Copy)]
-enum Asked {
+pub enum Asked {
     Open(u64, u128),
     Rate(u64, u64),
     Pair(u64, u64),
@@ -28,7 +28,8 @@ enum Asked {
     End(u64),
 }
 
-fn step(asked: Asked) -> Step
+/// The step that is asked for.
+pub fn step(asked: Asked) -> Step
     ensures { IsAskable result }
 {
     match asked {
@@ -75,8 +76,8 @@ fn step(asked: Asked) -> Step
     }
 }
 
-// The first four steps: a session with a stream over a pair, under admission 3.
-const WITH_STREAM: [Asked; 4] = [
+/// The first four steps: a session with a stream over a pair, under admission 3.
+pub const WITH_STREAM: [Asked; 4] = [
     Asked::Open(2, 1),
     Asked::Rate(2, 3),
     Asked::Pair(2, 3),

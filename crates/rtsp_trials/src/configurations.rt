@@ -54,6 +54,7 @@ fn reads_the_example(rt: HostRuntime) -> Result<(), Fail> {
         uplink: 160_000,
         sessions: 4,
         timeout: 60,
+        renewal_step: 1,
         journal: 1_000_000,
         workers: 4,
     };
@@ -213,6 +214,17 @@ fn keeps_every_limit(rt: HostRuntime) -> Result<(), AllocError> {
         ("sessions = 4", "sessions = 4096", "sessions = 4097"),
         ("timeout = 60", "timeout = 1", "timeout = 0"),
         ("timeout = 60", "timeout = 86400", "timeout = 86401"),
+        (
+            "timeout = 60",
+            "renewal_step = 59999",
+            "renewal_step = 60000",
+        ),
+        (
+            "timeout = 60",
+            "timeout = 1\nrenewal_step = 999",
+            "timeout = 1\nrenewal_step = 1000",
+        ),
+        ("timeout = 60", "renewal_step = 1", "renewal_step = 0"),
         ("timeout = 60", "journal = 1", "journal = 0"),
         ("timeout = 60", "journal = 1000000", "journal = 1000001"),
         ("timeout = 60", "workers = 1", "workers = 0"),

@@ -16,6 +16,10 @@ mod connections;
 #[cfg(test)]
 mod end_of_stream;
 #[cfg(test)]
+mod failing_devices;
+#[cfg(test)]
+mod failing_lanes;
+#[cfg(test)]
 mod header_values;
 #[cfg(test)]
 mod journals;
@@ -41,5 +45,9 @@ mod state_table;
 mod sweeps;
 #[cfg(test)]
 mod texts;
+#[cfg(test)]
+mod two_books;
+#[cfg(test)]
+mod two_tables;
 #[cfg(test)]
 mod world;

@@ -1,0 +1,135 @@
+//! Two tables of sessions side by side. Each is asked for the same records at random, and answers every call the same
+//! after each.
+
+use rtsp_index::IndexedBook;
+use rtsp_record::{Binding, Holding, Id, Life, Record, Renewal, Setup, Stream, Thing, Whole};
+use rtsp_sessions::{BookRep, PlainBook};
+use std::alloc::AllocError;
+use std::test::Fail;
+
+const WHOLE: Whole = Whole {
+    first_port: 5_000,
+    pairs: 3,
+    uplink: 200_000,
+    sessions: 3,
+    journal: 64,
+};
+
+// Makes a record where it is allowed.
+fn make<B: BookRep>(book: &mut B, change: &Record) -> Result<bool, AllocError> {
+    if !book.allowed(change) {
+        return Ok(false);
+    }
+    book.apply(&[*change])?;
+    Ok(true)
+}
+
+fn say_the_same<A: BookRep, B: BookRep>(one: &A, two: &B, few: u8) -> bool {
+    let number = u64::from(few);
+    let small = u32::from(few);
+    let looks = one.next_session(number) == two.next_session(number)
+        && one.by_id(u128::from(number)) == two.by_id(u128::from(number))
+        && one.by_startup(number, small) == two.by_startup(number, small)
+        && one.due(number) == two.due(number)
+        && one.on_conn(number) == two.on_conn(number)
+        && one.session(number).is_some() == two.session(number).is_some()
+        && one.get(number).is_some() == two.get(number).is_some();
+    let choices = one.least_pair(small) == two.least_pair(small)
+        && one.least_pair(5_000 + small) == two.least_pair(5_000 + small)
+        && one.least_chan(number, None) == two.least_chan(number, None)
+        && one.least_chan(number, Some(few)) == two.least_chan(number, Some(few));
+    looks
+        && choices
+        && one.held_rate() == two.held_rate()
+        && one.living() == two.living()
+        && one.owed() == two.owed()
+}
+
+// The numbers of a linear congruential generator (Numerical Recipes, second edition, section 7.1).
+fn next(seed: u32) -> u32 {
+    seed.wrapping_mul(1_664_525).wrapping_add(1_013_904_223)
+}
+
+// One of the records over few numbers, as the seed says.
+fn record_of(seed: u32) -> Record {
+    let session = u64::from((seed >> 8) % 4);
+    let admission = u64::from((seed >> 10) % 3);
+    let conn = u64::from((seed >> 12) % 3);
+    let life = Life {
+        session,
+        id: Id::new(u128::from(session)),
+        conn: 1,
+        expires: 5,
+    };
+    let thing = match (seed >> 14) % 3 {
+        0 => Thing::Pair(5_000 + 2 * ((seed >> 16) % 4) as u16),
+        1 => Thing::Chan(conn, 2 * ((seed >> 16) % 4) as u8),
+        _ => Thing::Rate(u64::from((seed >> 16) % 4) * 50_000),
+    };
+    let holding = Holding {
+        session,
+        admission,
+        thing,
+    };
+    let setup = Setup {
+        session,
+        admission,
+        stream: Stream {
+            presentation: 0,
+            track: admission as u16,
+            ssrc: 1,
+            seq: 2,
+            rtptime: 3,
+            peer: 4,
+            rtp_port: 5,
+            rtcp_port: 6,
+        },
+    };
+    let binding = Binding {
+        session,
+        conn,
+        number: conn as u32,
+    };
+    match (seed >> 20) % 10 {
+        0 | 1 => Record::Open(life),
+        2 | 3 => Record::Hold(holding),
+        4 => Record::Free(holding),
+        5 => Record::Add(setup),
+        6 => Record::Drop(setup),
+        7 => Record::Bind(binding),
+        8 => Record::Unbind(binding),
+        _ => {
+            if seed >> 31 == 0 {
+                Record::Close(life)
+            } else {
+                Record::Touch(Renewal {
+                    session,
+                    from: 5,
+                    to: 5,
+                })
+            }
+        }
+    }
+}
+
+// The same records to both books: each allows what the other does, and both say the same after it.
+#[test]
+fn both_books_say_the_same(rt: HostRuntime) -> Result<(), AllocError> {
+    let mut plain = PlainBook::open(rt.alloc(), &WHOLE)?;
+    let mut indexed = IndexedBook::open(rt.alloc(), &WHOLE)?;
+    let mut seed = 1;
+    let mut made = 0u32;
+    for _ in 0..4_000u32 {
+        seed = next(seed);
+        let change = record_of(seed);
+        let one = make(&mut plain, &change)?;
+        let two = make(&mut indexed, &change)?;
+        assert_eq!(rt; one, two);
+        if one {
+            made = made.saturating_add(1);
+        }
+        assert!(rt; say_the_same(&plain, &indexed, ((seed >> 24) % 8) as u8));
+    }
+    assert!(rt; made > 500);
+    Ok(())
+}
