@@ -1,12 +1,12 @@
 use crate::one_connection::OneConnection;
 use crate::running::read_table;
 use crate::{Exit, run_words};
-use rtsp_book::{BookRep, Kept, PlainBook};
+use rtsp_book::{BookRep, Kept};
 use rtsp_engine::{CountedReader, CountedWriter, ServeEnd, TURNS};
 use rtsp_grammar::MessageFault;
 use rtsp_lock::LockBook;
 use rtsp_record::write_journal;
-use rtsp_undo::{book_text, replay, rewind};
+use rtsp_undo::{book_text, rewind};
 use std::rt::Files;
 use std::sync::Wait;
 use std::test::Fail;
@@ -70,16 +70,6 @@ fn book_of(rt: &HostRuntime, kept: &mut Kept<LockBook>, back: usize) -> Result<V
     rewind(kept, back)?;
     let mut text: Vec<u8> = Vec::new(rt.alloc());
     book_text(&mut text, kept)?;
-    assert!(rt; audit_of(rt, kept)?.as_slice() == text.as_slice());
-    Ok(text)
-}
-
-// The text that an audit prints, whose book is the plain one.
-fn audit_of(rt: &HostRuntime, kept: &Kept<LockBook>) -> Result<Vec<u8>, Fail> {
-    let journal = Vec::from_slice(rt.alloc(), kept.journal())?;
-    let audited: Kept<PlainBook> = replay(rt.alloc(), kept.whole(), journal)?;
-    let mut text: Vec<u8> = Vec::new(rt.alloc());
-    book_text(&mut text, &audited)?;
     Ok(text)
 }
 
