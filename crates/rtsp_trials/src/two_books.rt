@@ -145,14 +145,12 @@ fn channel_hold(drawn: Draw, wish: Option<u8>) -> Step
     })
 }
 
-// With a wish that others have too, with one at the end, or without.
+// With a wish that others have too, or without.
 fn wished_hold(drawn: Draw) -> Step
     ensures { IsAskable result }
 {
     match drawn.few {
-        0..=3 => channel_hold(drawn, Some(0)),
-        4..=7 => channel_hold(drawn, Some(6)),
-        8 => channel_hold(drawn, Some(254)),
+        0..=8 => channel_hold(drawn, Some(0)),
         _ => channel_hold(drawn, None),
     }
 }
