@@ -16,10 +16,6 @@ mod connections;
 #[cfg(test)]
 mod end_of_stream;
 #[cfg(test)]
-mod failing_devices;
-#[cfg(test)]
-mod failing_lanes;
-#[cfg(test)]
 mod header_values;
 #[cfg(test)]
 mod journals;
@@ -45,8 +41,6 @@ mod state_table;
 mod sweeps;
 #[cfg(test)]
 mod texts;
-#[cfg(test)]
-mod two_books;
 #[cfg(test)]
 mod two_tables;
 #[cfg(test)]
