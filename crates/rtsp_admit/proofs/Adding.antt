@@ -32,7 +32,7 @@ entries_by-append actor [] ss = refl
 entries_by-append actor (r ∷ rs) ss = ap (λ (l : List Entry). record { actor = actor; change = r } ∷ l) (entries_by-append actor rs ss)
 
 pub grown_self : (v : View) → Grown v v []
-grown_self v = record { whole = refl; actor = refl; next = omega arith; later = later_self v.seen; mine = sym (append-nil v.mine) }
+grown_self v = record { whole = refl; actor = refl; next = omega arith; later = later_self v.seen_rounds v.seen; mine = sym (append-nil v.mine) }
 
 pub grown_none : (v u : View) → u ≡ v → Grown v u []
 grown_none v u same = subst (λ (x : View). Grown v x []) (sym same) (grown_self v)
@@ -42,7 +42,7 @@ grown_acted v u step answer acted = record {
   whole = acted.stays.whole;
   actor = acted.stays.actor;
   next = acted.stays.next;
-  later = subst (λ (j : List Entry). Later v.seen j) (sym acted.seen) (later_more v.seen acted.journal (entries_by v.actor (written answer)) acted.found.later);
+  later = subst (λ (j : List Entry). Later v.seen_rounds v.seen u.seen_rounds j) (sym acted.seen) (later_more v.seen_rounds v.seen u.seen_rounds acted.journal (entries_by v.actor (written answer)) acted.found.later);
   mine = acted.mine;
 }
 
@@ -51,7 +51,7 @@ grown_looked v u looked = record {
   whole = looked.stays.whole;
   actor = looked.stays.actor;
   next = looked.stays.next;
-  later = subst (λ (j : List Entry). Later v.seen j) (sym looked.seen) looked.found.later;
+  later = subst (λ (j : List Entry). Later v.seen_rounds v.seen u.seen_rounds j) (sym looked.seen) looked.found.later;
   mine = looked.mine ∙ sym (append-nil v.mine);
 }
 
@@ -63,7 +63,7 @@ grown_then v u w rs ss g h =
       whole = h.whole ∙ g.whole;
       actor = h.actor ∙ g.actor;
       next = omega (arith, first, second);
-      later = later_then v.seen u.seen w.seen g.later h.later;
+      later = later_then v.seen_rounds v.seen u.seen_rounds u.seen w.seen_rounds w.seen g.later h.later;
       mine = h.mine
           ∙ (ap (λ (n : ℕ). u.mine ++ entries_by n ss) g.actor
           ∙ (ap (λ (l : List Entry). l ++ entries_by v.actor ss) g.mine

@@ -1,4 +1,5 @@
 pub mod Rows
+pub mod Leading
 pub mod Going
 pub mod Choosing
 pub mod Breaking

@@ -15,7 +15,7 @@ use Rattle.rtsp_record.specs.Rules.{as_rate, is_this, is_held, IsAddress}
 use Rattle.rtsp_record.specs.Journals.{is_add_of, HasNoAdd}
 use Rattle.rtsp_book.specs.Sessions.{has_stream_under}
 use Rattle.rtsp_book.specs.Made.{taking_back}
-use Rattle.rtsp_record.proofs.Tables.{at_key, get-set, get-set_own, get-set_else, get-none}
+use Rattle.rtsp_record.proofs.Tables.{at_key, get-set}
 use Rattle.rtsp_record.proofs.Rows.{under-own, at_under}
 use Rattle.rtsp_record.proofs.Sound.{under_opened, same_nat}
 use Rattle.rtsp_record.proofs.Strands.{row_after}
@@ -49,8 +49,13 @@ upto_freed x y (Chan c k) d h = record { rate = h.rate; address = inl refl; stre
 upto_dropped : (x y : Option Thing) (d : Admission) → Upto x y d → Upto x y (streaming None d)
 upto_dropped x y d h = record { rate = h.rate; address = h.address; stream = refl }
 
+-- where nothing stands, no more than these two things does
+pub within_more : (a : ℕ) (x y : Option Thing) (o : Option Session) → Within a None None o → Within a x y o
+within_more a x y None h = tt
+within_more a x y (Some f) h = record { rate = ⊎_elim (λ e. inl e) (λ e. inl e) h.rate; address = ⊎_elim (λ e. inl e) (λ e. inl e) h.address; stream = h.stream }
+
 -- a record that is no Hold or Add of the admission leaves no more under it
-quiet_row : (a : ℕ) (x y : Option Thing) (r : Record) (o : Option Session) → is_use_of a r ≡ false → Within a x y o → Within a x y (effect r o)
+pub quiet_row : (a : ℕ) (x y : Option Thing) (r : Record) (o : Option Session) → is_use_of a r ≡ false → Within a x y o → Within a x y (effect r o)
 quiet_row a x y (Open l) o off h = subst (Upto x y) (sym (under_opened l.id l.conn l.expires a)) (upto_bare x y)
 quiet_row a x y (Close l) o off h = tt
 quiet_row a x y (Hold k) None off h = tt
@@ -90,7 +95,7 @@ quiet_all a q x y b (e ∷ k) none h =
       | false ↦ λ off l. quiet_all a q x y (after b e.change) k l (quiet_after a q x y b e.change off h)
     ] refl none
 
-no_add_of : (a : ℕ) (r : Record) → is_use_of a r ≡ false → is_add_of a r ≡ false
+pub no_add_of : (a : ℕ) (r : Record) → is_use_of a r ≡ false → is_add_of a r ≡ false
 no_add_of a (Add d) off = off
 no_add_of a r off = refl
 
@@ -115,32 +120,12 @@ pub record Left (s a : ℕ) (x y : Option Thing) (j : List Entry) : Type 0 where
 book_more : (j k : List Entry) → book_of (j ++ k) ≡ after_all (book_of j) (records_of k)
 book_more j k = ap (after_all empty) (records-append j k) ∙ after_all-append empty (records_of j) (records_of k)
 
--- before all Holds and Adds of the admission
-pub left_first : (s a : ℕ) (j : List Entry) → count a j ≡ 0 → Left s a None None j
-left_first s a j none =
-    let row : (q : ℕ) → Within a None None (get (book_of j) q) = λ q. quiet_all a q None None empty j none (subst (Within a None None) (sym (get-none q)) tt) in
-    record { others = λ q _. row q; own = row s; no_add = no_adds a j none }
-
 -- entries without such leave no more
 pub left_quiet : (s a : ℕ) (x y : Option Thing) (j k : List Entry) → count a k ≡ 0 → Left s a x y j → Left s a x y (j ++ k)
 left_quiet s a x y j k none l =
     let row : (q : ℕ) (x y : Option Thing) → Within a x y (get (book_of j) q) → Within a x y (get (book_of (j ++ k)) q) =
     λ q x y h. subst (λ b. Within a x y (get b q)) (sym (book_more j k)) (quiet_all a q x y (book_of j) k none h) in
     record { others = λ q apart. row q None None (l.others q apart); own = row s x y l.own; no_add = no_add-append a j k l.no_add (no_adds a k none) }
-
--- one more record of the session
-pub left_one : (s a : ℕ) (x y x' y' : Option Thing) (j : List Entry) (by : ℕ) (r : Record) → session_of r ≡ s → is_add_of a r ≡ false → ((o : Option Session) → Within a x y o → Within a x' y' (effect r o))
-    → Left s a x y j → Left s a x' y' (j ++ record { actor = by; change = r } ∷ [])
-left_one s a x y x' y' j by r same off step l =
-    let e : Entry = record { actor = by; change = r } in
-    let b = book_of j in
-    let is : book_of (j ++ e ∷ []) ≡ after b r = book_more j (e ∷ []) in
-    let there : get (after b r) s ≡ effect r (get b s) = subst (λ q. get (after b r) q ≡ effect r (get b q)) same (get-set_own b (session_of r) (effect r (get b (session_of r)))) in
-    record {
-      others = λ q apart. subst (Within a None None) (sym (ap (λ c. get c q) is ∙ get-set_else b (session_of r) q (effect r (get b (session_of r))) (λ e. apart (e ∙ same)))) (l.others q apart);
-      own = subst (Within a x' y') (sym (ap (λ c. get c s) is ∙ there)) (step (get b s) l.own);
-      no_add = no_add-append a j (e ∷ []) l.no_add (off, tt);
-    }
 
 pub holds_rate : (s a n : ℕ) (x y : Option Thing) (o : Option Session) → Within a x y o → Within a (Some (Rate n)) y (effect (holds s a (Rate n)) o)
 holds_rate s a n x y None h = tt

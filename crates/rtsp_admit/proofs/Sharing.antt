@@ -1,16 +1,16 @@
 -- A number that a seat drew is used by no other seat that keeps to its own.
-use Rattle.std.proofs.Common.{◌≡◌, ◌==◌, ℕ, zero, suc, Bool, true, false, cond, List, [], ◌∷◌, ◌++◌, refl, sym, ◌∙◌, ap, subst, arith, inl, inr}
+use Rattle.std.proofs.Common.{◌≡◌, ◌==◌, ℕ, zero, suc, Bool, true, false, cond, List, [], ◌∷◌, refl, sym, ◌∙◌, ap, subst, arith, inl, inr}
 use Rattle.std.specs.Prelude.{filter, Contains}
 use Rattle.std.proofs.lemmas.Bool.{cases_eq, eq-eqb}
-use Rattle.std.proofs.lemmas.List.Elements.{filter-append, Contains-append_left}
 use Rattle.rtsp_record.specs.declared.changes.Entry.{Entry}
 use Rattle.rtsp_record.specs.declared.holdings.Whole.{Whole}
 use Rattle.rtsp_lock.specs.declared.view.View.{View}
-use Rattle.rtsp_lock.specs.Entries.{OnlyOf, Has}
+use Rattle.rtsp_lock.specs.Entries.{OnlyOf, Has, Part, entries_of}
+use Rattle.rtsp_lock.proofs.Entries.{filters}
 use Rattle.rtsp_admit.specs.Refused.{is_use_of, uses}
 use Rattle.rtsp_admit.specs.Numbers.{DrawingSeat, DrawnUsedAlone}
 use Rattle.rtsp_admit.proofs.Drawing.{not_some}
-use Rattle.rtsp_admit.proofs.Unwinding.{filters}
+use Rattle.rtsp_admit.proofs.Leading.{part_passing}
 
 -- where the filter leaves nothing each element fails the test
 none_pass : {X : Type 0} (p : X → Bool) (l : List X) (x : X) → filter p l ≡ [] → Contains l x → p x ≡ false
@@ -38,16 +38,12 @@ no_other w u n e drawn d is =
     let x = d.view in
     let two = d.seats in
     let common = two.keeps.common in
-    let j = two.keeps.journal in
-    let own = common.fits two.first u two.at_first in
-    let other = common.fits two.second x two.at_second in
     let apart = common.apart two.first two.second u x two.at_first two.at_second two.two in
     let none : uses n x.mine ≡ [] = not_some (uses n x.mine) (λ some. apart.drawn n drawn (d.drawn n some)) in
-    let left : filter (λ (e : Entry). e.actor == x.actor) (uses n j) ≡ [] =
-    filters (λ (e : Entry). e.actor == x.actor) (λ (e : Entry). is_use_of n e.change) j ∙ ap (uses n) other.mine ∙ none in
-    let there : Contains (uses n (u.seen ++ own.later.0)) e =
-    subst (λ (l : List Entry). Contains l e) (sym (filter-append (λ (e : Entry). is_use_of n e.change) u.seen own.later.0)) (Contains-append_left (uses n u.seen) (uses n own.later.0) e is) in
-    on_off (e.actor == x.actor) (eq-eqb e.actor x.actor (sym d.actor)) (none_pass (λ (e : Entry). e.actor == x.actor) (uses n j) e left (subst (λ (l : List Entry). Contains (uses n l) e) own.later.1 there))
+    let told = part_passing (λ (e : Entry). is_use_of n e.change) (entries_of x.actor u.seen) x.mine (common.told two.first two.second u x two.at_first two.at_second) in
+    let left : filter (λ (e : Entry). e.actor == x.actor) (uses n u.seen) ≡ [] =
+    filters (λ (e : Entry). e.actor == x.actor) (λ (e : Entry). is_use_of n e.change) u.seen ∙ subst (Part (uses n (entries_of x.actor u.seen))) none told in
+    on_off (e.actor == x.actor) (eq-eqb e.actor x.actor (sym d.actor)) (none_pass (λ (e : Entry). e.actor == x.actor) (uses n u.seen) e left is)
 
 pub drawn_used_alone : DrawnUsedAlone
 drawn_used_alone w u n drawn others =

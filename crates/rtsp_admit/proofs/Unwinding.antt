@@ -1,7 +1,7 @@
 -- What a refused admission leaves.
-use Rattle.std.proofs.Common.{◌≡◌, ◌≢◌, ◌⊎◌, ℕ, ◌≤◌, Bool, true, false, ◌&&◌, not, cond, List, [], ◌∷◌, ◌++◌, length, drop, refl, sym, ◌∙◌, ap, subst, arith, le_refl, append-nil, inl, inr, ⊎_elim, Result, Ok, Err, ◌==◌}
-use Rattle.std.specs.Prelude.{Option, Some, None, is_none, option_map, filter}
-use Rattle.std.proofs.lemmas.Bool.{and_parts, cases_eq, eq-eqb}
+use Rattle.std.proofs.Common.{◌≡◌, ◌≢◌, ◌⊎◌, ℕ, ◌≤◌, Bool, true, false, ◌&&◌, not, cond, List, [], ◌∷◌, ◌++◌, length, drop, refl, sym, ◌∙◌, ap, subst, arith, append_assoc, append-nil, inl, inr, ⊎_elim, Result, Ok, Err, ◌==◌}
+use Rattle.std.specs.Prelude.{Option, Some, None, is_none, option_map}
+use Rattle.std.proofs.lemmas.Bool.{and_parts, cases_eq}
 use Rattle.std.proofs.lemmas.List.Elements.{filter-append}
 use Rattle.std.proofs.Math.Seq.{drop-append_seam}
 use Rattle.std.specs.FinMap.{get}
@@ -23,6 +23,7 @@ use Rattle.rtsp_book.specs.declared.refusals.Refusal.{Refusal}
 use Rattle.rtsp_book.specs.declared.steps.Chain.{Chain}
 use Rattle.rtsp_book.specs.declared.steps.Step.TheVariants as step
 use Rattle.rtsp_book.specs.Kept.{entries_by}
+use Rattle.rtsp_book.specs.Answers.{written}
 use Rattle.rtsp_book.specs.Sessions.{has_stream_under}
 use Rattle.rtsp_book.specs.Returns.{ending}
 use Rattle.rtsp_book.specs.Made.{taking_back, unwinding, of_living, made}
@@ -42,12 +43,14 @@ use Rattle.rtsp_admit.specs.declared.failure.Failure.TheVariants as failure
 use Rattle.rtsp_admit.specs.Binder.{Calls}
 use Rattle.rtsp_admit.specs.Steps.{chain_left}
 use Rattle.rtsp_admit.specs.Runs.{State, Admits}
-use Rattle.rtsp_lock.specs.Entries.{OnlyOf, entries_of}
+use Rattle.rtsp_lock.specs.Entries.{OnlyOf, Part, LeftOf, entries_of}
+use Rattle.rtsp_lock.proofs.Entries.{own_all, filters}
 use Rattle.rtsp_admit.specs.Refused.{is_use_of, uses, is_open_of, openings, added, NothingLeft, SessionGone, UsedAlone, RefusalsLeaveNothing}
 use Rattle.rtsp_admit.specs.Numbers.{RefusalsLeaveNothingUnused}
-use Rattle.rtsp_admit.proofs.Rows.{Upto, Within, Left, count, left_first, left_quiet, both_back, IsFirst, IsSecond}
-use Rattle.rtsp_admit.proofs.Going.{Goes, Even, opens, count_append, made_is, goes_acted, goes_then, between, found_left}
-use Rattle.rtsp_admit.proofs.Breaking.{Grows, grows_fails, keeps_fails, second_is}
+use Rattle.rtsp_admit.proofs.Rows.{Upto, Within, Left, count, left_quiet, both_back, IsFirst, IsSecond}
+use Rattle.rtsp_admit.proofs.Leading.{leads_none, left_of, part_passing}
+use Rattle.rtsp_admit.proofs.Going.{opens, opens_append, made_is}
+use Rattle.rtsp_admit.proofs.Breaking.{Keeps, keeps_fails, second_is}
 
 -- Records that give back are no Holds, Adds or Opens.
 
@@ -116,24 +119,29 @@ none_is : {X : Type 0} (o : Option X) → is_none o ≡ true → o ≡ None
 none_is None h = refl
 none_is (Some x) h = absurd cc
 
-goes_unwinds : (ch : Chain) (answer : Result (List Record) Refusal) (v u : View) → Acted v u (step.Unwind ch) answer → Goes ch.session ch.admission v u 0
-goes_unwinds ch answer v u h = goes answer h
-  where
-    goes : (answer : Result (List Record) Refusal) → Acted v u (step.Unwind ch) answer → Goes ch.session ch.admission v u 0
-    goes (Err r) acted = goes_acted ch.session ch.admission v u (step.Unwind ch) (Err r) 0 acted (le_refl 0)
-    goes (Ok rs) acted =
-        let is = made_is v u (step.Unwind ch) rs acted in
-        let none : opens ch.session (entries_by v.actor rs) ≡ 0 =
-        subst (λ rs. opens ch.session (entries_by v.actor rs) ≡ 0) is
-        (giving_opened ch.session ch.session v.actor (made v.whole (book_of acted.journal) (step.Unwind ch)) (unwinding_gives ch (get (book_of acted.journal) ch.session))) in
-        goes_acted ch.session ch.admission v u (step.Unwind ch) (Ok rs) 0 acted (omega (arith, none))
+-- an Unwind makes no Hold, Add or Open
+record Quiet (s a : ℕ) (es : List Entry) : Type 0 where
+  pub takes : count a es ≡ 0
+  pub opens : opens s es ≡ 0
 
-unwound : (m : ℕ) (ch : Chain) (answer : Result (List Record) Refusal) (v u : View) → Acted v u (step.Unwind ch) answer → IsFirst ch.first → IsSecond ch.second → Even ch.admission m v → Even ch.admission m u → Left ch.session ch.admission ch.first ch.second v.seen → Gone ch.session ch.admission ch.opened u.seen
-unwound m ch answer v u h first second ev eu l = gone answer h
+unwind_quiet : (ch : Chain) (answer : Result (List Record) Refusal) (v u : View) → Acted v u (step.Unwind ch) answer → Quiet ch.session ch.admission (entries_by v.actor (written answer))
+unwind_quiet ch answer v u h = quiet answer h
   where
-    gone : (answer : Result (List Record) Refusal) → Acted v u (step.Unwind ch) answer → Gone ch.session ch.admission ch.opened u.seen
-    gone (Err r) acted =
-        let there = found_left ch.session ch.admission m ch.first ch.second v u (step.Unwind ch) (Err r) acted ev eu l in
+    quiet : (answer : Result (List Record) Refusal) → Acted v u (step.Unwind ch) answer → Quiet ch.session ch.admission (entries_by v.actor (written answer))
+    quiet (Err r) acted = record { takes = refl; opens = refl }
+    quiet (Ok rs) acted =
+        let is = made_is v u (step.Unwind ch) rs acted in
+        let gives = unwinding_gives ch (get (book_of acted.journal) ch.session) in
+        subst (λ rs. Quiet ch.session ch.admission (entries_by v.actor rs)) is (record {
+          takes = giving_count ch.session ch.admission v.actor (made v.whole (book_of acted.journal) (step.Unwind ch)) gives;
+          opens = giving_opened ch.session ch.session v.actor (made v.whole (book_of acted.journal) (step.Unwind ch)) gives;
+        })
+
+unwound : (ch : Chain) (answer : Result (List Record) Refusal) (v u : View) (h : Acted v u (step.Unwind ch) answer) → IsFirst ch.first → IsSecond ch.second → Left ch.session ch.admission ch.first ch.second h.journal → Gone ch.session ch.admission ch.opened u.seen
+unwound ch answer v u h first second left = gone answer h left
+  where
+    gone : (answer : Result (List Record) Refusal) (acted : Acted v u (step.Unwind ch) answer) → Left ch.session ch.admission ch.first ch.second acted.journal → Gone ch.session ch.admission ch.opened u.seen
+    gone (Err r) acted there =
         let b = book_of acted.journal in
         let none : get b ch.session ≡ None =
         ⊎_elim
@@ -144,8 +152,7 @@ unwound m ch answer v u h first second ev eu l = gone answer h
           left = record { others = there.others; own = subst (Within ch.admission None None) (sym none) tt; no_add = there.no_add };
           gone = λ _. none;
         })
-    gone (Ok rs) acted =
-        let there = found_left ch.session ch.admission m ch.first ch.second v u (step.Unwind ch) (Ok rs) acted ev eu l in
+    gone (Ok rs) acted there =
         let b = book_of acted.journal in
         let is = made_is v u (step.Unwind ch) rs acted in
         let o = get b ch.session in
@@ -198,73 +205,78 @@ no_entries : (j : List Entry) → length j ≤ 0 → j ≡ []
 no_entries [] h = refl
 no_entries (e ∷ j) h = absurd (omega arith)
 
--- an actor's entries are its own
-own_all : (actor : ℕ) (j : List Entry) → OnlyOf actor j → entries_of actor j ≡ j
-own_all actor [] own = refl
-own_all actor (e ∷ j) own =
-    ap (λ v. cond v (e ∷ entries_of actor j) (entries_of actor j)) (eq-eqb e.actor actor own.0) ∙ ap (λ (l : List Entry). e ∷ l) (own_all actor j own.1)
-
--- of two tests either may come first
-pub filters : {X : Type 0} (p q : X → Bool) (l : List X) → filter p (filter q l) ≡ filter q (filter p l)
-filters p q [] = refl
-filters {X} p q (x ∷ l) = step (filters p q l) (p x) (q x) refl refl
-  where
-    step : filter p (filter q l) ≡ filter q (filter p l) → (u v : Bool) → p x ≡ u → q x ≡ v → filter p (cond v (x ∷ filter q l) (filter q l)) ≡ filter q (cond u (x ∷ filter p l) (filter p l))
-    step rec true true ep eq = ap (λ t. cond t (x ∷ filter p (filter q l)) (filter p (filter q l))) ep ∙ ap (λ (k : List X). x ∷ k) rec ∙ sym (ap (λ t. cond t (x ∷ filter q (filter p l)) (filter q (filter p l))) eq)
-    step rec true false ep eq = rec ∙ sym (ap (λ t. cond t (x ∷ filter q (filter p l)) (filter q (filter p l))) eq)
-    step rec false true ep eq = ap (λ t. cond t (x ∷ filter p (filter q l)) (filter p (filter q l))) ep ∙ rec
-    step rec false false ep eq = rec
-
 module _ {B : Type 0} (calls : Calls B) (ask : Ask) where
-  grows_unwound : (cause : Failure) (answer : Result (List Record) Refusal) (v u : View) → Acted v u (step.Unwind (chain_left ask cause)) answer → Grows ask v u 0
-  grows_unwound (failure.Open refusal) answer v u h = goes_unwinds (chain_left ask (failure.Open refusal)) answer v u h
-  grows_unwound (failure.Rate refusal) answer v u h = goes_unwinds (chain_left ask (failure.Rate refusal)) answer v u h
-  grows_unwound (failure.Address e) answer v u h = goes_unwinds (chain_left ask (failure.Address e)) answer v u h
-  grows_unwound (failure.Commit refusal x) answer v u h = goes_unwinds (chain_left ask (failure.Commit refusal x)) answer v u h
-
-  -- what an unwound chain leaves
-  abbrev GoneAfter : ℕ → Failure → View → View → Type 0
-  GoneAfter m cause v u =
-      IsSecond (chain_left ask cause).second → Even ask.admission m v → Even ask.admission m u → Left ask.session ask.admission (chain_left ask cause).first (chain_left ask cause).second v.seen
-      → Gone ask.session ask.admission (chain_left ask cause).opened u.seen
-
-  gone_after : (m : ℕ) (cause : Failure) (answer : Result (List Record) Refusal) (v u : View) → Acted v u (step.Unwind (chain_left ask cause)) answer → GoneAfter m cause v u
-  gone_after m (failure.Open refusal) answer v u h second ev eu l = unwound m (chain_left ask (failure.Open refusal)) answer v u h tt second ev eu l
-  gone_after m (failure.Rate refusal) answer v u h second ev eu l = unwound m (chain_left ask (failure.Rate refusal)) answer v u h tt second ev eu l
-  gone_after m (failure.Address e) answer v u h second ev eu l = unwound m (chain_left ask (failure.Address e)) answer v u h tt second ev eu l
-  gone_after m (failure.Commit refusal x) answer v u h second ev eu l = unwound m (chain_left ask (failure.Commit refusal x)) answer v u h tt second ev eu l
-
   session_gone : (w : Whole) (t : Bool) (v u : View) → IsLegal w u.seen → opens ask.session (added v u) ≤ one_if t → (t ≡ true → get (book_of u.seen) ask.session ≡ None) → openings ask.session (added v u) ≢ [] → SessionGone ask.session u.seen
   session_gone w true v u legal few gone opened = let none = gone refl in record { gone = none; book = less_gone_law w ask.session u.seen legal none }
   session_gone w false v u legal few gone opened = absurd (opened (no_entries (openings ask.session (added v u)) few))
 
+  -- what a refused admission added before its Unwind and by it
+  record Ended (cause : Failure) (v u : View) (journal more last : List Entry) : Type 0 where
+    pub is : added v u ≡ more ++ last
+    pub mine : u.mine ≡ v.mine ++ (more ++ last)
+    pub seen : uses ask.admission u.seen ≡ uses ask.admission journal
+    pub few : opens ask.session (added v u) ≤ one_if (chain_left ask cause).opened
+    pub same : uses ask.admission (added v u) ≡ uses ask.admission more
+
+  -- entries that are followed by such without a Hold or Add
+  then_quiet : (j last : List Entry) → count ask.admission last ≡ 0 → uses ask.admission (j ++ last) ≡ uses ask.admission j
+  then_quiet j last none =
+      filter-append (λ (e : Entry). is_use_of ask.admission e.change) j last
+      ∙ (ap (λ (l : List Entry). uses ask.admission j ++ l) (no_entries (uses ask.admission last) (omega (arith, none)))
+      ∙ append-nil (uses ask.admission j))
+
+  ended : (refusal : Refusal) (s t : State B) (run : Admits calls ask (Err refusal) s t) → (keeps : Keeps ask (one_if (chain_left ask run.cause).opened) None None (chain_left ask run.cause).first (chain_left ask run.cause).second s.view run.broken.view)
+      → Quiet ask.session ask.admission (entries_by run.broken.view.actor (written run.answer))
+      → Ended run.cause s.view t.view run.unwinds.journal keeps.more (entries_by run.broken.view.actor (written run.answer))
+  ended refusal s t run keeps quiet =
+      let v = s.view in
+      let last = entries_by run.broken.view.actor (written run.answer) in
+      let mine : t.view.mine ≡ v.mine ++ (keeps.more ++ last) = run.unwinds.mine ∙ (ap (λ (l : List Entry). l ++ last) keeps.mine ∙ append_assoc v.mine keeps.more last) in
+      let is : added v t.view ≡ keeps.more ++ last = ap (drop (length v.mine)) mine ∙ drop-append_seam v.mine (keeps.more ++ last) in
+      let few = keeps.few in
+      let size = opens_append ask.session keeps.more last in
+      let none = quiet.opens in
+      record {
+        is = is;
+        mine = mine;
+        seen = ap (uses ask.admission) run.unwinds.seen ∙ then_quiet run.unwinds.journal last quiet.takes;
+        few = subst (λ es. opens ask.session es ≤ one_if (chain_left ask run.cause).opened) (sym is) (omega (arith, few, size, none));
+        same = ap (uses ask.admission) is ∙ then_quiet keeps.more last quiet.takes;
+      }
+
+  chain_quiet : (cause : Failure) (answer : Result (List Record) Refusal) (v u : View) → Acted v u (step.Unwind (chain_left ask cause)) answer → Quiet ask.session ask.admission (entries_by v.actor (written answer))
+  chain_quiet (failure.Open refusal) answer v u h = unwind_quiet (chain_left ask (failure.Open refusal)) answer v u h
+  chain_quiet (failure.Rate refusal) answer v u h = unwind_quiet (chain_left ask (failure.Rate refusal)) answer v u h
+  chain_quiet (failure.Address e) answer v u h = unwind_quiet (chain_left ask (failure.Address e)) answer v u h
+  chain_quiet (failure.Commit refusal x) answer v u h = unwind_quiet (chain_left ask (failure.Commit refusal x)) answer v u h
+
+  -- what an unwound chain leaves
+  gone_after : (cause : Failure) (answer : Result (List Record) Refusal) (v u : View) (h : Acted v u (step.Unwind (chain_left ask cause)) answer) → IsSecond (chain_left ask cause).second
+      → Left ask.session ask.admission (chain_left ask cause).first (chain_left ask cause).second h.journal → Gone ask.session ask.admission (chain_left ask cause).opened u.seen
+  gone_after (failure.Open refusal) answer v u h second l = unwound (chain_left ask (failure.Open refusal)) answer v u h tt second l
+  gone_after (failure.Rate refusal) answer v u h second l = unwound (chain_left ask (failure.Rate refusal)) answer v u h tt second l
+  gone_after (failure.Address e) answer v u h second l = unwound (chain_left ask (failure.Address e)) answer v u h tt second l
+  gone_after (failure.Commit refusal x) answer v u h second l = unwound (chain_left ask (failure.Commit refusal x)) answer v u h tt second l
+
   pub leaves_nothing : RefusalsLeaveNothing calls ask
   leaves_nothing refusal s t run alone =
       let cause = run.cause in
-      let n = one_if (chain_left ask cause).opened in
       let v = s.view in
       let w = run.broken.view in
       let u = t.view in
-      let first = grows_fails calls ask cause s run.broken run.fails in
-      let last = grows_unwound cause run.answer w u run.unwinds in
-      let all = goes_then ask.session ask.admission v w u n first last in
       let a = ask.admission in
-      let m = count a v.mine in
-      let more : added v u ≡ all.more = ap (drop (length v.mine)) all.mine ∙ drop-append_seam v.mine all.more in
-      let seen : count a u.seen ≡ count a all.more = ap length alone ∙ ap (count a) more in
-      let mine : count a u.mine ≡ count a (v.mine ++ all.more) = ap (count a) all.mine in
-      let takes = all.takes in
-      let none : count a v.seen ≡ 0 = omega (arith, seen, takes) in
-      let eu : Even a m u = omega (arith, seen, mine, count_append a v.mine all.more) in
-      let ev : Even a m v = omega (arith, none) in
-      let ew = between ask.session a m v w u n 0 first last ev eu in
-      let before = keeps_fails calls ask m cause s run.broken run.fails ev ew (left_first ask.session a v.seen none) in
-      let gone = gone_after m cause run.answer w u run.unwinds (second_is calls ask cause s run.broken run.fails) ew eu before in
+      let keeps = keeps_fails calls ask cause s run.broken run.fails in
+      let quiet = chain_quiet cause run.answer w u run.unwinds in
+      let end = ended refusal s t run keeps quiet in
+      let journal = run.unwinds.journal in
+      let part : Part (uses a journal) (uses a keeps.more) = subst (λ (l : List Entry). Part l (uses a keeps.more)) end.seen (subst (Part (uses a u.seen)) end.same alone) in
+      let found : LeftOf (v.mine ++ keeps.more) (entries_of v.actor journal) = subst (λ (n : ℕ). LeftOf (v.mine ++ keeps.more) (entries_of n journal)) keeps.actor (subst (λ (m : List Entry). LeftOf m (entries_of w.actor journal)) keeps.mine run.unwinds.found.mine) in
+      let left = left_of v.actor ask.session a (chain_left ask cause).first (chain_left ask cause).second v.mine keeps.more journal found keeps.own part (keeps.leads [] (leads_none v.actor a)) in
+      let gone = gone_after cause run.answer w u run.unwinds (second_is calls ask cause s run.broken run.fails) left in
       let legal = run.unwinds.stays.stands.legal in
-      let few : opens ask.session (added v u) ≤ n = subst (λ es. opens ask.session es ≤ n) (sym more) all.few in
       record {
         admission = nothing_left u.whole ask.session a u.seen legal gone.left;
-        session = session_gone u.whole (chain_left ask cause).opened v u legal few gone.gone;
+        session = session_gone u.whole (chain_left ask cause).opened v u legal end.few gone.gone;
       }
 
   -- each Hold and Add under an unused number is the admission's own, where nobody else has one
@@ -272,17 +284,15 @@ module _ {B : Type 0} (calls : Calls B) (ask : Ask) where
   uses_alone refusal s t run before others =
       let v = s.view in
       let u = t.view in
-      let first = grows_fails calls ask run.cause s run.broken run.fails in
-      let all = goes_then ask.session ask.admission v run.broken.view u (one_if (chain_left ask run.cause).opened) first (grows_unwound run.cause run.answer run.broken.view u run.unwinds) in
       let a = ask.admission in
-      let more : added v u ≡ all.more = ap (drop (length v.mine)) all.mine ∙ drop-append_seam v.mine all.more in
-      sym (own_all u.actor (uses a u.seen) others)
-      ∙ filters (λ (e : Entry). e.actor == u.actor) (λ (e : Entry). is_use_of a e.change) u.seen
-      ∙ ap (uses a) run.unwinds.stays.stands.mine
-      ∙ ap (uses a) all.mine
-      ∙ filter-append (λ (e : Entry). is_use_of a e.change) v.mine all.more
-      ∙ ap (λ l. l ++ uses a all.more) before
-      ∙ ap (uses a) (sym more)
+      let p : Entry → Bool = λ e. is_use_of a e.change in
+      let keeps = keeps_fails calls ask run.cause s run.broken run.fails in
+      let last = entries_by run.broken.view.actor (written run.answer) in
+      let end = ended refusal s t run keeps (chain_quiet run.cause run.answer run.broken.view u run.unwinds) in
+      let own : uses a (entries_of u.actor u.seen) ≡ uses a u.seen = sym (filters (λ (e : Entry). e.actor == u.actor) p u.seen) ∙ own_all u.actor (uses a u.seen) others in
+      let mine : uses a u.mine ≡ uses a (added v u) =
+      ap (uses a) end.mine ∙ (filter-append p v.mine (keeps.more ++ last) ∙ (ap (λ (l : List Entry). l ++ uses a (keeps.more ++ last)) before ∙ ap (uses a) (sym end.is))) in
+      subst (Part (uses a u.seen)) mine (subst (λ (l : List Entry). Part l (uses a u.mine)) own (part_passing p (entries_of u.actor u.seen) u.mine run.unwinds.stays.stands.mine.part))
 
   pub leaves_nothing_unused : RefusalsLeaveNothingUnused calls ask
   leaves_nothing_unused refusal s t run unused others = leaves_nothing refusal s t run (uses_alone refusal s t run unused.unused others)

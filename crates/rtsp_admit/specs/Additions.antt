@@ -77,6 +77,6 @@ module _ {B : Type 0} (calls : Calls B) (ask : Ask) where
       rated_records ask s.view h.rated h.rates ++ addressed_records ask.wanted granted.address (with_view h.rated s) h.held h.addresses ++ h.made
   admission_records (Err refusal) s t run = failed_records run.cause s run.broken run.fails ++ written run.answer
 
-  -- over an admission all that was seen is seen still, and the seat's entries grow by the records of its replies and nothing else
+  -- over an admission what is seen comes after what was seen, and the seat's entries grow by the records of its replies and nothing else
   abbrev pub AdmissionsGrow : Type 0
   AdmissionsGrow = (result : Result Admitted Refusal) (s t : State B) (run : Admits calls ask result s t) → Grown s.view t.view (admission_records result s t run)

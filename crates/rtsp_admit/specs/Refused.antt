@@ -9,6 +9,7 @@ use Rattle.rtsp_record.specs.Journals.{less_session, less_admission}
 use Rattle.rtsp_book.specs.declared.asks.Ask.{Ask}
 use Rattle.rtsp_book.specs.declared.refusals.Refusal.{Refusal}
 use Rattle.rtsp_lock.specs.declared.view.View.{View}
+use Rattle.rtsp_lock.specs.Entries.{Part}
 use Rattle.rtsp_admit.specs.Binder.{Calls}
 use Rattle.rtsp_admit.specs.Runs.{State, Admits}
 
@@ -37,7 +38,7 @@ added v u = drop (length v.mine) u.mine
 
 -- each Hold and Add under the admission in the journal then seen is one that these calls added
 abbrev pub UsedAlone : ℕ → View → View → Type 0
-UsedAlone a v u = uses a u.seen ≡ uses a (added v u)
+UsedAlone a v u = Part (uses a u.seen) (uses a (added v u))
 
 -- nothing is held and no stream is under the admission, in any session
 abbrev pub NothingUnder : ℕ → Book → Type 0

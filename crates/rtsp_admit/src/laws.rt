@@ -64,8 +64,8 @@ pub fn law_admitted_keeps_drawn<B: Binder>(ask: &Ask)
     ensures { AdmissionsKeepDrawn B.calls ask.now }
 {}
 
-/// Over an admission its seat sees no less, and its entries grow by the records of the replies to
-/// its steps and by nothing else.
+/// Over an admission what its seat has seen comes after what it had seen before, and its entries
+/// grow by the records of the replies to its steps and by nothing else.
 pub fn law_admitted_grows<B: Binder>(ask: &Ask)
     ensures { AdmissionsGrow B.calls ask.now }
 {}

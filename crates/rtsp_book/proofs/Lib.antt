@@ -9,3 +9,4 @@ pub mod Freed
 pub mod Owing
 pub mod Replying
 pub mod Keeping
+pub mod LeavingOut

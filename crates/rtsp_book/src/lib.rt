@@ -12,6 +12,7 @@
 #![tactic(auto)]
 
 mod asks;
+mod forgetting;
 mod kept;
 mod laws;
 mod owed;

@@ -1,24 +1,30 @@
 -- What a call promises, from what it found and what it put back.
-use Rattle.std.proofs.Common.{◌≡◌, ℕ, ◌+◌, ◌-◌, ◌≤◌, ◌<◌, List, [], ◌∷◌, ◌++◌, length, drop, ap, sym, ◌∙◌, subst, arith, append-nil, le_refl, refl, Option, Result, Ok, Err, IfOk, OnErr}
+use Rattle.std.proofs.Common.{◌≡◌, ℕ, ◌+◌, ◌-◌, ◌≤◌, ◌<◌, ⊎_elim, inl, inr, List, [], ◌∷◌, ◌++◌, length, drop, ap, sym, ◌∙◌, subst, arith, append-nil, le_refl, refl, Option, Result, Ok, Err, IfOk, OnErr}
 use Rattle.std.proofs.Math.Seq.{drop-append_seam}
+use Rattle.std.proofs.Math.ListN.{drop_of_length-le}
 use Rattle.atomic_table.specs.Table.{Me}
 use Rattle.rtsp_record.specs.declared.holdings.Whole.{Whole}
 use Rattle.rtsp_record.specs.declared.changes.Entry.{Entry}
 use Rattle.rtsp_record.specs.declared.changes.Record.{Record}
 use Rattle.rtsp_record.specs.Books.{book_of}
-use Rattle.rtsp_record.specs.Sums.{owed}
+use Rattle.rtsp_record.specs.Sums.{owed, returns}
+use Rattle.rtsp_record.proofs.Sound.{amount-empty}
+use Rattle.std.specs.FinMap.{empty}
 use Rattle.rtsp_record.specs.Rules.{IsLegal}
+use Rattle.rtsp_record.specs.Journals.{less_ended}
 use Rattle.rtsp_book.specs.declared.steps.Step.{Step}
 use Rattle.rtsp_book.specs.declared.refusals.Refusal.{Refusal}
 use Rattle.rtsp_book.specs.declared.kept.NumbersSpent.{NumbersSpent}
-use Rattle.rtsp_book.specs.Kept.{History, history, entries_by, extended}
+use Rattle.rtsp_book.specs.Kept.{History, history, entries_by, extended, shortened, forgotten}
+use Rattle.rtsp_book.proofs.LeavingOut.{either_way}
 use Rattle.rtsp_book.specs.Answers.{Answers, written, noted_by}
 use Rattle.rtsp_lock.specs.declared.view.View.{View}
-use Rattle.rtsp_lock.specs.Entries.{entries_of, OnlyOf, Later, LeftOf}
-use Rattle.rtsp_lock.specs.Rule.{Fits}
+use Rattle.rtsp_lock.specs.Entries.{entries_of, Later, LeftOf}
+use Rattle.rtsp_lock.specs.Rule.{Fits, Leaves, first_view}
 use Rattle.rtsp_lock.specs.Steps.{holding, noting, settled, parent, child, numbers}
-use Rattle.rtsp_lock.specs.Calls.{Found, Stays, Acted, Looked, Drew, Made}
-use Rattle.rtsp_lock.proofs.Entries.{later_self, left_own, left_none, only_by}
+use Rattle.rtsp_lock.specs.Calls.{Found, Stays, Acted, Looked, Drew, Made, Forgot}
+use Rattle.rtsp_lock.proofs.Entries.{later_self, left_own, left_ended, left_none, only_by}
+use Rattle.rtsp_lock.proofs.Holder.{ended_shorter}
 
 -- the view of a seat that is known
 pub view_is : {m m' : Me (Option History) View} → m ≡ m' → m.0 ≡ m'.0
@@ -34,73 +40,93 @@ lawful_in : (w : Whole) (k : History) → k.whole ≡ w → Lawful k → IsLegal
 lawful_in w k whole lawful = subst (λ (x : Whole). IsLegal x k.journal × (length k.journal + owed (book_of k.journal) ≤ x.journal)) whole (lawful.legal, lawful.limit)
 
 -- what a seat found
-pub finds : (v : View) (k : History) → k.whole ≡ v.whole → Lawful k → Fits v.whole k.journal k.next v → Found v k.journal
+pub finds : (v : View) (k : History) → k.whole ≡ v.whole → Lawful k → Fits v.whole k.journal k.next k.rounds v → Found v k.journal k.rounds
 finds v k whole lawful fits = let l = lawful_in v.whole k whole lawful in record { legal = l.0; limit = l.1; later = fits.later; mine = fits.mine }
+
+-- the view of a seat that holds a book
+abbrev pub held_as : View → History → View
+held_as v k = holding v k.journal k.next k.rounds
+
+-- the view of a seat that notes a book
+abbrev pub noted_as : View → History → View
+noted_as v k = noting v k.journal k.next k.rounds
 
 -- the view of a seat that found a book and left another one with entries of its own
 pub record After (v v' : View) (k k' : History) (es : List Entry) : Type 0 where
   pub whole : v'.whole ≡ v.whole
   pub actor : v'.actor ≡ v.actor
   pub seen : v'.seen ≡ k'.journal
+  pub rounds : v'.seen_rounds ≡ k'.rounds
   pub mine : v'.mine ≡ v.mine ++ es
   pub next : v'.next ≡ k'.next
 
-pub after : (v v' v1 v2 : View) (k k' : History) (es : List Entry) → v1 ≡ holding v k.journal k.next → v2 ≡ noting v1 k'.journal k'.next → v' ≡ settled v2 → k'.journal ≡ k.journal ++ es
+pub after : (v v' v1 v2 : View) (k k' : History) (es : List Entry) → v1 ≡ held_as v k → v2 ≡ noted_as v1 k' → v' ≡ settled v2 → drop (length k.journal) k'.journal ≡ es
     → After v v' k k' es × (v'.drawn ≡ v.drawn ++ numbers k.next (k'.next - k.next))
 after v v' v1 v2 k k' es held noted put more =
-    let e : v' ≡ settled (noting (holding v k.journal k.next) k'.journal k'.next) = put ∙ ap settled (noted ∙ ap (λ (x : View). noting x k'.journal k'.next) held) in (
+    let e : v' ≡ settled (noted_as (held_as v k) k') = put ∙ ap settled (noted ∙ ap (λ (x : View). noted_as x k') held) in (
       record {
         whole = ap (λ (x : View). x.whole) e;
         actor = ap (λ (x : View). x.actor) e;
         seen = ap (λ (x : View). x.seen) e;
-        mine = ap (λ (x : View). x.mine) e ∙ ap (λ (l : List Entry). v.mine ++ l) (ap (λ (l : List Entry). drop (length k.journal) l) more ∙ drop-append_seam k.journal es);
+        rounds = ap (λ (x : View). x.seen_rounds) e;
+        mine = ap (λ (x : View). x.mine) e ∙ ap (λ (l : List Entry). v.mine ++ l) more;
         next = ap (λ (x : View). x.next) e;
       },
       ap (λ (x : View). x.drawn) e,
     )
 
--- where nothing is noted, what was found is what is left
-pub unnoted : (v v1 : View) (j : List Entry) (n : ℕ) → v1 ≡ holding v j n → v1 ≡ noting v1 j n
-unnoted v v1 j n held = held ∙ sym (ap (λ (x : View). noting x j n) held)
+-- what stands behind what was found, where entries were added
+pub added_is : (j j' es : List Entry) → j' ≡ j ++ es → drop (length j) j' ≡ es
+added_is j j' es more = ap (λ (l : List Entry). drop (length j) l) more ∙ drop-append_seam j es
 
--- what is noted where nothing was added
-pub nothing_more : (v v1 : View) (k k' : History) → v1 ≡ holding v k.journal k.next → k'.journal ≡ k.journal → (es : List Entry) × (k'.journal ≡ v1.found ++ es) × OnlyOf v1.actor es
-nothing_more v v1 k k' held same = ([], same ∙ (sym (append-nil k.journal) ∙ ap (λ (u : View). u.found ++ []) (sym held)), tt)
+-- where the journal is the same
+pub same_is : (j j' : List Entry) → j' ≡ j → drop (length j) j' ≡ []
+same_is j j' same = added_is j j' [] (same ∙ sym (append-nil j))
+
+-- where ended sessions were forgotten
+pub ended_is : (j j' : List Entry) → j' ≡ less_ended j → drop (length j) j' ≡ []
+ended_is j j' ended = ap (λ (l : List Entry). drop (length j) l) ended ∙ drop_of_length-le (less_ended j) (ended_shorter j)
+
+-- where nothing is noted, what was found is what is left
+pub unnoted : (v v1 : View) (k : History) → v1 ≡ held_as v k → v1 ≡ noted_as v1 k
+unnoted v v1 k held = held ∙ sym (ap (λ (x : View). noted_as x k) held)
 
 -- the same where a seat was made
-pub after_cut : (v v' v1 v2 v3 : View) (k k' : History) → v1 ≡ holding v k.journal k.next → v2 ≡ noting v1 k'.journal k'.next → v3 ≡ parent v2 → v' ≡ settled v3 → k'.journal ≡ k.journal → After v v' k k' []
+pub after_cut : (v v' v1 v2 v3 : View) (k k' : History) → v1 ≡ held_as v k → v2 ≡ noted_as v1 k' → v3 ≡ parent v2 → v' ≡ settled v3 → k'.journal ≡ k.journal → After v v' k k' []
 after_cut v v' v1 v2 v3 k k' held noted cut put same =
-    let e : v' ≡ settled (parent (noting (holding v k.journal k.next) k'.journal k'.next)) = put ∙ ap settled (cut ∙ ap parent (noted ∙ ap (λ (x : View). noting x k'.journal k'.next) held)) in
+    let e : v' ≡ settled (parent (noted_as (held_as v k) k')) = put ∙ ap settled (cut ∙ ap parent (noted ∙ ap (λ (x : View). noted_as x k') held)) in
     record {
       whole = ap (λ (x : View). x.whole) e;
       actor = ap (λ (x : View). x.actor) e;
       seen = ap (λ (x : View). x.seen) e;
-      mine = ap (λ (x : View). x.mine) e ∙ ap (λ (l : List Entry). v.mine ++ l) (ap (λ (l : List Entry). drop (length k.journal) l) (same ∙ sym (append-nil k.journal)) ∙ drop-append_seam k.journal []);
+      rounds = ap (λ (x : View). x.seen_rounds) e;
+      mine = ap (λ (x : View). x.mine) e ∙ ap (λ (l : List Entry). v.mine ++ l) (same_is k.journal k'.journal same);
       next = ap (λ (x : View). x.next) e;
     }
 
 -- what stays of a seat
-pub stays : (v v' : View) (k k' : History) (es : List Entry) → After v v' k k' es → k'.whole ≡ v.whole → Lawful k' → Fits v.whole k.journal k.next v → k'.journal ≡ k.journal ++ es → OnlyOf v.actor es → k.next ≤ k'.next → Stays v v'
-stays v v' k k' es a whole lawful fits more own up =
+pub stays : (v v' : View) (k k' : History) (es : List Entry) → After v v' k k' es → k'.whole ≡ v.whole → Lawful k' → Fits v.whole k.journal k.next k.rounds v → LeftOf (v.mine ++ es) (entries_of v.actor k'.journal) → k.next ≤ k'.next → Stays v v'
+stays v v' k k' es a whole lawful fits left up =
     let same : k'.whole ≡ v'.whole = whole ∙ sym a.whole in
     let l = lawful_in v'.whole k' same lawful in
     let le = fits.next in
     let next = a.next in
     let mine : LeftOf v'.mine (entries_of v'.actor k'.journal) =
     subst (λ (m : List Entry). LeftOf m (entries_of v'.actor k'.journal)) (sym a.mine)
-    (subst (λ (n : ℕ). LeftOf (v.mine ++ es) (entries_of n k'.journal)) (sym a.actor)
-    (subst (λ (j : List Entry). LeftOf (v.mine ++ es) (entries_of v.actor j)) (sym more) (left_own v.actor v.mine k.journal es fits.mine own))) in
+    (subst (λ (n : ℕ). LeftOf (v.mine ++ es) (entries_of n k'.journal)) (sym a.actor) left) in
+    let later : Later v'.seen_rounds v'.seen k'.rounds k'.journal =
+    subst (λ (j : List Entry). Later v'.seen_rounds j k'.rounds k'.journal) (sym a.seen) (subst (λ (q : ℕ). Later q k'.journal k'.rounds k'.journal) (sym a.rounds) (later_self k'.rounds k'.journal)) in
     record {
       whole = a.whole;
       actor = a.actor;
       next = omega (arith, le, up, next);
-      stands = subst (λ (j : List Entry). Found v' j) (sym a.seen) (record { legal = l.0; limit = l.1; later = subst (λ (j : List Entry). Later j k'.journal) (sym a.seen) (later_self k'.journal); mine = mine });
+      stands = subst (λ (j : List Entry). Found v' j v'.seen_rounds) (sym a.seen) (subst (λ (q : ℕ). Found v' k'.journal q) (sym a.rounds) (record { legal = l.0; limit = l.1; later = later; mine = mine }));
     }
 
 -- what an act leaves, accepted or refused
 pub act_leaves : (k k' : History) (actor : ℕ) (answer : Result (List Record) Refusal) → k' ≡ noted_by actor k answer → k' ≡ extended k actor (written answer)
 act_leaves k k' actor (Ok made) noted = noted
-act_leaves k k' actor (Err r) noted = noted ∙ ap (λ (j : List Entry). history k.whole j k.next) (sym (append-nil k.journal))
+act_leaves k k' actor (Err r) noted = noted ∙ ap (λ (j : List Entry). history k.whole j k.next k.rounds) (sym (append-nil k.journal))
 
 numbers_none : (a b : ℕ) → b ≡ a → numbers a (b - a) ≡ []
 numbers_none a b e = let none : b - a ≡ 0 = omega (arith, e) in ap (numbers a) none
@@ -108,21 +134,15 @@ numbers_none a b e = let none : b - a ≡ 0 = omega (arith, e) in ap (numbers a)
 numbers_one : (a b : ℕ) → b ≡ a + 1 → numbers a (b - a) ≡ a ∷ []
 numbers_one a b e = let one : b - a ≡ 1 = omega (arith, e) in ap (numbers a) one
 
--- a seat that was made takes a number from nobody: its maker has drawn what it had
-pub cut_draws_none : (v v' v1 v2 v3 : View) (k k' : History) → v1 ≡ holding v k.journal k.next → v2 ≡ noting v1 k'.journal k'.next → v3 ≡ parent v2 → v' ≡ settled v3 → v'.drawn ≡ v.drawn
-cut_draws_none v v' v1 v2 v3 k k' held noted cut put =
-    let e : v' ≡ settled (parent (noting (holding v k.journal k.next) k'.journal k'.next)) = put ∙ ap settled (cut ∙ ap parent (noted ∙ ap (λ (x : View). noting x k'.journal k'.next) held)) in
-    ap (λ (x : View). x.drawn) e ∙ (ap (λ (l : List ℕ). v.drawn ++ l) (numbers_none k'.next k'.next refl) ∙ append-nil v.drawn)
-
 -- a seat's turn: it holds a book, notes what it leaves, and puts that back
 pub record Turn (v v1 v2 v' : View) (k k' : History) : Type 0 where
-  pub held : v1 ≡ holding v k.journal k.next
-  pub noted : v2 ≡ noting v1 k'.journal k'.next
+  pub held : v1 ≡ held_as v k
+  pub noted : v2 ≡ noted_as v1 k'
   pub put : v' ≡ settled v2
   pub whole : k.whole ≡ v.whole
   pub lawful : Lawful k
   pub left : Lawful k'
-  pub fits : Fits v.whole k.journal k.next v
+  pub fits : Fits v.whole k.journal k.next k.rounds v
 
 -- a turn in which a step was answered
 pub acts : {v v1 v2 v' : View} {k k' : History} (actor : ℕ) (step : Step) (answer : Result (List Record) Refusal) → Turn v v1 v2 v' k k' → actor ≡ v.actor → Answers k.whole k.journal step answer → k' ≡ noted_by actor k answer → Acted v v' step answer
@@ -132,52 +152,89 @@ acts {v = v} {v1 = v1} {v2 = v2} {v' = v'} {k = k} {k' = k'} actor step answer t
     let more : k'.journal ≡ k.journal ++ es = ap (λ (h : History). h.journal) leaves ∙ ap (λ (n : ℕ). k.journal ++ entries_by n (written answer)) is in
     let same : k'.next ≡ k.next = ap (λ (h : History). h.next) leaves in
     let of : k'.whole ≡ v.whole = ap (λ (h : History). h.whole) leaves ∙ t.whole in
-    let a = after v v' v1 v2 k k' es t.held t.noted t.put more in
+    let a = after v v' v1 v2 k k' es t.held t.noted t.put (added_is k.journal k'.journal es more) in
+    let rounds : v'.seen_rounds ≡ k.rounds = a.0.rounds ∙ ap (λ (h : History). h.rounds) leaves in
+    let left : LeftOf (v.mine ++ es) (entries_of v.actor k'.journal) =
+    subst (λ (j : List Entry). LeftOf (v.mine ++ es) (entries_of v.actor j)) (sym more) (left_own v.actor v.mine k.journal es t.fits.mine (only_by v.actor (written answer))) in
     record {
       journal = k.journal;
-      found = finds v k t.whole t.lawful t.fits;
+      found = subst (λ (q : ℕ). Found v k.journal q) (sym rounds) (finds v k t.whole t.lawful t.fits);
       answers = subst (λ (w : Whole). Answers w k.journal step answer) t.whole answers;
       seen = a.0.seen ∙ more;
       mine = a.0.mine;
       drawn = a.1 ∙ (ap (λ (l : List ℕ). v.drawn ++ l) (numbers_none k.next k'.next same) ∙ append-nil v.drawn);
-      stays = stays v v' k k' es a.0 of t.left t.fits more (only_by v.actor (written answer)) (omega (arith, same));
+      stays = stays v v' k k' es a.0 of t.left t.fits left (omega (arith, same));
     }
 
 -- a book as it was, but that its next number may be greater
-pub record Leaves (k k' : History) : Type 0 where
+pub record Kept_as (k k' : History) : Type 0 where
   pub journal : k'.journal ≡ k.journal
   pub whole : k'.whole ≡ k.whole
+  pub rounds : k'.rounds ≡ k.rounds
   pub up : k.next ≤ k'.next
 
 -- a look leaves the book as it is
-pub look_leaves : (k : History) → Leaves k k
-look_leaves k = record { journal = refl; whole = refl; up = le_refl k.next }
+pub look_leaves : (k : History) → Kept_as k k
+look_leaves k = record { journal = refl; whole = refl; rounds = refl; up = le_refl k.next }
 
 -- a draw, accepted or refused
-pub draw_leaves : (k k' : History) (drawn : Result ℕ NumbersSpent) (most : ℕ) → IfOk drawn (λ n. (n ≡ k.next) × (n < most) × (k' ≡ record k { next = n + 1 })) → OnErr drawn ((k.next ≡ most) × (k' ≡ k)) → Leaves k k'
+pub draw_leaves : (k k' : History) (drawn : Result ℕ NumbersSpent) (most : ℕ) → IfOk drawn (λ n. (n ≡ k.next) × (n < most) × (k' ≡ record k { next = n + 1 })) → OnErr drawn ((k.next ≡ most) × (k' ≡ k)) → Kept_as k k'
 draw_leaves k k' (Ok n) most ok err =
     let is = ok.0 in
     let next : k'.next ≡ n + 1 = ap (λ (h : History). h.next) ok.2 in
-    record { journal = ap (λ (h : History). h.journal) ok.2; whole = ap (λ (h : History). h.whole) ok.2; up = omega (arith, is, next) }
-draw_leaves k k' (Err e) most ok err = record { journal = ap (λ (h : History). h.journal) err.1; whole = ap (λ (h : History). h.whole) err.1; up = let same : k'.next ≡ k.next = ap (λ (h : History). h.next) err.1 in omega (arith, same) }
+    record { journal = ap (λ (h : History). h.journal) ok.2; whole = ap (λ (h : History). h.whole) ok.2; rounds = ap (λ (h : History). h.rounds) ok.2; up = omega (arith, is, next) }
+draw_leaves k k' (Err e) most ok err = record { journal = ap (λ (h : History). h.journal) err.1; whole = ap (λ (h : History). h.whole) err.1; rounds = ap (λ (h : History). h.rounds) err.1; up = let same : k'.next ≡ k.next = ap (λ (h : History). h.next) err.1 in omega (arith, same) }
 
 -- a call that leaves the journal as it is
-pub looks : (v v' : View) (k k' : History) → After v v' k k' [] → k.whole ≡ v.whole → Lawful k → Lawful k' → Fits v.whole k.journal k.next v → Leaves k k' → Looked v v'
-looks v v' k k' a whole lawful lawful' fits leaves = record {
-  journal = k.journal;
-  found = finds v k whole lawful fits;
-  seen = a.seen ∙ leaves.journal;
-  mine = a.mine ∙ append-nil v.mine;
-  stays = stays v v' k k' [] a (leaves.whole ∙ whole) lawful' fits (leaves.journal ∙ sym (append-nil k.journal)) tt leaves.up;
-}
+pub looks : (v v' : View) (k k' : History) → After v v' k k' [] → k.whole ≡ v.whole → Lawful k → Lawful k' → Fits v.whole k.journal k.next k.rounds v → Kept_as k k' → Looked v v'
+looks v v' k k' a whole lawful lawful' fits leaves =
+    let left : LeftOf (v.mine ++ []) (entries_of v.actor k'.journal) =
+    subst (λ (m : List Entry). LeftOf m (entries_of v.actor k'.journal)) (sym (append-nil v.mine)) (subst (λ (j : List Entry). LeftOf v.mine (entries_of v.actor j)) (sym leaves.journal) fits.mine) in
+    record {
+      journal = k.journal;
+      found = subst (λ (q : ℕ). Found v k.journal q) (sym (a.rounds ∙ leaves.rounds)) (finds v k whole lawful fits);
+      seen = a.seen ∙ leaves.journal;
+      mine = a.mine ∙ append-nil v.mine;
+      stays = stays v v' k k' [] a (leaves.whole ∙ whole) lawful' fits left leaves.up;
+    }
 
-pub draws : (v v' v1 v2 : View) (k k' : History) (drawn : Result ℕ NumbersSpent) (most : ℕ) → v1 ≡ holding v k.journal k.next → v2 ≡ noting v1 k'.journal k'.next → v' ≡ settled v2 → Fits v.whole k.journal k.next v → k'.journal ≡ k.journal
+-- a turn in which ended sessions were forgotten
+pub forgets : {v v1 v2 v' : View} {k k' : History} → Turn v v1 v2 v' k k' → k' ≡ forgotten k → Forgot v v'
+forgets {v = v} {v1 = v1} {v2 = v2} {v' = v'} {k = k} {k' = k'} t is = ⊎_elim (λ (e : forgotten k ≡ k). same (is ∙ e)) (λ (e : forgotten k ≡ shortened k). shorter (is ∙ e)) (either_way k)
+  where
+    leave : (of : k'.whole ≡ k.whole) (next : k'.next ≡ k.next) (none : drop (length k.journal) k'.journal ≡ []) (left : LeftOf v.mine (entries_of v.actor k'.journal)) → Forgot v v'
+    leave of next none left =
+        let a = after v v' v1 v2 k k' [] t.held t.noted t.put none in
+        let whole : k'.whole ≡ v.whole = of ∙ t.whole in
+        let found : history v'.whole v'.seen v'.next v'.seen_rounds ≡ k' = λ i. history ((a.0.whole ∙ sym whole) i) (a.0.seen i) (a.0.next i) (a.0.rounds i) in
+        let old : k ≡ history v.whole k.journal v'.next k.rounds = λ i. history (t.whole i) k.journal ((sym (a.0.next ∙ next)) i) k.rounds in
+        record {
+          journal = k.journal;
+          rounds = k.rounds;
+          found = finds v k t.whole t.lawful t.fits;
+          forgets = found ∙ (is ∙ ap forgotten old);
+          mine = a.0.mine ∙ append-nil v.mine;
+          drawn = a.1 ∙ (ap (λ (l : List ℕ). v.drawn ++ l) (numbers_none k.next k'.next next) ∙ append-nil v.drawn);
+          stays = stays v v' k k' [] a.0 whole t.left t.fits (subst (λ (m : List Entry). LeftOf m (entries_of v.actor k'.journal)) (sym (append-nil v.mine)) left) (omega (arith, next));
+        }
+
+    same : k' ≡ k → Forgot v v'
+    same e =
+        let journal : k'.journal ≡ k.journal = ap (λ (h : History). h.journal) e in
+        leave (ap (λ (h : History). h.whole) e) (ap (λ (h : History). h.next) e) (same_is k.journal k'.journal journal) (subst (λ (j : List Entry). LeftOf v.mine (entries_of v.actor j)) (sym journal) t.fits.mine)
+
+    shorter : k' ≡ shortened k → Forgot v v'
+    shorter e =
+        let journal : k'.journal ≡ less_ended k.journal = ap (λ (h : History). h.journal) e in
+        leave (ap (λ (h : History). h.whole) e) (ap (λ (h : History). h.next) e) (ended_is k.journal k'.journal journal) (subst (λ (j : List Entry). LeftOf v.mine (entries_of v.actor j)) (sym journal) (left_ended v.actor v.mine k.journal t.fits.mine))
+
+pub draws : (v v' v1 v2 : View) (k k' : History) (drawn : Result ℕ NumbersSpent) (most : ℕ) → v1 ≡ held_as v k → v2 ≡ noted_as v1 k' → v' ≡ settled v2 → Fits v.whole k.journal k.next k.rounds v → k'.journal ≡ k.journal
     → IfOk drawn (λ n. (n ≡ k.next) × (n < most) × (k' ≡ record k { next = n + 1 })) → IfOk drawn (λ n. Drew v v' n)
 draws v v' v1 v2 k k' (Err e) most held noted put fits same ok = ok
 draws v v' v1 v2 k k' (Ok n) most held noted put fits same ok =
     let is = ok.0 in
     let next : k'.next ≡ n + 1 = ap (λ (h : History). h.next) ok.2 in
-    let a = after v v' v1 v2 k k' [] held noted put (same ∙ sym (append-nil k.journal)) in
+    let a = after v v' v1 v2 k k' [] held noted put (same_is k.journal k'.journal same) in
     let one : numbers k.next (k'.next - k.next) ≡ n ∷ [] = numbers_one k.next k'.next (omega (arith, is, next)) ∙ ap (λ (x : ℕ). x ∷ []) (sym is) in
     let le = fits.next in
     record {
@@ -187,12 +244,12 @@ draws v v' v1 v2 k k' (Ok n) most held noted put fits same ok =
       next = a.0.next ∙ next;
     }
 
-pub makes : (v v' v1 v2 v3 u : View) (k k' : History) (n most : ℕ) → v1 ≡ holding v k.journal k.next → v2 ≡ noting v1 k'.journal k'.next → v3 ≡ parent v2 → v' ≡ settled v3 → u ≡ child v2 → k.whole ≡ v.whole → Lawful k → Fits v.whole k.journal k.next v
+pub makes : (v v' v1 v2 v3 u : View) (k k' : History) (n most : ℕ) → v1 ≡ held_as v k → v2 ≡ noted_as v1 k' → v3 ≡ parent v2 → v' ≡ settled v3 → u ≡ child v2 → k.whole ≡ v.whole → Lawful k → Fits v.whole k.journal k.next k.rounds v
     → ((a : ℕ) → k.next ≤ a → entries_of a k.journal ≡ []) → (n ≡ k.next) × (n < most) × (k' ≡ record k { next = n + 1 }) → Made v v' u
 makes v v' v1 v2 v3 u k k' n most held noted cut put made whole lawful fits fresh ok =
-    let e : v2 ≡ noting (holding v k.journal k.next) k'.journal k'.next = noted ∙ ap (λ (x : View). noting x k'.journal k'.next) held in
-    let f : u ≡ child (noting (holding v k.journal k.next) k'.journal k'.next) = made ∙ ap child e in
-    let p : v' ≡ settled (parent (noting (holding v k.journal k.next) k'.journal k'.next)) = put ∙ ap settled (cut ∙ ap parent e) in
+    let e : v2 ≡ noted_as (held_as v k) k' = noted ∙ ap (λ (x : View). noted_as x k') held in
+    let f : u ≡ child (noted_as (held_as v k) k') = made ∙ ap child e in
+    let p : v' ≡ settled (parent (noted_as (held_as v k) k')) = put ∙ ap settled (cut ∙ ap parent e) in
     let is : u.actor ≡ k.next = ap (λ (x : View). x.actor) f in
     let next : v'.next ≡ k'.next = ap (λ (x : View). x.next) p in
     let up : k'.next ≡ n + 1 = ap (λ (h : History). h.next) ok.2 in
@@ -200,6 +257,7 @@ makes v v' v1 v2 v3 u k k' n most held noted cut put made whole lawful fits fres
     let lt = fits.actor in
     let le = fits.next in
     let seen : u.seen ≡ k.journal = ap (λ (x : View). x.seen) f in
+    let rounds : u.seen_rounds ≡ k.rounds = ap (λ (x : View). x.seen_rounds) f in
     let of : u.whole ≡ v.whole = ap (λ (x : View). x.whole) f in
     let mine : u.mine ≡ [] = ap (λ (x : View). x.mine) f in
     let l = lawful_in u.whole k (whole ∙ sym of) lawful in
@@ -211,12 +269,65 @@ makes v v' v1 v2 v3 u k k' n most held noted cut put made whole lawful fits fres
       next = omega (arith, next, up, n_is, is);
       same_next = ap (λ (x : View). x.next) f ∙ sym next;
       seen = seen ∙ (sym (ap (λ (h : History). h.journal) ok.2) ∙ sym (ap (λ (x : View). x.seen) p));
+      rounds = rounds ∙ (sym (ap (λ (h : History). h.rounds) ok.2) ∙ sym (ap (λ (x : View). x.seen_rounds) p));
       mine = mine;
       drawn = ap (λ (x : View). x.drawn) f;
-      stands = subst (λ (j : List Entry). Found u j) (sym seen) (record {
+      stands = subst (λ (j : List Entry). Found u j u.seen_rounds) (sym seen) (record {
         legal = l.0;
         limit = l.1;
-        later = subst (λ (j : List Entry). Later j k.journal) (sym seen) (later_self k.journal);
+        later = subst (λ (j : List Entry). Later u.seen_rounds j u.seen_rounds k.journal) (sym seen) (later_self u.seen_rounds k.journal);
         mine = subst (λ (m : List Entry). LeftOf m (entries_of u.actor k.journal)) (sym mine) (left_none u.actor k.journal (fresh u.actor (omega (arith, is))));
       });
     }
+
+-- a seat that forgot notes what it left
+pub forget_leaves : (v v1 : View) (k k' : History) → v1 ≡ held_as v k → k' ≡ forgotten k → Leaves (noted_as v1 k') v1.found v1.found_rounds
+forget_leaves v v1 k k' held is =
+    let found : v1.found ≡ k.journal = ap (λ (x : View). x.found) held in
+    let rounds : v1.found_rounds ≡ k.rounds = ap (λ (x : View). x.found_rounds) held in
+    ⊎_elim
+    (λ (e : forgotten k ≡ k).
+    let same : k' ≡ k = is ∙ e in
+    inl (record { more = []; left = ap (λ (h : History). h.journal) same ∙ sym found ∙ sym (append-nil v1.found); own = tt; rounds = ap (λ (h : History). h.rounds) same ∙ sym rounds }))
+    (λ (e : forgotten k ≡ shortened k).
+    let shorter : k' ≡ shortened k = is ∙ e in
+    inr (record { left = ap (λ (h : History). h.journal) shorter ∙ ap less_ended (sym found); rounds = ap (λ (h : History). h.rounds) shorter ∙ ap (λ (n : ℕ). n + 1) (sym rounds) }))
+    (either_way k)
+
+-- and puts that back
+pub forget_puts : (v v1 v2 : View) (k k' : History) → v1 ≡ held_as v k → v2 ≡ noted_as v1 k' → k.whole ≡ v.whole → k' ≡ forgotten k → k' ≡ history v2.whole v2.left v2.left_next v2.left_rounds
+forget_puts v v1 v2 k k' held noted whole is =
+    let of : k'.whole ≡ k.whole =
+    ap (λ (h : History). h.whole) is
+    ∙ ⊎_elim (λ (e : forgotten k ≡ k). ap (λ (h : History). h.whole) e) (λ (e : forgotten k ≡ shortened k). ap (λ (h : History). h.whole) e) (either_way k) in
+    let e : v2 ≡ noted_as (held_as v k) k' = noted ∙ ap (λ (x : View). noted_as x k') held in
+    let same : k'.whole ≡ v.whole = of ∙ whole in
+    sym (ap (λ (x : View). history x.whole x.left x.left_next x.left_rounds) e ∙ ap (λ (w : Whole). history w k'.journal k'.next k'.rounds) (sym same))
+
+-- a seat that added nothing notes what it left
+pub same_leaves : (v v1 : View) (k k' : History) → v1 ≡ held_as v k → Kept_as k k' → Leaves (noted_as v1 k') v1.found v1.found_rounds
+same_leaves v v1 k k' held same =
+    inl (record {
+      more = [];
+      left = same.journal ∙ (sym (ap (λ (x : View). x.found) held) ∙ sym (append-nil v1.found));
+      own = tt;
+      rounds = same.rounds ∙ sym (ap (λ (x : View). x.found_rounds) held);
+    })
+
+-- a look draws none
+pub look_draws_none : (v v' v1 : View) (k : History) → v1 ≡ held_as v k → v' ≡ settled v1 → v'.drawn ≡ v.drawn
+look_draws_none v v' v1 k held put =
+    let a = after v v' v1 v1 k k [] held (unnoted v v1 k held) put (same_is k.journal k.journal refl) in
+    a.1 ∙ (ap (λ (l : List ℕ). v.drawn ++ l) (numbers_none k.next k.next refl) ∙ append-nil v.drawn)
+
+-- the maker of a seat has drawn what it had
+pub cut_draws_none : (v v' v1 v2 v3 : View) (k k' : History) → v1 ≡ held_as v k → v2 ≡ noted_as v1 k' → v3 ≡ parent v2 → v' ≡ settled v3 → v'.drawn ≡ v.drawn
+cut_draws_none v v' v1 v2 v3 k k' held noted cut put =
+    let e : v' ≡ settled (parent (noted_as (held_as v k) k')) = put ∙ ap settled (cut ∙ ap parent (noted ∙ ap (λ (x : View). noted_as x k') held)) in
+    ap (λ (x : View). x.drawn) e ∙ (ap (λ (l : List ℕ). v.drawn ++ l) (numbers_none k'.next k'.next refl) ∙ append-nil v.drawn)
+
+-- the view of the seat that opens the lock
+pub stands_first : (w : Whole) (v : View) → v ≡ first_view w → Found v [] 0
+stands_first w v is =
+    let nothing : owed empty ≡ 0 = amount-empty returns in
+    subst (λ (x : View). Found x [] 0) (sym is) (record { legal = tt; limit = omega (arith, nothing); later = later_self 0 []; mine = left_none 0 [] refl })

@@ -1,6 +1,5 @@
 -- What the calls of a seat promise. Each tells the journal that it found.
 use Rattle.std.specs.Prelude.{◌≡◌, ◌≢◌, ℕ, ◌+◌, ◌≤◌, List, [], ◌∷◌, ◌++◌, length, Result}
-use Rattle.rtsp_record.specs.declared.holdings.Whole.{Whole}
 use Rattle.rtsp_record.specs.declared.changes.Entry.{Entry}
 use Rattle.rtsp_record.specs.declared.changes.Record.{Record}
 use Rattle.rtsp_record.specs.Books.{book_of}
@@ -9,7 +8,7 @@ use Rattle.rtsp_record.specs.Rules.{IsLegal}
 use Rattle.rtsp_book.specs.declared.steps.Step.{Step}
 use Rattle.rtsp_book.specs.declared.refusals.Refusal.{Refusal}
 use Rattle.rtsp_book.specs.Answers.{Answers, written}
-use Rattle.rtsp_book.specs.Kept.{History, entries_by}
+use Rattle.rtsp_book.specs.Kept.{History, history, entries_by, forgotten}
 use Rattle.rtsp_lock.specs.declared.view.View.{View}
 use Rattle.rtsp_lock.specs.declared.handles.BookLock.{BookLock}
 use Rattle.rtsp_lock.specs.declared.handles.BookSeat.{BookSeat}
@@ -28,11 +27,11 @@ IsSeatOf s l = s.seat.table_id ≡ l.table.shared.table_id
 abbrev pub SameSeat : BookSeat → BookSeat → Type 0
 SameSeat s t = (t.seat.table_id ≡ s.seat.table_id) × (t.seat.id ≡ s.seat.id)
 
--- a journal that a call found: it is legal and within its limit, comes after all that the seat had seen, and has the seat's own entries
-pub record Found (v : View) (j : List Entry) : Type 0 where
+-- a journal that a call found, in a round: it is legal and within its limit, comes after all that the seat had seen, and has the seat's own entries but for those forgotten
+pub record Found (v : View) (j : List Entry) (r : ℕ) : Type 0 where
   pub legal : IsLegal v.whole j
   pub limit : length j + owed (book_of j) ≤ v.whole.journal
-  pub later : Later v.seen j
+  pub later : Later v.seen_rounds v.seen r j
   pub mine : LeftOf v.mine (entries_of v.actor j)
 
 -- the seat is the same actor's, of the same whole, and its next number is no lower; what it has now seen is such a journal too
@@ -40,12 +39,12 @@ pub record Stays (v v' : View) : Type 0 where
   pub whole : v'.whole ≡ v.whole
   pub actor : v'.actor ≡ v.actor
   pub next : v.next ≤ v'.next
-  pub stands : Found v' v'.seen
+  pub stands : Found v' v'.seen v'.seen_rounds
 
 -- a step was answered after the journal found, and its records stand behind it as the seat's own
 pub record Acted (v v' : View) (step : Step) (answer : Result (List Record) Refusal) : Type 0 where
   pub journal : List Entry
-  pub found : Found v journal
+  pub found : Found v journal v'.seen_rounds
   pub answers : Answers v.whole journal step answer
   pub seen : v'.seen ≡ journal ++ entries_by v.actor (written answer)
   pub mine : v'.mine ≡ v.mine ++ entries_by v.actor (written answer)
@@ -55,7 +54,7 @@ pub record Acted (v v' : View) (step : Step) (answer : Result (List Record) Refu
 -- the journal found was seen, and stays as it is
 pub record Looked (v v' : View) : Type 0 where
   pub journal : List Entry
-  pub found : Found v journal
+  pub found : Found v journal v'.seen_rounds
   pub seen : v'.seen ≡ journal
   pub mine : v'.mine ≡ v.mine
   pub stays : Stays v v'
@@ -76,12 +75,23 @@ pub record Made (v v' u : View) : Type 0 where
   pub next : v'.next ≡ u.actor + 1
   pub same_next : u.next ≡ v'.next
   pub seen : u.seen ≡ v'.seen
+  pub rounds : u.seen_rounds ≡ v'.seen_rounds
   pub mine : u.mine ≡ []
   pub drawn : u.drawn ≡ []
-  pub stands : Found u u.seen
+  pub stands : Found u u.seen u.seen_rounds
+
+-- ended sessions were forgotten in the journal found, and what is left was seen
+pub record Forgot (v v' : View) : Type 0 where
+  pub journal : List Entry
+  pub rounds : ℕ
+  pub found : Found v journal rounds
+  pub forgets : history v'.whole v'.seen v'.next v'.seen_rounds ≡ forgotten (history v.whole journal v'.next rounds)
+  pub mine : v'.mine ≡ v.mine
+  pub drawn : v'.drawn ≡ v.drawn
+  pub stays : Stays v v'
 
 -- the book was taken out with the journal found, and the seat holds the lock for good
 pub record Finished (v v' : View) (h : History) : Type 0 where
-  pub found : Found v h.journal
+  pub found : Found v h.journal h.rounds
   pub whole : h.whole ≡ v.whole
-  pub holds : v' ≡ holding v h.journal h.next
+  pub holds : v' ≡ holding v h.journal h.next h.rounds

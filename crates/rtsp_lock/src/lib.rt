@@ -1,9 +1,11 @@
 //! One book for any number of threads, with one history.
 //!
 //! A `BookLock` has the book, and each thread has a `BookSeat` of it. A call of a seat finds a
-//! journal that begins with all that the seat had seen, is answered as an object of one thread is
-//! answered there, and leaves its entries behind it under the seat's actor. Whenever the lock is
-//! free, the book is the replay of its journal.
+//! journal that comes after all that the seat had seen, is answered as an object of one thread is
+//! answered there, and leaves its entries behind it under the seat's actor. A journal comes after
+//! another by appended entries, and by forgetting sessions that have ended, which is counted in
+//! rounds: in the same round it begins with the other. Whenever the lock is free, the book is the
+//! replay of its journal.
 //!
 //! The definitions of `specs/` read in this order: Entries (whose they are, which journal comes
 //! later), Rule (what the lock keeps over all seats), Steps (what a step of the lock tells its
@@ -16,14 +18,15 @@ mod handles;
 mod laws;
 mod names;
 mod opening;
+mod phases;
 mod rule;
 mod turns;
 mod view;
 
 pub use handles::{BookLock, BookSeat};
 pub use laws::{
-    law_acted, law_actors_differ, law_draws_differ, law_looked, law_run, law_run_goes_on,
-    law_run_lasts,
+    law_acted, law_actors_differ, law_draws_differ, law_forgot, law_looked, law_run,
+    law_run_goes_on, law_run_lasts,
 };
 pub use names::Name;
 pub use opening::open;

@@ -17,7 +17,7 @@ pub fn open(alloc: Global, whole: &Whole) -> Result<(BookLock, BookSeat), AllocE
     requires { HasPorts whole.now }
     ensures own { IfOk result (λ r. IsSeatOf r.1 r.0) }
     ensures opened { IfOk result (λ r. seat_view r.1 ≡ first_view whole.now) }
-    ensures stands { IfOk result (λ r. Found (seat_view r.1) []) }
+    ensures stands { IfOk result (λ r. Found (seat_view r.1) [] 0) }
 {
     let mut slots = Vec::with_capacity(alloc, 1)?;
     slots.push_reserved(Some(Kept::<LockBook>::open(alloc, whole)?));

@@ -8,8 +8,8 @@ ghost use Rattle.rtsp_record.specs.Books.{book_of};
 ghost use Rattle.rtsp_record.specs.Sums.{owed};
 ghost use Rattle.rtsp_record.specs.Rules.{IsLegal};
 ghost use Rattle.rtsp_book.specs.Kept.{History, history};
-ghost use Rattle.rtsp_lock.specs.Entries.{entries_of, OnlyOf};
-ghost use Rattle.rtsp_lock.specs.Rule.{Fits};
+ghost use Rattle.rtsp_lock.specs.Entries.{entries_of};
+ghost use Rattle.rtsp_lock.specs.Rule.{Fits, Leaves};
 ghost use Rattle.rtsp_lock.specs.Steps.{Took, settled, noting, holding, parent, child};
 ghost use Rattle.rtsp_lock.specs.Calls.{seat_view, IsSeatOf, SameSeat};
 
@@ -24,12 +24,12 @@ impl BookSeat {
     pub(crate) fn take<R: Wait>(&mut self, rt: &R, lock: &BookLock) -> Kept<LockBook>
         requires { IsSeatOf self.old lock.now }
         ensures same { SameSeat self.old self.new }
-        ensures value { result ≡ history (seat_view self.old).whole result.journal result.next }
+        ensures value { result ≡ history (seat_view self.old).whole result.journal result.next result.rounds }
         ensures legal { IsLegal result.whole result.journal }
         ensures limit { length result.journal + owed (book_of result.journal) ≤ result.whole.journal }
-        ensures fits { Fits (seat_view self.old).whole result.journal result.next (seat_view self.old) }
+        ensures fits { Fits (seat_view self.old).whole result.journal result.next result.rounds (seat_view self.old) }
         ensures fresh { (a : ℕ) → result.next ≤ a → entries_of a result.journal ≡ [] }
-        ensures seat { self.new.seat.me ≡ (holding (seat_view self.old) result.journal result.next, (0, None) ∷ self.old.seat.me.1) }
+        ensures seat { self.new.seat.me ≡ (holding (seat_view self.old) result.journal result.next result.rounds, (0, None) ∷ self.old.seat.me.1) }
     {
         self.seize(rt, lock);
         let kept = self.slot_out(lock);
@@ -37,14 +37,15 @@ impl BookSeat {
         kept
     }
 
-    // Notes what will be put back, which is what was found followed by entries of the seat.
+    // Notes what will be put back: what was found followed by entries of the seat, or what was
+    // found without its ended sessions.
     pub(crate) fn note(&mut self, lock: &BookLock, kept: Kept<LockBook>) -> Kept<LockBook>
         requires own { IsSeatOf self.old lock.now }
         requires holds { (seat_view self.old).holds ≡ true }
-        requires more { (es : List Entry) × (kept.journal ≡ (seat_view self.old).found ++ es) × OnlyOf (seat_view self.old).actor es }
+        requires leaves { let v = seat_view self.old in Leaves (noting v kept.journal kept.next kept.rounds) v.found v.found_rounds }
         requires up { (seat_view self.old).next ≤ kept.next }
         ensures same { SameSeat self.old self.new }
-        ensures seat { self.new.seat.me ≡ (noting (seat_view self.old) kept.journal kept.next, self.old.seat.me.1) }
+        ensures seat { self.new.seat.me ≡ (noting (seat_view self.old) kept.journal kept.next kept.rounds, self.old.seat.me.1) }
         ensures value { result ≡ kept }
     {
         let value = Some(kept);
@@ -77,7 +78,7 @@ impl BookSeat {
         requires own { IsSeatOf self.old lock.now }
         requires holds { (seat_view self.old).holds ≡ true }
         requires out { self.old.seat.me.1 ≡ (0, None) ∷ rest self.old.seat.me.1 }
-        requires noted { let v = seat_view self.old in kept ≡ history v.whole v.left v.left_next }
+        requires noted { let v = seat_view self.old in kept ≡ history v.whole v.left v.left_next v.left_rounds }
         ensures same { SameSeat self.old self.new }
         ensures legal { IsLegal kept.whole kept.journal }
         ensures limit { length kept.journal + owed (book_of kept.journal) ≤ kept.whole.journal }
@@ -137,7 +138,7 @@ impl BookSeat {
     fn release(&mut self, lock: &BookLock)
         requires own { IsSeatOf self.old lock.now }
         requires holds { (seat_view self.old).holds ≡ true }
-        requires value { let v = seat_view self.old in self.old.seat.me.1 ≡ (0, Some (history v.whole v.left v.left_next)) ∷ rest self.old.seat.me.1 }
+        requires value { let v = seat_view self.old in self.old.seat.me.1 ≡ (0, Some (history v.whole v.left v.left_next v.left_rounds)) ∷ rest self.old.seat.me.1 }
         ensures same { SameSeat self.old self.new }
         ensures seat { self.new.seat.me ≡ (settled (seat_view self.old), rest self.old.seat.me.1) }
     {

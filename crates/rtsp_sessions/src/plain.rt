@@ -101,6 +101,10 @@ impl BookRep for PlainBook {
         }
     }
 
+    fn lives(&self, session: u64) -> bool {
+        rows::lives(self.rows(), session)
+    }
+
     fn next_session(&self, from: u64) -> Option<u64> {
         lookups::first_from(self.rows(), from)
     }

@@ -1,7 +1,7 @@
 //! A book, however it is kept.
 
-ghost use Rattle.std.specs.Prelude.{◌≡◌, ◌↔◌, IsTrue, IfOk, OnOk, OnErr, IsOk, option_copied};
-ghost use Rattle.std.specs.FinMap.{empty, entries};
+ghost use Rattle.std.specs.Prelude.{◌≡◌, ◌↔◌, IsTrue, IfOk, OnOk, OnErr, IsOk, is_some, option_copied};
+ghost use Rattle.std.specs.FinMap.{get, empty, entries};
 ghost use Rattle.rtsp_record.specs.declared.holdings.Whole.{Whole};
 ghost use Rattle.rtsp_record.specs.Books.{Book, after_all};
 ghost use Rattle.rtsp_record.specs.Sums.{held_rate, owed, living};
@@ -49,6 +49,10 @@ pub trait BookRep: Drop {
     /// The session of this number, where it lives.
     fn session(&self, session: u64) -> Option<SessionView>
         ensures { result ≡ session_at (contents self.now) session };
+
+    /// Whether the session of this number lives.
+    fn lives(&self, session: u64) -> bool
+        ensures { result ≡ is_some (get (contents self.now) session) };
 
     /// The number of the least living session not below `from`.
     fn next_session(&self, from: u64) -> Option<u64>

@@ -9,3 +9,4 @@ pub mod Comparing
 pub mod Pools
 pub mod Counting
 pub mod Walks
+pub mod Living
