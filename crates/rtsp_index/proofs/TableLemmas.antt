@@ -1,6 +1,6 @@
 -- A table of sessions as a book: what it has at a number, and what one change of it makes.
 use Rattle.std.proofs.Common.{◌≡◌, ◌≢◌, ℕ, zero, suc, ◌+◌, ◌<◌, Bool, true, false, cond, List, [], ◌∷◌, length, refl, sym, ◌∙◌, ap, subst, inl, inr, arith}
-use Rattle.std.specs.Prelude.{Option, Some, None, Result, Ok, Err, OnOk, IsOk, option_map, option_and_then, nat_eq, nat_le, slice_get, IsSome, ◌≤◌}
+use Rattle.std.specs.Prelude.{Option, Some, None, Result, Ok, Err, OnOk, IsOk, is_some, option_map, option_and_then, nat_eq, nat_le, slice_get, IsSome, ◌≤◌}
 use Rattle.std.specs.FinMap.{get, entries}
 use Rattle.std.specs.Map.{lookup}
 use Rattle.std.proofs.lemmas.Bool.{cases_eq}
@@ -154,6 +154,16 @@ pub row_there : (es : List (ℕ × ℕ)) (rows : Slab (ℕ × Session)) (s k : �
 row_there es rows s k o placed at is =
     let row = numbered (row_in rows k) s (placed s k at) in
     is ∙ row.1 ∙ sym (ap (option_map (λ (f : Session). (s, f))) (at_place rows es s ∙ ap (option_and_then (row_at rows)) at ∙ ap (option_map (λ (v : ℕ × Session). v.1)) row.1))
+
+-- a session lives where its number has a place
+pub lives_here : (es : List (ℕ × ℕ)) (rows : Slab (ℕ × Session)) (s : ℕ) → IsPlaced (λ q. lookup (nat_eq q) es) rows → is_some (lookup (nat_eq s) es) ≡ is_some (get (gathered rows es) s)
+lives_here es rows s placed =
+    elim (lookup (nat_eq s) es) as (λ o. lookup (nat_eq s) es ≡ o → is_some o ≡ is_some (get (gathered rows es) s)) [
+      | None ↦ λ none. sym (ap is_some (no_place es rows s none))
+      | Some k ↦ λ at.
+          let row = numbered (row_in rows k) s (placed s k at) in
+          sym (ap is_some (at_place rows es s ∙ ap (option_and_then (row_at rows)) at ∙ ap (option_map (λ (v : ℕ × Session). v.1)) row.1))
+    ] refl
 
 -- what an accepted call ensures
 pub on_ok : {A B : Type 0} (r : Result A B) (P : Type 0) → OnOk r P → IsOk r → P

@@ -16,9 +16,11 @@ use std::marker::Model;
 /// cost the same where they answer `None`. Where they find a session, and in `next_session`, all
 /// sessions are gone through: by their numbers and expiries alone, but for `on_conn`, which reads
 /// each row.
+///
+/// The parts stand on the heap, so a book is moved as one address.
 #[derive(Drop)]
 pub struct IndexedBook {
-    parts: Parts,
+    parts: Box<Parts>,
 }
 
 impl Model for IndexedBook {
@@ -32,9 +34,9 @@ impl Model for IndexedBook {
 
     ghost coded = { plain_code limits.the_row.coded admission.the_row.coded play.the_row.coded };
 
-    ghost view = { λ b. record { whole = b.parts.whole; book = book_in b.parts } };
+    ghost view = { λ b. record { whole = b.parts.value.whole; book = book_in b.parts.value } };
 
-    ghost invariant = { λ b. AllAgree b.parts };
+    ghost invariant = { λ b. AllAgree b.parts.value };
 }
 
 impl IndexedBook {
@@ -54,7 +56,7 @@ impl BookRep for IndexedBook {
     ghost whole_of = { λ b. b.whole };
 
     fn open(alloc: Global, whole: &Whole) -> Result<Self, AllocError> {
-        let parts = Parts::open(alloc, whole)?;
+        let parts = Box::new(alloc, Parts::open(alloc, whole)?)?;
         Ok(IndexedBook { parts })
     }
 
@@ -63,8 +65,9 @@ impl BookRep for IndexedBook {
     }
 
     fn apply(&mut self, changes: &[Record]) -> Result<(), AllocError> {
-        self.parts.reserve(changes)?;
-        self.parts.make_all(changes);
+        let parts = &mut *self.parts;
+        parts.reserve(changes)?;
+        parts.make_all(changes);
         Ok(())
     }
 
@@ -77,6 +80,10 @@ impl BookRep for IndexedBook {
             Some(view) => Some(view.copied()),
             None => None,
         }
+    }
+
+    fn lives(&self, session: u64) -> bool {
+        self.parts().sessions.lives(session)
     }
 
     fn next_session(&self, from: u64) -> Option<u64> {

@@ -1,6 +1,6 @@
 //! The table of living sessions, by number.
 
-ghost use Rattle.std.specs.Prelude.{◌≡◌, ◌+◌, ◌<◌, ◌≤◌, ℕ, nat_eq, Some, None, IsSome, IfSome, IsTrue, IsOk, OnOk, option_copied, slice_get, ◌⊎◌};
+ghost use Rattle.std.specs.Prelude.{◌≡◌, ◌+◌, ◌<◌, ◌≤◌, ℕ, nat_eq, Some, None, IsSome, IfSome, is_some, IsTrue, IsOk, OnOk, option_copied, slice_get, ◌⊎◌};
 ghost use Rattle.std.specs.FinMap.{get, empty, entries};
 ghost use Rattle.indexmap.specs.IndexMap.{get as get_place};
 ghost use Rattle.rtsp_record.specs.Tables.{set};
@@ -68,6 +68,13 @@ impl SessionTable {
     {
         let place = self.places.get(&session)?;
         self.rows.get(*place)
+    }
+
+    /// Whether the session of this number lives. No row is read.
+    pub(crate) fn lives(&self, session: u64) -> bool
+        ensures { result ≡ is_some (get (sessions_in self.now) session) }
+    {
+        self.places.contains_key(&session)
     }
 
     // Puts in a session that does not live.
