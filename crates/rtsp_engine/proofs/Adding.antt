@@ -94,7 +94,7 @@ module _ {B W C P : Type 0} (d : Devices B W C P) where
     grown_ends : (request : ParsedValue) (found : Option (ℕ × Session)) (moment : ℕ) (response : Response) (s t : State B W C P) → Ends d service request found moment response s t → Grown s.view t.view []
     grown_ends request found moment response s t run =
         let r = run.refuses in
-        grown_acted s.view t.view (step.Touch r.session.0 r.until) (Err r.refusal) r.acted
+        grown_acted s.view t.view (step.Touch r.session.0 r.until) (Err r.refused.refusal) r.refused.acted
 
     grown_found : (uri : List ℕ) (request : ParsedValue) (found : Option (ℕ × Session)) (moment : ℕ) (response : Response) (s t : State B W C P) (run : RespondsFound d service uri request found moment response s t)
         → Grown s.view t.view (found_records d service uri request found moment response s t run)

@@ -1,5 +1,5 @@
 -- What a request is answered, from the parts of its answering.
-use Rattle.std.proofs.Common.{◌≡◌, ◌++◌, ℕ, List, Option, Result, Ok, Err, OnOk, OnErr, inl, inr}
+use Rattle.std.proofs.Common.{◌≡◌, ◌++◌, ℕ, List, Option, None, Result, Ok, Err, OnOk, OnErr, inl, inr, refl}
 use Rattle.rtsp_grammar.specs.declared.message.Response.{Response}
 use Rattle.rtsp_grammar.specs.Writing.{response_text}
 use Rattle.rtsp_record.specs.Books.{Session}
@@ -51,3 +51,20 @@ module _ {B W C P : Type 0} (d : Devices B W C P) (service : Service) where
       → OnErr r (LacksFound d service request found moment mid t) → Finds d service request found moment s mid → OnErr r (OnlyFinds d service request s t)
   parsed_lacks (Ok done) request found moment s mid t h finds = h
   parsed_lacks (Err fault) request found moment s mid t h finds = record { found = found; moment = moment; mid = mid; finds = finds; goes_on = h }
+
+  -- without a session nothing is renewed
+  none_renews : (request : ParsedValue) (moment : ℕ) (s : State B W C P) → OnlyRenews d service request None None moment s s
+  none_renews request moment s = record { renews = (refl, refl); others = refl }
+
+  -- a request that names no session
+  pub unnamed_ok : {A E : Type 0} (r : Result A E) (uri : List ℕ) (request : ParsedValue) (moment : ℕ) (s mid t : State B W C P) (old new : List ℕ)
+      → OnOk r (Writes (λ x. ConductsRenewed d service uri request None moment x mid t) old new) → Finds d service request None moment s mid
+      → OnOk r (Writes (λ x. RespondsParsed d service uri request x s t) old new)
+  unnamed_ok r uri request moment s mid t old new h finds =
+      parsed_ok r uri request None moment s mid t old new (found_ok r uri request None None moment mid mid t old new h (none_renews request moment mid)) finds
+
+  -- the same, where there was no memory
+  pub unnamed_lacks : {A E : Type 0} (r : Result A E) (request : ParsedValue) (moment : ℕ) (s mid t : State B W C P)
+      → OnErr r (DoesNothing d mid t) → Finds d service request None moment s mid → OnErr r (OnlyFinds d service request s t)
+  unnamed_lacks r request moment s mid t h finds =
+      parsed_lacks r request None moment s mid t (found_lacks r request None None moment mid mid t h (none_renews request moment mid)) finds

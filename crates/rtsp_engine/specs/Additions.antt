@@ -136,7 +136,7 @@ module _ {B W C P : Type 0} (d : Devices B W C P) where
     end_records start (Fault fault) s t run =
         answered_records (start ++ run.progress.bytes) run.rest s.output run.between run.progress.answered ++ fault_records run.rest fault run.between.answerer t.output.answerer run.faulted
 
-    -- all that the seat had seen is seen still, and its entries have grown by these records and nothing else
+    -- what the seat has seen comes after what it had seen, and its entries have grown by these records and nothing else
     abbrev pub GrowsBy : Desk R B W C P → Desk R B W C P → List Record → Type 0
     GrowsBy s t made = Grown (seat_view s.seat.now) (seat_view t.seat.now) made
 
@@ -148,6 +148,6 @@ module _ {B W C P : Type 0} (d : Devices B W C P) (R : Type 0) where
     pub ended : (start : List ℕ) (end : ServeEnd) (s t : Line (Desk R B W C P)) (run : EndsFrom (AnswersAt d) (GivesUpAt d) start end s t)
         → GrowsBy d s.output.answerer t.output.answerer (end_records d start end s t run)
 
-  -- all that the seat had seen is seen still, and its entries have grown by some records
+  -- what the seat has seen comes after what it had seen, and its entries have grown by some records
   abbrev pub Grows : Desk R B W C P → Desk R B W C P → Type 0
   Grows s t = (made : List Record) × GrowsBy d s t made

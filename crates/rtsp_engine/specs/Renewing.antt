@@ -51,12 +51,16 @@ abbrev pub Renews : Service → ParsedValue → ℕ → Option (ℕ × Session) 
 Renews service request moment found again v u =
     RenewsBy service.asker.conn request.name (renewal_at service request moment found) found again v u
 
+-- the session's renewal to a moment is refused, and this is what is answered
+pub record RefusedRenewal (request : ParsedValue) (session : ℕ × Session) (until : ℕ) (response : Response) (v u : View) : Type 0 where
+  pub refusal : Refusal
+  pub acted : Acted v u (step.Touch session.0 until) (Err refusal)
+  pub answer : response ≡ renewal_refused request session refusal
+
 -- its renewal is refused, and this is what is answered
 pub record RefusesRenewal (service : Service) (request : ParsedValue) (moment : ℕ) (found : Option (ℕ × Session)) (response : Response) (v u : View) : Type 0 where
   pub session : ℕ × Session
   pub lives : found ≡ Some session
   pub until : ℕ
   pub renewal : renewal service.table request session moment ≡ Some until
-  pub refusal : Refusal
-  pub acted : Acted v u (step.Touch session.0 until) (Err refusal)
-  pub answer : response ≡ renewal_refused request session refusal
+  pub refused : RefusedRenewal request session until response v u

@@ -96,7 +96,9 @@ fn act_step<R: Wait, B: Binder>(
     }
 }
 
-// Notes a play, acts the step, writes what came of it, and settles the play.
+// Notes a play, acts the step, writes what came of it, and settles the play. It stands apart, so that
+// what is answered at once doesn't pay for the room of the records.
+#[inline(never)]
 fn conduct_step<R: Wait, B: Binder, W: Words, C: Clock, P: Plays>(
     alloc: Global,
     desk: &mut Desk<'_, R, B, W, C, P>,
@@ -200,6 +202,7 @@ fn answer_setup(plan: &SetupPlan, outcome: SetUp, room: &mut Room)
     }
 }
 
+#[inline(never)]
 fn conduct_setup<R: Wait, B: Binder, W: Words, C: Clock, P: Plays>(
     desk: &mut Desk<'_, R, B, W, C, P>,
     plan: &SetupPlan,

@@ -1,6 +1,6 @@
 //! How one request is answered.
 
-ghost use Rattle.std.specs.Prelude.{◌≡◌, OnOk, OnErr};
+ghost use Rattle.std.specs.Prelude.{◌≡◌, OnOk, OnErr, option_map};
 ghost use Rattle.rtsp_engine.specs.Conducting.{DoesNothing};
 ghost use Rattle.rtsp_engine.specs.Conversing.{LacksFound, OnlyFinds, Lacks};
 ghost use Rattle.rtsp_engine.specs.DeskAnswers.{AnswersAt, GivesUpAt};
@@ -29,22 +29,15 @@ fn respond_renewed<R: Wait, B: Binder, W: Words, C: Clock, P: Plays>(
     uri: &[u8],
     request: ParsedRequest<'_>,
     moment: u64,
-    view: Option<SessionView>,
+    view: Option<&SessionView>,
     room: &mut Room,
 ) -> Result<(), AllocError>
     ensures same { SameParts desk.old desk.new }
-    ensures ok { OnOk result (WritesRenewed (devices B.calls W.calls C.tells P.calls) uri.now request.entry view moment (scene desk.old room.old) (scene desk.new room.new)) }
+    ensures ok { OnOk result (WritesRenewed (devices B.calls W.calls C.tells P.calls) uri.now request.entry (option_map (λ v. v.now) view.entry) moment (scene desk.old room.old) (scene desk.new room.new)) }
     ensures err { OnErr result (DoesNothing (devices B.calls W.calls C.tells P.calls) (state desk.old) (state desk.new)) }
     ensures mute { OnErr result (room.new.text ≡ room.old.text) }
 {
-    match decide(
-        alloc,
-        request,
-        view.as_ref(),
-        desk.table,
-        desk.asker.peer,
-        moment,
-    ) {
+    match decide(alloc, request, view, desk.table, desk.asker.peer, moment) {
         Ok(plan) => conduct(alloc, desk, uri, &plan, room),
         Err(AllocError) => Err(AllocError),
     }
@@ -57,21 +50,42 @@ fn respond_found<R: Wait, B: Binder, W: Words, C: Clock, P: Plays>(
     uri: &[u8],
     request: ParsedRequest<'_>,
     moment: u64,
-    found: Option<SessionView>,
+    found: &mut Option<SessionView>,
     room: &mut Room,
 ) -> Result<(), AllocError>
     ensures same { SameParts desk.old desk.new }
-    ensures ok { OnOk result (WritesFound (devices B.calls W.calls C.tells P.calls) uri.now request.entry found moment (scene desk.old room.old) (scene desk.new room.new)) }
-    ensures err { OnErr result (LacksFound (devices B.calls W.calls C.tells P.calls) (service desk.old) request.entry found moment (state desk.old) (state desk.new)) }
+    ensures ok { OnOk result (WritesFound (devices B.calls W.calls C.tells P.calls) uri.now request.entry found.old moment (scene desk.old room.old) (scene desk.new room.new)) }
+    ensures err { OnErr result (LacksFound (devices B.calls W.calls C.tells P.calls) (service desk.old) request.entry found.old moment (state desk.old) (state desk.new)) }
     ensures mute { OnErr result (room.new.text ≡ room.old.text) }
 {
     let asker = desk.asker;
     match renew(
         desk.rt, desk.seat, desk.lock, desk.table, asker, &request, moment, found,
     ) {
-        Ok(view) => respond_renewed(alloc, desk, uri, request, moment, view, room),
+        Ok(()) => respond_renewed(alloc, desk, uri, request, moment, found.as_ref(), room),
         Err(reply) => reply_with(&reply, room),
     }
+}
+
+// Answers a request that names a session, or may name one. It stands apart, so that a request that
+// names none doesn't pay for the room of a session.
+#[inline(never)]
+fn respond_named<R: Wait, B: Binder, W: Words, C: Clock, P: Plays>(
+    alloc: Global,
+    desk: &mut Desk<'_, R, B, W, C, P>,
+    uri: &[u8],
+    request: ParsedRequest<'_>,
+    room: &mut Room,
+) -> Result<(), AllocError>
+    ensures same { SameParts desk.old desk.new }
+    ensures ok { OnOk result (WritesParsed (devices B.calls W.calls C.tells P.calls) uri.now request.entry (scene desk.old room.old) (scene desk.new room.new)) }
+    ensures err { OnErr result (OnlyFinds (devices B.calls W.calls C.tells P.calls) (service desk.old) request.entry (state desk.old) (state desk.new)) }
+    ensures mute { OnErr result (room.new.text ≡ room.old.text) }
+{
+    let name = request.session_name();
+    let mut found = look(desk.rt, desk.seat, desk.lock, desk.asker.conn, name);
+    let moment = desk.clock.now();
+    respond_found(alloc, desk, uri, request, moment, &mut found, room)
 }
 
 // Answers a request that nothing refuses before its session is looked up.
@@ -87,10 +101,13 @@ fn respond_parsed<R: Wait, B: Binder, W: Words, C: Clock, P: Plays>(
     ensures err { OnErr result (OnlyFinds (devices B.calls W.calls C.tells P.calls) (service desk.old) request.entry (state desk.old) (state desk.new)) }
     ensures mute { OnErr result (room.new.text ≡ room.old.text) }
 {
-    let name = request.session_name();
-    let found = look(desk.rt, desk.seat, desk.lock, desk.asker.conn, name);
-    let moment = desk.clock.now();
-    respond_found(alloc, desk, uri, request, moment, found, room)
+    match request.session_name() {
+        Some(_) => respond_named(alloc, desk, uri, request, room),
+        None => {
+            let moment = desk.clock.now();
+            respond_renewed(alloc, desk, uri, request, moment, None, room)
+        }
+    }
 }
 
 /// Answers a request: its response is written behind what is in the room. Where memory runs out,

@@ -1,9 +1,10 @@
 //! Looks the session of a request up, and renews it.
 
-ghost use Rattle.std.specs.Prelude.{◌≡◌, IfOk, IfErr};
+ghost use Rattle.std.specs.Prelude.{◌≡◌, Some, IsSome, IfSome, OnOk, IfErr};
+ghost use Rattle.rtsp_book.specs.declared.steps.Step.TheVariants.{Touch};
 ghost use Rattle.rtsp_lock.specs.Calls.{seat_view, IsSeatOf, SameSeat};
 ghost use Rattle.rtsp_engine.specs.Desk.{served};
-ghost use Rattle.rtsp_engine.specs.Renewing.{lock_name, Looks, Renews, RefusesRenewal};
+ghost use Rattle.rtsp_engine.specs.Renewing.{lock_name, Looks, RenewsBy, Renews, RefusedRenewal, RefusesRenewal};
 
 use crate::desk::Asker;
 use rtsp_book::{Receipt, SessionView, Startup, Step};
@@ -40,28 +41,26 @@ pub(crate) fn look<R: Wait>(
     }
 }
 
-// Renews the session that was found, and gives it as it then is: it is looked up again only where
-// the renewal was recorded. A refused renewal is answered at once.
-pub(crate) fn renew<R: Wait>(
+// Renews the session that was found to this moment, and looks it up again where that was recorded.
+// It stands apart, so that a request that renews nothing doesn't pay for the room of the records.
+#[inline(never)]
+fn renew_until<R: Wait>(
     rt: &R,
     seat: &mut BookSeat,
     lock: &BookLock,
-    table: &Table,
-    asker: Asker,
+    conn: u64,
     request: &ParsedRequest<'_>,
-    moment: u64,
-    found: Option<SessionView>,
-) -> Result<Option<SessionView>, Reply>
-    requires { IsSeatOf seat.old lock.now }
+    until: u64,
+    found: &mut Option<SessionView>,
+) -> Result<(), Reply>
+    requires own { IsSeatOf seat.old lock.now }
+    requires lives { IsSome found.old }
     ensures same { SameSeat seat.old seat.new }
-    ensures ok { IfOk result (λ again. Renews (served table.now asker) request.now moment found again (seat_view seat.old) (seat_view seat.new)) }
-    ensures err { IfErr result (λ r. RefusesRenewal (served table.now asker) request.now moment found r (seat_view seat.old) (seat_view seat.new)) }
+    ensures ok { IfSome found.old (λ view. OnOk result (RenewsBy conn request.now.name (Some (Touch view.0 until)) found.old found.new (seat_view seat.old) (seat_view seat.new))) }
+    ensures err { IfSome found.old (λ view. IfErr result (λ r. RefusedRenewal request.now view until r (seat_view seat.old) (seat_view seat.new))) }
 {
-    let Some(view) = found else {
-        return Ok(None);
-    };
-    let Some(until) = renewal(request, table, &view, moment) else {
-        return Ok(Some(view));
+    let Some(view) = found.as_ref() else {
+        unreachable!()
     };
     let touch = Step::Touch {
         session: view.session(),
@@ -71,10 +70,37 @@ pub(crate) fn renew<R: Wait>(
     match seat.act_into(rt, lock, &touch, &mut made) {
         Ok(()) => {
             if made.records().is_empty() {
-                return Ok(Some(view));
+                return Ok(());
             }
-            Ok(look(rt, seat, lock, asker.conn, request.session_name()))
+            *found = look(rt, seat, lock, conn, request.session_name());
+            Ok(())
         }
-        Err(refusal) => Err(renewal_refused(request, &view, refusal)),
+        Err(refusal) => Err(renewal_refused(request, view, refusal)),
+    }
+}
+
+// Renews the session that was found, where it is to be renewed. Afterwards it is as it then is. A
+// refused renewal is answered at once.
+pub(crate) fn renew<R: Wait>(
+    rt: &R,
+    seat: &mut BookSeat,
+    lock: &BookLock,
+    table: &Table,
+    asker: Asker,
+    request: &ParsedRequest<'_>,
+    moment: u64,
+    found: &mut Option<SessionView>,
+) -> Result<(), Reply>
+    requires { IsSeatOf seat.old lock.now }
+    ensures same { SameSeat seat.old seat.new }
+    ensures ok { OnOk result (Renews (served table.now asker) request.now moment found.old found.new (seat_view seat.old) (seat_view seat.new)) }
+    ensures err { IfErr result (λ r. RefusesRenewal (served table.now asker) request.now moment found.old r (seat_view seat.old) (seat_view seat.new)) }
+{
+    let Some(view) = found.as_ref() else {
+        return Ok(());
+    };
+    match renewal(request, table, view, moment) {
+        Some(until) => renew_until(rt, seat, lock, asker.conn, request, until, found),
+        None => Ok(()),
     }
 }

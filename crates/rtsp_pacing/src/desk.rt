@@ -8,6 +8,7 @@ use rtsp_book::{Refusal, SessionView, Step};
 use rtsp_content::Table;
 use rtsp_lock::{BookLock, BookSeat, Name};
 use rtsp_npt::UnitLength;
+use rtsp_record::Phase;
 use rtsp_sockets::{Media, Outlets, PairTable, RunningClock};
 use std::rt::Clock;
 use std::sync::Wait;
@@ -98,6 +99,11 @@ impl<R: Wait> PacerDesk<'_, R> {
     pub(crate) fn look(&mut self, session: u64) -> Option<SessionView> {
         self.seat
             .look(self.rt, self.parts.lock, Name::Number(session))
+    }
+
+    // The phase of the session of this number as it is now.
+    pub(crate) fn phase(&mut self, session: u64) -> Option<Phase> {
+        self.seat.phase(self.rt, self.parts.lock, session)
     }
 
     // Ends a play whose last unit is due.

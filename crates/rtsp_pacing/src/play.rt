@@ -31,6 +31,8 @@ enum Stage {
 #[derive(Drop)]
 pub(crate) struct PacedPlay {
     asked: NewPlay,
+    // The session as it was when the play was taken over. It is in the play while its phase is this.
+    begun: SessionView,
     // The place of its presentation.
     presentation: u16,
     ways: Ways,
@@ -85,15 +87,16 @@ impl PacedPlay {
     pub(crate) fn begin<R: Wait>(
         desk: &mut PacerDesk<'_, R>,
         asked: NewPlay,
-        view: &SessionView,
+        begun: SessionView,
     ) -> Option<(PacedPlay, u64)> {
-        let presentation = presentation_of(view)?;
-        let pacer = Pacer::start(view, desk.parts.table.presentation(presentation)?)?;
+        let presentation = presentation_of(&begun)?;
+        let pacer = Pacer::start(&begun, desk.parts.table.presentation(presentation)?)?;
         let due = pacer.next_due()?;
         let play = PacedPlay {
             asked,
             presentation,
-            ways: Ways::of(desk.rt, &desk.parts, view),
+            ways: Ways::of(desk.rt, &desk.parts, &begun),
+            begun,
             stage: Stage::Sending(pacer),
         };
         Some((play, due))
@@ -125,7 +128,7 @@ impl PacedPlay {
     ) -> Next {
         // The moment comes before the look: what is sent was due while the session was playing.
         let moment = desk.now();
-        let Some(view) = desk.look(self.session()) else {
+        let Some(phase) = desk.phase(self.session()) else {
             return Next::Never;
         };
         let table = desk.parts.table;
@@ -133,9 +136,9 @@ impl PacedPlay {
             return Next::Never;
         };
         let unit_ms = presentation.unit_ms().ms();
-        match self.send(desk, &view, moment) {
+        match self.send(desk, phase, moment) {
             Some((Turn::More, due)) => Next::of(due),
-            Some((Turn::SinkFailed, Some(due))) if !is_past(view.phase(), unit_ms, moment) => {
+            Some((Turn::SinkFailed, Some(due))) if !is_past(phase, unit_ms, moment) => {
                 Next::At(next_unit(due, unit_ms, moment))
             }
             Some((Turn::AtEnd | Turn::SinkFailed, _)) => self.finish(
@@ -149,17 +152,20 @@ impl PacedPlay {
         }
     }
 
-    // Sends what is due: what came of it, and when the next packet is due. `None` where the play is
-    // finished.
+    // Sends what is due while the session is in this phase: what came of it, and when the next
+    // packet is due. `None` where the play is finished.
     fn send<R: Wait>(
         &mut self,
         desk: &mut PacerDesk<'_, R>,
-        view: &SessionView,
+        phase: Phase,
         moment: u64,
     ) -> Option<(Turn, Option<u64>)> {
         let Stage::Sending(pacer) = &mut self.stage else {
             return None;
         };
+        if phase != self.begun.phase() {
+            return Some((Turn::OtherPlay, None));
+        }
         let mut sink = PacketSink {
             rt: desk.rt,
             media: desk.parts.media,
@@ -170,7 +176,7 @@ impl PacedPlay {
             lost: 0,
             failed: 0,
         };
-        let turn = pacer.turn(view, moment, &mut sink);
+        let turn = pacer.turn(&self.begun, moment, &mut sink);
         let (packets, lost, failed) = (sink.packets, sink.lost, sink.failed);
         desk.paced.count(packets, lost, failed);
         Some((turn, pacer.next_due()))

@@ -1,28 +1,28 @@
-use Rattle.std.proofs.Common.{Option, refl, subst}
+use Rattle.std.proofs.Common.{Option, None, refl, sym, subst, ◌∙◌}
 use Rattle.rtsp_lock.specs.Calls.{seat_view}
 use Rattle.rtsp_state.specs.declared.request.Name.{Name}
 use Rattle.rtsp_engine.specs.Desk.{service}
 use Rattle.rtsp_engine.specs.Devices.{devices}
 use Rattle.rtsp_engine.specs.Renewing.{Looks}
-use Rattle.rtsp_engine.proofs.Replies.{parsed_ok, parsed_lacks}
+use Rattle.rtsp_engine.proofs.Replies.{unnamed_ok, unnamed_lacks}
 use Rattle.rtsp_engine.proofs.conversing.respond_parsed.Goals as goal
 
-pub returns-clause-ok : goal.returns-clause-ok
-returns-clause-ok g c =
-    parsed_ok (devices g.B.Binder.calls g.W.Words.calls g.C.Clock.tells g.P.Plays.calls) (service c.args.desk.now) c.respond_found.result _ _ c.look-found.result c.now-moment.result _ _ _ _ _ c.respond_found.ensures.ok
+pub returns-in-None-clause-ok : goal.returns-in-None-clause-ok
+returns-in-None-clause-ok g c =
+    unnamed_ok (devices g.B.Binder.calls g.W.Words.calls g.C.Clock.tells g.P.Plays.calls) (service c.args.desk.now) c.respond_renewed.result _ _ c.now-moment.result _ _ _ _ _ c.respond_renewed.ensures.ok
     (record {
-      looks = subst (λ (n : Option Name). Looks c.args.desk.now.asker.conn n c.look-found.result (seat_view c.args.desk.now.seat.now) (seat_view c.look-found.new.seat)) c.session_name-name.ensures c.look-found.ensures.looks;
+      looks = subst (λ (n : Option Name). Looks c.args.desk.now.asker.conn n None (seat_view c.args.desk.now.seat.now) (seat_view c.args.desk.now.seat.now)) (sym c.in-None.is ∙ c.session_name.ensures) (refl, refl);
       clock = c.now-moment.ensures;
       binder = refl;
       words = refl;
       plays = refl;
     })
 
-pub returns-clause-err : goal.returns-clause-err
-returns-clause-err g c =
-    parsed_lacks (devices g.B.Binder.calls g.W.Words.calls g.C.Clock.tells g.P.Plays.calls) (service c.args.desk.now) c.respond_found.result _ c.look-found.result c.now-moment.result _ _ _ c.respond_found.ensures.err
+pub returns-in-None-clause-err : goal.returns-in-None-clause-err
+returns-in-None-clause-err g c =
+    unnamed_lacks (devices g.B.Binder.calls g.W.Words.calls g.C.Clock.tells g.P.Plays.calls) (service c.args.desk.now) c.respond_renewed.result _ c.now-moment.result _ _ _ c.respond_renewed.ensures.err
     (record {
-      looks = subst (λ (n : Option Name). Looks c.args.desk.now.asker.conn n c.look-found.result (seat_view c.args.desk.now.seat.now) (seat_view c.look-found.new.seat)) c.session_name-name.ensures c.look-found.ensures.looks;
+      looks = subst (λ (n : Option Name). Looks c.args.desk.now.asker.conn n None (seat_view c.args.desk.now.seat.now) (seat_view c.args.desk.now.seat.now)) (sym c.in-None.is ∙ c.session_name.ensures) (refl, refl);
       clock = c.now-moment.ensures;
       binder = refl;
       words = refl;
