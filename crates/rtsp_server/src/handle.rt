@@ -2,7 +2,7 @@
 
 ghost use Rattle.std.specs.Prelude.{◌≡◌, IfSome};
 ghost use Rattle.std.specs.Arc.{arc_value};
-ghost use Rattle.rtsp_lock.specs.Calls.{IsSeatOf, SameSeat, Looked, Drew, Made, seat_view};
+ghost use Rattle.rtsp_lock.specs.Calls.{IsSeatOf, SameSeat, Looked, Drew, Forgot, Made, seat_view};
 
 use rtsp_lock::{BookLock, BookSeat};
 use std::sync::{Arc, Wait};
@@ -46,5 +46,17 @@ impl BookHandle {
         ensures drawn { IfSome result (λ n. Drew (seat_view self.old.seat) (seat_view self.new.seat) n) }
     {
         self.seat.draw(rt, &self.lock).ok()
+    }
+
+    /// Forgets all sessions that have ended: their entries leave the journal. It is one pass over
+    /// the whole journal with the lock held, some 10 ms where that has a million entries, so every
+    /// other thread that wants the book waits as long: lanes with their answers, and pacers before
+    /// their next packet.
+    pub fn forget<R: Wait>(&mut self, rt: &R)
+        ensures same { SameSeat self.old.seat self.new.seat }
+        ensures lock { arc_value self.new.lock ≡ arc_value self.old.lock }
+        ensures forgot { Forgot (seat_view self.old.seat) (seat_view self.new.seat) }
+    {
+        self.seat.forget(rt, &self.lock);
     }
 }

@@ -1,4 +1,4 @@
-//! The thread that ends sessions whose time is over.
+//! The thread that ends sessions whose time is over, and forgets those that have ended.
 
 use crate::handle::BookHandle;
 use crate::limits::SWEEP_EVERY;
@@ -8,7 +8,9 @@ use std::rt;
 use std::sync::Wait;
 use std::time::Duration;
 
-/// Ends expired sessions from time to time, until it is told to stop.
+/// Ends expired sessions from time to time, until it is told to stop. After each sweep it forgets
+/// all sessions that have ended by then, however they ended, so that the journal has the entries of
+/// living sessions and of those alone that ended since.
 pub(crate) fn run_sweeper<R: Wait + Net + rt::Clock>(
     rt: &R,
     mut handle: BookHandle,
@@ -22,5 +24,6 @@ pub(crate) fn run_sweeper<R: Wait + Net + rt::Clock>(
             break;
         }
         handle.sweep(rt, shared, shared.now(rt));
+        handle.forget(rt);
     }
 }

@@ -1,11 +1,12 @@
 -- The command line: the words after the program's name, as a command of `clap`, and what they ask for.
 use Rattle.std.specs.Prelude.{◌≡◌, ◌≢◌, ◌==◌, true, false, ℕ, List, [], codes, length, Bool, Option, Some, None, option_map, option_and_then, unwrap_or, MatchOption, bytes_eq, if◌then◌else◌}
 use Rattle.std.specs.List.{list_any}
+use Rattle.std.specs.Option.{option_map_or}
 use Rattle.std.specs.Str.Parse.{digits_value, without_leading_plus}
 use Rattle.clap.specs.Words.{App, Row, Rule, Text, fault_of, subcommand_of, subcommand_rows_of, new_app, new_rule, with_rule, with_subcommand, first_of, one_of}
 use Rattle.clap.specs.Simple.{on_top}
 use Rattle.clap.specs.ValueTests.{accepts}
-use Rattle.clap.specs.declared.builder.ArgAction.TheVariants.{Set}
+use Rattle.clap.specs.declared.builder.ArgAction.TheVariants.{Set, SetTrue}
 use Rattle.clap.specs.declared.builder.value_parser.ValueParser.{ValueParser}
 use Rattle.clap.specs.declared.builder.value_parser.ValueParser.TheVariants.{Unsigned}
 use Rattle.clap.specs.declared.parser.matches.ArgMatches.{ArgMatches}
@@ -26,9 +27,17 @@ any_number = Unsigned 0 18446744073709551615
 abbrev pub number_rule : Text → Rule
 number_rule name = record (option_rule name) { parser = Some any_number }
 
--- `stdio [--config FILE] [--journal OUT]`
+-- an option without a value
+abbrev pub flag_rule : Text → Rule
+flag_rule name = record (new_rule name) { long = Some name; action = Some SetTrue }
+
+-- the files of `stdio`
+abbrev pub stdio_files : App
+stdio_files = with_rule (with_rule (new_app (codes "stdio")) (option_rule (codes "config"))) (option_rule (codes "journal"))
+
+-- `stdio [--config FILE] [--journal OUT] [--forget]`
 abbrev pub stdio : App
-stdio = with_rule (with_rule (new_app (codes "stdio")) (option_rule (codes "config"))) (option_rule (codes "journal"))
+stdio = with_rule stdio_files (flag_rule (codes "forget"))
 
 -- the files of an audit
 abbrev pub audit_files : App
@@ -43,9 +52,9 @@ with_numbers app = with_rule (with_rule (with_rule app
     (number_rule (codes "without-session")))
     (number_rule (codes "without-admission"))
 
--- `audit [--config FILE] --journal IN [--back N] [--without-session S] [--without-admission A]`
+-- `audit [--config FILE] --journal IN [--back N] [--without-session S] [--without-admission A] [--without-ended]`
 abbrev pub audit : App
-audit = with_numbers audit_files
+audit = with_rule (with_numbers audit_files) (flag_rule (codes "without-ended"))
 
 -- the options of `serve` that are texts
 abbrev pub serve_texts : App
@@ -97,31 +106,77 @@ number_of text = if accepts false any_number text then Some (digits_value 10 (wi
 abbrev pub number_in : Text → List Row → Option ℕ
 number_in name rows = option_and_then number_of (one_of name rows)
 
--- a command line, in texts and numbers: the configuration and the journal of a conversation and of an audit, and of an
--- audit how many entries it undoes, and the session and the admission that it leaves out; and the configuration of a
--- server, where it listens, and how many connections it serves
+-- an option without a value stands: then its word is "true"
+abbrev pub flag_in : Text → List Row → Bool
+flag_in name rows = option_map_or (λ word. bytes_eq word (codes "true")) (first_of name rows) false
+
+-- what a conversation is asked for: its configuration, where its journal goes, and whether ended sessions are forgotten
+pub record StdioLine : Type 0 where
+  pub config : Option Text
+  pub journal : Option Text
+  pub forget : Bool
+
+-- what an audit is asked for: its configuration and its journal, how many entries it undoes, and the session, the
+-- admission and perhaps the ended sessions that it leaves out
+pub record AuditLine : Type 0 where
+  pub config : Option Text
+  pub journal : Text
+  pub back : ℕ
+  pub session : Option ℕ
+  pub admission : Option ℕ
+  pub ended : Bool
+
+-- what a server is asked for: its configuration, where it listens, and how many connections it serves
+pub record ServeLine : Type 0 where
+  pub config : Text
+  pub listen : Option Text
+  pub connections : Option ℕ
+
+-- a command line, in texts and numbers
 pub data Line : Type 0 where
-  stdio_line : Option Text → Option Text → Line
-  audit_line : Option Text → Text → ℕ → Option ℕ → Option ℕ → Line
-  serve_line : Text → Option Text → Option ℕ → Line
+  stdio_line : StdioLine → Line
+  audit_line : AuditLine → Line
+  serve_line : ServeLine → Line
 
 -- what a contract sees of a `CommandLine`
 abbrev pub line_view : CommandLine → Line
-line_view (Stdio config journal) = stdio_line (option_map (λ s. s.now) config) (option_map (λ s. s.now) journal)
-line_view (Audit config journal back without_session without_admission) =
-    audit_line (option_map (λ s. s.now) config) journal.now back without_session without_admission
-line_view (Serve config listen connections) = serve_line config.now (option_map (λ s. s.now) listen) connections
+line_view (Stdio config journal forget) = stdio_line (record {
+  config = option_map (λ s. s.now) config;
+  journal = option_map (λ s. s.now) journal;
+  forget = forget;
+})
+line_view (Audit config journal back without_session without_admission without_ended) = audit_line (record {
+  config = option_map (λ s. s.now) config;
+  journal = journal.now;
+  back = back;
+  session = without_session;
+  admission = without_admission;
+  ended = without_ended;
+})
+line_view (Serve config listen connections) = serve_line (record {
+  config = config.now;
+  listen = option_map (λ s. s.now) listen;
+  connections = connections;
+})
 
 -- what the values of the options of `stdio` ask for
 abbrev pub stdio_in : List Row → Line
-stdio_in rows = stdio_line (first_of (codes "config") rows) (first_of (codes "journal") rows)
+stdio_in rows = stdio_line (record {
+  config = first_of (codes "config") rows;
+  journal = first_of (codes "journal") rows;
+  forget = flag_in (codes "forget") rows;
+})
 
 -- and those of `audit`, with this journal; without `--back` nothing is undone
 abbrev pub audit_of : List Row → Text → Line
-audit_of rows journal = audit_line (first_of (codes "config") rows) journal
-    (unwrap_or (number_in (codes "back") rows) 0)
-    (number_in (codes "without-session") rows)
-    (number_in (codes "without-admission") rows)
+audit_of rows journal = audit_line (record {
+  config = first_of (codes "config") rows;
+  journal = journal;
+  back = unwrap_or (number_in (codes "back") rows) 0;
+  session = number_in (codes "without-session") rows;
+  admission = number_in (codes "without-admission") rows;
+  ended = flag_in (codes "without-ended") rows;
+})
 
 -- the same, with the journal that the options name
 abbrev pub audit_in : List Row → Option Line
@@ -129,7 +184,11 @@ audit_in rows = option_map (audit_of rows) (first_of (codes "journal") rows)
 
 -- what the values of the options of `serve` ask for, with this configuration
 abbrev pub serve_of : List Row → Text → Line
-serve_of rows config = serve_line config (first_of (codes "listen") rows) (number_in (codes "connections") rows)
+serve_of rows config = serve_line (record {
+  config = config;
+  listen = first_of (codes "listen") rows;
+  connections = number_in (codes "connections") rows;
+})
 
 -- the same, with the configuration that the options name
 abbrev pub serve_in : List Row → Option Line

@@ -1,9 +1,9 @@
 //! The command line.
 ghost use Rattle.std.specs.Prelude.{◌≡◌, IfOk, false, map, option_map, option_and_then};
-ghost use Rattle.clap.specs.Words.{app_of, rule_of, subcommand_rows_of, rows_of, found_of};
+ghost use Rattle.clap.specs.Words.{app_of, rule_of, with_rule, subcommand_rows_of, rows_of, found_of};
 ghost use Rattle.clap.specs.declared.builder.command.Command.TheViews.{out-Command as fields_of};
 ghost use Rattle.rtspd.specs.CommandLine as spec;
-ghost use Rattle.rtspd.specs.CommandLine.{option_rule, number_rule, number_in, stdio, audit, serve, rtspd, Says, line_view};
+ghost use Rattle.rtspd.specs.CommandLine.{option_rule, number_rule, flag_rule, number_in, flag_in, stdio, audit, serve, rtspd, Says, line_view};
 
 use clap::builder::ValueParser;
 use clap::error::ErrorKind;
@@ -17,6 +17,8 @@ pub enum CommandLine<'a> {
     Stdio {
         config: Option<&'a str>,
         journal: Option<&'a str>,
+        /// Whether ended sessions are forgotten before the journal is written.
+        forget: bool,
     },
     /// Replay a journal and print the book.
     Audit {
@@ -26,6 +28,8 @@ pub enum CommandLine<'a> {
         back: u64,
         without_session: Option<u64>,
         without_admission: Option<u64>,
+        /// Whether the sessions that have ended are left out, after the other two.
+        without_ended: bool,
     },
     /// Serve the connections of a socket.
     Serve {
@@ -51,12 +55,41 @@ fn number_named<'a>(alloc: Global, name: &'a str) -> Arg<'a>
     option_named(alloc, name).value_parser(ValueParser::unsigned(0, u64::MAX))
 }
 
-fn stdio_command<'a>(alloc: Global) -> Result<Command<'a>, AllocError>
-    ensures app { IfOk result (λ c. app_of c ≡ stdio) }
+fn flag_named<'a>(alloc: Global, name: &'a str) -> Arg<'a>
+    ensures rule { rule_of result ≡ flag_rule name.entry.now }
+    ensures local { result.global ≡ false }
+{
+    Arg::new(alloc, name).long(name).action(ArgAction::SetTrue)
+}
+
+fn with_flag<'a>(
+    alloc: Global,
+    command: Command<'a>,
+    name: &'a str,
+) -> Result<Command<'a>, AllocError>
+    requires { (fields_of command).has_globals ≡ false }
+    ensures app { IfOk result (λ c. app_of c ≡ with_rule (app_of command.entry) (flag_rule name.entry.now)) }
+    ensures local { IfOk result (λ c. (fields_of c).has_globals ≡ false) }
+{
+    let command = command.arg(flag_named(alloc, name))?;
+    Ok(command)
+}
+
+fn stdio_files<'a>(alloc: Global) -> Result<Command<'a>, AllocError>
+    ensures app { IfOk result (λ c. app_of c ≡ spec.stdio_files) }
     ensures local { IfOk result (λ c. (fields_of c).has_globals ≡ false) }
 {
     let command = Command::new(alloc, "stdio").arg(option_named(alloc, "config"))?;
     let command = command.arg(option_named(alloc, "journal"))?;
+    Ok(command)
+}
+
+fn stdio_command<'a>(alloc: Global) -> Result<Command<'a>, AllocError>
+    ensures app { IfOk result (λ c. app_of c ≡ stdio) }
+    ensures local { IfOk result (λ c. (fields_of c).has_globals ≡ false) }
+{
+    let files = stdio_files(alloc)?;
+    let command = with_flag(alloc, files, "forget")?;
     Ok(command)
 }
 
@@ -86,6 +119,7 @@ fn audit_command<'a>(alloc: Global) -> Result<Command<'a>, AllocError>
 {
     let files = audit_files(alloc)?;
     let command = with_numbers(alloc, files)?;
+    let command = with_flag(alloc, command, "without-ended")?;
     Ok(command)
 }
 
@@ -170,12 +204,24 @@ fn number_at(matches: &ArgMatches<'_>, name: &str) -> Option<u64>
     matches.get_one::<u64>(name)
 }
 
+// `clap` keeps a word for an option without a value, "true" where it stands. Its `get_flag` says
+// nothing of other words.
+fn flag_at(matches: &ArgMatches<'_>, name: &str) -> bool
+    ensures { result ≡ flag_in name.now (rows_of (found_of matches.now)) }
+{
+    match matches.get_str(name) {
+        Some(word) => word == "true",
+        None => false,
+    }
+}
+
 fn stdio_in<'a>(matches: &ArgMatches<'a>) -> CommandLine<'a>
     ensures { line_view result ≡ spec.stdio_in (rows_of (found_of matches.now)) }
 {
     CommandLine::Stdio {
         config: matches.get_str("config"),
         journal: matches.get_str("journal"),
+        forget: flag_at(matches, "forget"),
     }
 }
 
@@ -188,6 +234,7 @@ fn audit_of<'a>(matches: &ArgMatches<'a>, journal: &'a str) -> CommandLine<'a>
         back: number_at(matches, "back").unwrap_or(0),
         without_session: number_at(matches, "without-session"),
         without_admission: number_at(matches, "without-admission"),
+        without_ended: flag_at(matches, "without-ended"),
     }
 }
 

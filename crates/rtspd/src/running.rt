@@ -11,7 +11,9 @@ use rtsp_engine::{ByteOut, CountedReader, CountedWriter, ServeEnd, StreamFault, 
 use rtsp_grammar::MessageFault;
 use rtsp_record::{Entry, JournalFault, read_journal, write_journal};
 use rtsp_server::whole_of;
-use rtsp_undo::{AuditFault, book_text, replay, rewind, without_admission, without_session};
+use rtsp_undo::{
+    AuditFault, book_text, replay, rewind, without_admission, without_ended, without_session,
+};
 use std::alloc::Global;
 use std::fs::File;
 use std::io::{self, ErrorKind, Read, Write};
@@ -85,17 +87,23 @@ fn run_line<R: Files + AllocGlobal + Wait, I: Read + Drop, O: Write + Drop>(
     writer: O,
 ) -> Result<(), Exit> {
     match line {
-        CommandLine::Stdio { config, journal } => run_stdio(rt, config, journal, reader, writer),
+        CommandLine::Stdio {
+            config,
+            journal,
+            forget,
+        } => run_stdio(rt, config, journal, forget, reader, writer),
         CommandLine::Audit {
             config,
             journal,
             back,
             without_session,
             without_admission,
+            without_ended,
         } => {
             let omitted = Omitted {
                 session: without_session,
                 admission: without_admission,
+                ended: without_ended,
             };
             run_audit(rt, config, journal, back, omitted, writer)
         }
@@ -108,6 +116,8 @@ fn run_line<R: Files + AllocGlobal + Wait, I: Read + Drop, O: Write + Drop>(
 struct Omitted {
     session: Option<u64>,
     admission: Option<u64>,
+    // The sessions that have ended.
+    ended: bool,
 }
 
 // What it means that a file can't be read or written.
@@ -141,6 +151,7 @@ fn run_stdio<R: Files + AllocGlobal + Wait, I: Read + Drop, O: Write + Drop>(
     rt: &R,
     config: Option<&str>,
     journal: Option<&str>,
+    forget: bool,
     reader: I,
     writer: O,
 ) -> Result<(), Exit> {
@@ -151,7 +162,13 @@ fn run_stdio<R: Files + AllocGlobal + Wait, I: Read + Drop, O: Write + Drop>(
     let end = connection.serve(rt, rt.alloc(), &mut reader, &mut writer, TURNS);
     // The journal is written however serving ended; the first fault is returned.
     let written = match journal {
-        Some(path) => write_out(rt, path, connection.finish(rt).journal()),
+        Some(path) => {
+            let mut kept = connection.finish(rt);
+            if forget {
+                kept.forget();
+            }
+            write_out(rt, path, kept.journal())
+        }
         None => Ok(()),
     };
     served(&end)?;
@@ -194,7 +211,8 @@ fn read_in<R: Files + AllocGlobal>(rt: &R, path: &str) -> Result<Vec<Entry>, Exi
     }
 }
 
-// The journal without what is left out, the session first.
+// The journal without what is left out: the session first, then the admission, and then the
+// sessions that have ended in what remains.
 fn omit(alloc: Global, journal: Vec<Entry>, omitted: &Omitted) -> Result<Vec<Entry>, Exit> {
     let mut journal = journal;
     if let Some(session) = omitted.session {
@@ -205,6 +223,12 @@ fn omit(alloc: Global, journal: Vec<Entry>, omitted: &Omitted) -> Result<Vec<Ent
     }
     if let Some(admission) = omitted.admission {
         journal = match without_admission(alloc, &journal, admission) {
+            Ok(less) => less,
+            Err(_) => return Err(Exit::OutOfMemory),
+        };
+    }
+    if omitted.ended {
+        journal = match without_ended(alloc, &journal) {
             Ok(less) => less,
             Err(_) => return Err(Exit::OutOfMemory),
         };

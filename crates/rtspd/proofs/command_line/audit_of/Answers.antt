@@ -7,4 +7,4 @@ pub returns : goal.returns
 returns c =
     let f = found_of c.args.matches.now in
     let config : option_map (λ s. s.now) c.get_str.result ≡ first_of (codes "config") (rows_of f) = c.get_str.ensures ∙ first_value-rows f (codes "config") in
-    rw (config, c.unwrap_or.ensures, c.number_at.ensures, c.number_at-2.ensures, c.number_at-3.ensures) refl
+    rw (config, c.unwrap_or.ensures, c.number_at.ensures, c.number_at-2.ensures, c.number_at-3.ensures, c.flag_at.ensures) refl

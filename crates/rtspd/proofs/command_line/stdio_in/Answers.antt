@@ -8,4 +8,4 @@ returns c =
     let f = found_of c.args.matches.now in
     let config : option_map (λ s. s.now) c.get_str.result ≡ first_of (codes "config") (rows_of f) = c.get_str.ensures ∙ first_value-rows f (codes "config") in
     let journal : option_map (λ s. s.now) c.get_str-2.result ≡ first_of (codes "journal") (rows_of f) = c.get_str-2.ensures ∙ first_value-rows f (codes "journal") in
-    rw (config, journal) refl
+    rw (config, journal, c.flag_at.ensures) refl
