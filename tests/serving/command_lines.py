@@ -67,6 +67,7 @@ def refused_starts(checks: Checks) -> None:
             (*config, "--connections", "-1"),
             (*config, "--connections", "x"),
             (*config, "--journal", "j.txt"),
+            (*config, "--forget"),
             (*config, "--", "x"),
             (*config, "--help"),
         ):

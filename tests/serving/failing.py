@@ -113,10 +113,12 @@ def failing_server(checks: Checks, **settings: int) -> Iterator[Tuple[Server, Fa
 def rests(checks: Checks, server: Server, at_rest: int) -> None:
     """Waits until what was open has been closed: the server has then taken leave of its connections."""
     until = time.monotonic() + RESTS_WITHIN
-    while server.descriptors() > at_rest and time.monotonic() < until:
+    found = server.descriptors()
+    while found > at_rest and time.monotonic() < until:
         time.sleep(0.005)
-    if server.descriptors() > at_rest:
-        checks.same("the descriptors between two conversations", at_rest, server.descriptors())
+        found = server.descriptors()
+    if found > at_rest:
+        checks.same("the descriptors between two conversations", at_rest, found)
 
 
 def holds_nothing(checks: Checks, server: Server, at_rest: int) -> None:

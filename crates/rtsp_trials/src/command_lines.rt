@@ -23,7 +23,8 @@ fn lines(rt: HostRuntime) -> Result<(), AllocError> {
     assert!(rt;
         line == Some(CommandLine::Stdio {
             config: None,
-            journal: None
+            journal: None,
+            forget: false,
         })
     );
     let words = ["stdio", "--journal=b", "--config", "a=c"];
@@ -31,7 +32,8 @@ fn lines(rt: HostRuntime) -> Result<(), AllocError> {
     assert!(rt;
         line == Some(CommandLine::Stdio {
             config: Some("a=c"),
-            journal: Some("b")
+            journal: Some("b"),
+            forget: false,
         })
     );
     let words = ["audit", "--journal="];
@@ -43,6 +45,7 @@ fn lines(rt: HostRuntime) -> Result<(), AllocError> {
             back: 0,
             without_session: None,
             without_admission: None,
+            without_ended: false,
         })
     );
     let words = [
@@ -65,8 +68,70 @@ fn lines(rt: HostRuntime) -> Result<(), AllocError> {
             back: 3,
             without_session: Some(0),
             without_admission: Some(18446744073709551615),
+            without_ended: false,
         })
     );
+    Ok(())
+}
+
+#[test]
+fn options_without_a_value(rt: HostRuntime) -> Result<(), AllocError> {
+    for words in [
+        ["stdio", "--forget", "--journal=b"],
+        ["stdio", "--journal=b", "--forget"],
+    ] {
+        let line = read_words(rt.alloc(), words.as_slice())?;
+        assert!(rt;
+            line == Some(CommandLine::Stdio {
+                config: None,
+                journal: Some("b"),
+                forget: true,
+            })
+        );
+    }
+    let first = [
+        "audit",
+        "--without-ended",
+        "--back=1",
+        "--without-session=2",
+        "--without-admission=3",
+        "--journal=a",
+    ];
+    let last = [
+        "audit",
+        "--journal=a",
+        "--without-admission=3",
+        "--without-session=2",
+        "--back=1",
+        "--without-ended",
+    ];
+    for words in [first, last] {
+        let line = read_words(rt.alloc(), words.as_slice())?;
+        assert!(rt;
+            line == Some(CommandLine::Audit {
+                config: None,
+                journal: "a",
+                back: 1,
+                without_session: Some(2),
+                without_admission: Some(3),
+                without_ended: true,
+            })
+        );
+    }
+    assert!(rt; is_refused(&rt, ["stdio", "--forget", "--forget"].as_slice())?);
+    assert!(rt; is_refused(&rt, ["stdio", "--forget=true"].as_slice())?);
+    assert!(rt; is_refused(&rt, ["stdio", "--forget", "true"].as_slice())?);
+    assert!(rt; is_refused(&rt, ["stdio", "--without-ended"].as_slice())?);
+    assert!(rt; is_refused(&rt, ["audit", "--journal", "a", "--forget"].as_slice())?);
+    assert!(rt; is_refused(&rt, ["serve", "--config", "a", "--forget"].as_slice())?);
+    let twice = [
+        "audit",
+        "--journal",
+        "a",
+        "--without-ended",
+        "--without-ended",
+    ];
+    assert!(rt; is_refused(&rt, twice.as_slice())?);
     Ok(())
 }
 

@@ -168,6 +168,19 @@ fn a_stream_needs_its_admission(rt: HostRuntime) -> Result<(), Fail> {
 }
 
 #[test]
+fn without_ended_sessions_the_others_stay(rt: HostRuntime) -> Result<(), Fail> {
+    let less = without_ended(rt.alloc(), &two_sessions())?;
+    assert_eq!(rt; less.len(), 4);
+    assert!(rt; same_strands(&less, &without_session(rt.alloc(), &two_sessions(), 11)?));
+    let kept = replayed(&rt, &WHOLE, less)?;
+    assert!(rt; shows_the_first_session(&kept) && kept.rounds() == 0);
+    // One that lives is left, whatever it has given back, and none is left of no journal.
+    assert_eq!(rt; without_ended(rt.alloc(), &two_sessions()[..9])?.len(), 9);
+    assert!(rt; without_ended(rt.alloc(), &[])?.is_empty());
+    Ok(())
+}
+
+#[test]
 fn strands_are_compared_by_session(rt: HostRuntime) -> Result<(), Fail> {
     let journal = two_sessions();
     let mut sorted = without_session(rt.alloc(), &journal, 11)?;
@@ -292,6 +305,7 @@ fn laws_are_called() {
     law_ports(&WHOLE, &journal);
     law_less_session(&WHOLE, &journal, 11);
     law_less_gone(&WHOLE, &journal, 11);
+    law_less_ended(&WHOLE, &journal);
     law_ended(&WHOLE, &journal, 11);
     law_one_session(&WHOLE, before, &Step::End { session: 10 });
     law_ending_step(&WHOLE, before, &Step::End { session: 10 }, 10);

@@ -16,6 +16,8 @@ mod connections;
 #[cfg(test)]
 mod end_of_stream;
 #[cfg(test)]
+mod forgetting;
+#[cfg(test)]
 mod header_values;
 #[cfg(test)]
 mod journals;

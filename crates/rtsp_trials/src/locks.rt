@@ -32,6 +32,8 @@ fn a_seat_acts_and_another_sees(rt: HostRuntime) -> Result<(), Fail> {
     assert!(rt; shown.session() == 3 && shown.expires() == 60_000);
     assert!(rt; first.look(&rt, &lock, Name::Number(3)).is_some());
     assert!(rt; first.look(&rt, &lock, Name::Id(2)).is_none());
+    assert!(rt; first.phase(&rt, &lock, 3) == Some(shown.phase()));
+    assert!(rt; first.phase(&rt, &lock, 4).is_none());
     let kept = first.finish(&rt, lock);
     let change = Record::Open(Life {
         session: 3,
@@ -43,6 +45,44 @@ fn a_seat_acts_and_another_sees(rt: HostRuntime) -> Result<(), Fail> {
     assert!(rt; kept.journal().len() == 1 && kept.journal()[0] == only);
     assert!(rt; kept.next_number() == 3);
     Ok(())
+}
+
+#[test]
+fn a_seat_forgets_what_another_ended(rt: HostRuntime) -> Result<(), Fail> {
+    let (lock, mut first) = open(rt.alloc(), &SMALL)?;
+    let mut second = first.split(&rt, &lock)?;
+    let mut made = Receipt::new();
+    assert!(rt; first.act_into(&rt, &lock, &opening(3), &mut made).is_ok());
+    assert!(rt;
+        first
+            .act_into(&rt, &lock, &Step::End { session: 3 }, &mut made)
+            .is_ok()
+    );
+    second.forget(&rt, &lock);
+    assert!(rt; first.act_into(&rt, &lock, &opening(4), &mut made).is_ok());
+    let kept = first.finish(&rt, lock);
+    let change = Record::Open(Life {
+        session: 4,
+        id: Id::new(4),
+        conn: 1,
+        expires: 60_000,
+    });
+    let only = Entry { actor: 0, change };
+    assert!(rt; kept.journal().len() == 1 && kept.journal()[0] == only);
+    assert!(rt; kept.rounds() == 1 && kept.book().living() == 1);
+    Ok(())
+}
+
+#[test]
+fn the_laws_of_a_lock_are_called() {
+    law_acted();
+    law_looked();
+    law_forgot();
+    law_run_goes_on();
+    law_run();
+    law_run_lasts();
+    law_draws_differ();
+    law_actors_differ();
 }
 
 #[test]
