@@ -1,8 +1,10 @@
+ghost use Rattle.rtsp_lock.specs.Calls.{IsSeatOf, SameSeat};
+
 use rtsp_content::Table;
 use rtsp_engine::*;
 use rtsp_grammar::MessageFault;
-use rtsp_lock::open;
-use rtsp_record::Whole;
+use rtsp_lock::{BookLock, BookSeat, open};
+use rtsp_record::{Record, Whole};
 use rtsp_state::Room;
 use std::alloc::{AllocError, Global};
 use std::sync::Wait;
@@ -27,6 +29,9 @@ const SETUP: &str = "SETUP rtsp://h/tone/a RTSP/2.0\r\nCSeq: 1\r\n\
 const PLAY: &str = "PLAY rtsp://h/tone RTSP/2.0\r\nCSeq: 2\r\n\
     Session: 00000000000000000000000000000007\r\n\r\n";
 
+const ASK: &str = "GET_PARAMETER rtsp://h/tone RTSP/2.0\r\nCSeq: 2\r\n\
+    Session: 00000000000000000000000000000007\r\n\r\n";
+
 // A device that works, or that fails at each call.
 #[derive(Drop)]
 struct Device {
@@ -35,6 +40,8 @@ struct Device {
     // The number of the PLAY noted last, and whether it was begun.
     noted: Option<u32>,
     settled: Option<bool>,
+    // The moment that it tells next.
+    moment: u64,
 }
 
 impl Device {
@@ -44,6 +51,7 @@ impl Device {
             failures: 0,
             noted: None,
             settled: None,
+            moment: 0,
         }
     }
 }
@@ -53,8 +61,11 @@ impl Clock for Device {
 
     ghost tells = { λ b moment c. ⊤ };
 
+    // A second passes between any two readings.
     fn now(&mut self) -> u64 {
-        0
+        let now = self.moment;
+        self.moment = now.saturating_add(1_000);
+        now
     }
 }
 
@@ -216,5 +227,66 @@ fn a_setup_whose_pairs_can_t_be_bound_is_answered_503(rt: HostRuntime) -> Result
     let answer = b"RTSP/2.0 503 Service Unavailable\r\nCSeq: 1\r\n\r\n\
         RTSP/2.0 454 Session Not Found\r\nCSeq: 2\r\n\r\n";
     assert_eq!(rt; conversation.room.as_bytes(), answer.as_slice());
+    Ok(())
+}
+
+// Sets a session up, and then asks, each request a second later.
+fn ask_each_second<R: AllocGlobal + Wait>(
+    rt: &R,
+    seat: &mut BookSeat,
+    lock: &BookLock,
+    table: &Table,
+    requests: &[u8],
+) -> Result<(), MessageFault>
+    requires { IsSeatOf seat.old lock.now }
+    ensures { SameSeat seat.old seat.new }
+{
+    let mut room = Room::new(rt.alloc());
+    let mut connection = Connection::new(rt.alloc());
+    let mut desk = Desk {
+        rt,
+        seat,
+        lock,
+        binder: &mut Device::new(true),
+        words: &mut Device::new(true),
+        clock: &mut Device::new(true),
+        plays: &mut Device::new(true),
+        table,
+        asker: Asker { conn: 1, peer: 0 },
+    };
+    desk.push(rt.alloc(), &mut connection, SETUP.as_bytes(), &mut room)?;
+    desk.push(rt.alloc(), &mut connection, requests, &mut room)
+}
+
+// The moments to which six requests a second apart move the end of a session that ends at 60,000.
+// The configuration has this line in place of the timeout, which is 60 seconds without it too.
+fn ends<R: AllocGlobal + Wait>(rt: &R, line: &str) -> Result<Vec<u64>, Fail> {
+    let text = CONFIGURATION.replacen(rt.alloc(), "timeout = 60\n", line, 1)?;
+    let table = Table::read(rt.alloc(), text.as_bytes())?;
+    let mut requests = Vec::new(rt.alloc());
+    for _ in 0..6 {
+        requests.extend_from_slice(ASK.as_bytes())?;
+    }
+    let (lock, mut seat) = open(rt.alloc(), &WHOLE)?;
+    ask_each_second(rt, &mut seat, &lock, &table, requests.as_slice())?;
+    let kept = seat.finish(rt, lock);
+    let mut moments = Vec::new(rt.alloc());
+    for entry in kept.journal() {
+        if let Record::Touch(renewal) = entry.change {
+            moments.push(renewal.to)?;
+        }
+    }
+    Ok(moments)
+}
+
+#[test]
+fn a_renewal_that_gains_less_than_the_step_is_left_out(rt: HostRuntime) -> Result<(), Fail> {
+    let each = [61_000, 62_000, 63_000, 64_000, 65_000, 66_000];
+    assert!(rt; ends(&rt, "")?.as_slice() == each.as_slice());
+    assert!(rt; ends(&rt, "renewal_step = 1000\n")?.as_slice() == each.as_slice());
+    assert!(rt;
+        ends(&rt, "renewal_step = 1001\n")?.as_slice() == [62_000, 64_000, 66_000].as_slice()
+    );
+    assert!(rt; ends(&rt, "renewal_step = 5000\n")?.as_slice() == [65_000].as_slice());
     Ok(())
 }

@@ -1,6 +1,7 @@
 ghost use Rattle.rtsp_record.specs.Choices.{HasPorts};
 
 use rtsp_book::{BookRep, Kept, NumbersSpent, PlainBook, Step};
+use rtsp_index::IndexedBook;
 use rtsp_record::{
     Admission, Binding, Entry, Holding, Id, Life, Phase, Record, Setup, Stream, Thing, Whole,
 };
@@ -217,11 +218,23 @@ fn numbers_go_on_above_the_journal(rt: HostRuntime) -> Result<(), Fail> {
     Ok(())
 }
 
-// What is printed of the book of a journal.
+// What is printed of the indexed book of a journal.
+fn printed_with_indexes(rt: &HostRuntime, journal: &[Entry]) -> Result<Vec<u8>, Fail> {
+    let kept: Kept<IndexedBook> = replay(rt.alloc(), &WHOLE, copied(rt, journal)?)?;
+    let mut out = Vec::new(rt.alloc());
+    book_text(&mut out, &kept)?;
+    Ok(out)
+}
+
+// What is printed of the book of a journal: of the plain one and of the indexed one, or nothing
+// where these differ.
 fn printed(rt: &HostRuntime, journal: &[Entry]) -> Result<Vec<u8>, Fail> {
     let kept = replayed(rt, &WHOLE, copied(rt, journal)?)?;
     let mut out = Vec::new(rt.alloc());
     book_text(&mut out, &kept)?;
+    if out.as_slice() != printed_with_indexes(rt, journal)?.as_slice() {
+        out.clear();
+    }
     Ok(out)
 }
 

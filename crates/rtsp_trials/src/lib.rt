@@ -16,6 +16,10 @@ mod connections;
 #[cfg(test)]
 mod end_of_stream;
 #[cfg(test)]
+mod failing_devices;
+#[cfg(test)]
+mod failing_lanes;
+#[cfg(test)]
 mod forgetting;
 #[cfg(test)]
 mod header_values;
@@ -43,6 +47,8 @@ mod state_table;
 mod sweeps;
 #[cfg(test)]
 mod texts;
+#[cfg(test)]
+mod two_books;
 #[cfg(test)]
 mod two_tables;
 #[cfg(test)]

@@ -1,0 +1,320 @@
+//! Two books side by side. Each is given the same steps, and answers and prints the same.
+
+ghost use Rattle.rtsp_record.specs.Choices.{HasPorts, IsWish};
+ghost use Rattle.rtsp_book.specs.Replies.{IsAskable};
+
+use crate::books::{Asked, WITH_STREAM, step};
+use crate::world::{OVER_CHANNELS, SMALL, stream};
+use rtsp_book::{
+    BookRep, Chain, ChannelHold, Commit, Kept, Life, PlainBook, Play, Receipt, Startup, Step,
+};
+use rtsp_index::IndexedBook;
+use rtsp_record::{Entry, Id, Thing, Whole};
+use rtsp_undo::{book_text, replay};
+use std::alloc::{AllocError, Global};
+use std::test::Fail;
+
+// Room for 64 sessions, but not for all that they ask.
+const CROWDED: Whole = Whole {
+    first_port: 5000,
+    pairs: 8,
+    uplink: 4_000_000,
+    sessions: 64,
+    journal: 1_000_000,
+};
+
+// A plain and an indexed book, with what each last recorded and printed.
+#[derive(Drop)]
+struct TwoBooks {
+    plain: Kept<PlainBook>,
+    indexed: Kept<IndexedBook>,
+    made: (Receipt, Receipt),
+    text: (Vec<u8>, Vec<u8>),
+}
+
+impl TwoBooks {
+    fn open(alloc: Global, whole: &Whole) -> Result<Self, AllocError>
+        requires { HasPorts whole.now }
+    {
+        Ok(TwoBooks {
+            plain: Kept::open(alloc, whole)?,
+            indexed: Kept::open(alloc, whole)?,
+            made: (Receipt::new(), Receipt::new()),
+            text: (Vec::new(alloc), Vec::new(alloc)),
+        })
+    }
+
+    // Whether both answer the step alike.
+    fn answer_alike(&mut self, step: &Step) -> bool
+        requires { IsAskable step.now }
+    {
+        let one = self.plain.act_into(0, step, &mut self.made.0);
+        let two = self.indexed.act_into(0, step, &mut self.made.1);
+        let (made, too) = (&self.made.0, &self.made.1);
+        one == two
+            && made.records() == too.records()
+            && made.freed_pairs().as_slice() == too.freed_pairs().as_slice()
+    }
+
+    // Whether both take the same entry back.
+    fn undo_alike(&mut self) -> Result<bool, AllocError> {
+        let one = self.plain.undo_last()?;
+        let two = self.indexed.undo_last()?;
+        Ok(one == two)
+    }
+
+    // Whether both print the same.
+    fn print_alike(&mut self) -> Result<bool, AllocError> {
+        self.text.0.clear();
+        self.text.1.clear();
+        book_text(&mut self.text.0, &self.plain)?;
+        book_text(&mut self.text.1, &self.indexed)?;
+        Ok(self.text.0.as_slice() == self.text.1.as_slice())
+    }
+}
+
+// Whether both answer and print alike at each step after a session with a stream over a pair.
+fn stay_alike(alloc: Global, steps: &[Asked]) -> Result<bool, Fail> {
+    let mut both = TwoBooks::open(alloc, &SMALL)?;
+    for asked in WITH_STREAM.iter() {
+        if !both.answer_alike(&step(*asked)) || !both.print_alike()? {
+            return Ok(false);
+        }
+    }
+    for asked in steps.iter() {
+        if !both.answer_alike(&step(*asked)) || !both.print_alike()? {
+            return Ok(false);
+        }
+    }
+    Ok(true)
+}
+
+#[test]
+fn expiry_and_exchange_leave_both_books_alike(rt: HostRuntime) -> Result<(), Fail> {
+    let expiry = [
+        Asked::Rate(2, 9),
+        Asked::Expire(60_000),
+        Asked::Pair(2, 9),
+        Asked::Unwind(2, 9),
+    ];
+    let exchange = [
+        Asked::Rate(2, 4),
+        Asked::Channels(2, 4),
+        Asked::Commit(2, 4, OVER_CHANNELS),
+    ];
+    assert!(rt; stay_alike(rt.alloc(), expiry.as_slice())?);
+    assert!(rt; stay_alike(rt.alloc(), exchange.as_slice())?);
+    Ok(())
+}
+
+// The numbers of a linear congruential generator (Numerical Recipes, second edition, section 7.1).
+fn next(seed: u32) -> u32 {
+    seed.wrapping_mul(1_664_525).wrapping_add(1_013_904_223)
+}
+
+// What a step at random may name, drawn from two numbers.
+#[derive(Clone, Copy)]
+struct Draw {
+    session: u64,
+    admission: u64,
+    conn: u64,
+    moment: u64,
+    few: u32,
+}
+
+fn drawn_from(one: u32, two: u32) -> Draw {
+    let session = 1 + u64::from((one >> 16) % 64);
+    Draw {
+        session,
+        admission: 1_000 + 2 * session + u64::from((one >> 13) % 2),
+        conn: 1 + u64::from((two >> 24) % 8),
+        moment: 1_000 * u64::from((two >> 18) % 64),
+        few: (two >> 14) % 16,
+    }
+}
+
+fn channel_hold(drawn: Draw, wish: Option<u8>) -> Step
+    requires { IsWish wish }
+    ensures { IsAskable result }
+{
+    Step::HoldChan(ChannelHold {
+        session: drawn.session,
+        admission: drawn.admission,
+        conn: drawn.conn,
+        wish,
+    })
+}
+
+// With a wish that others have too, or without.
+fn wished_hold(drawn: Draw) -> Step
+    ensures { IsAskable result }
+{
+    match drawn.few {
+        0..=8 => channel_hold(drawn, Some(0)),
+        _ => channel_hold(drawn, None),
+    }
+}
+
+fn commit(drawn: Draw) -> Step
+    ensures { IsAskable result }
+{
+    let track = (drawn.few % 4) as u16;
+    Step::Commit(Commit {
+        session: drawn.session,
+        admission: drawn.admission,
+        stream: stream(0, track, drawn.few),
+        startup: if drawn.few < 8 {
+            Some(Startup {
+                conn: drawn.conn,
+                number: drawn.few % 4,
+            })
+        } else {
+            None
+        },
+    })
+}
+
+fn unwind(drawn: Draw) -> Step
+    ensures { IsAskable result }
+{
+    Step::Unwind {
+        chain: Chain {
+            session: drawn.session,
+            admission: drawn.admission,
+            opened: drawn.few == 0,
+            first: Some(Thing::Rate(80_000)),
+            second: None,
+        },
+    }
+}
+
+// A step that gives nothing back.
+fn growing(kind: u32, drawn: Draw) -> Step
+    ensures { IsAskable result }
+{
+    let Draw {
+        session,
+        admission,
+        conn,
+        moment,
+        ..
+    } = drawn;
+    match kind {
+        0..=13 => Step::Open(Life {
+            session,
+            id: Id::new(u128::from(session) + u128::from(drawn.few / 15)),
+            conn,
+            expires: moment,
+        }),
+        14..=27 => Step::HoldRate {
+            session,
+            admission,
+            bits: 80_000,
+        },
+        28..=33 => Step::HoldPair {
+            session,
+            admission,
+            from: 4_996 + drawn.few % 16,
+        },
+        34..=41 => wished_hold(drawn),
+        42..=49 => commit(drawn),
+        _ => Step::Touch {
+            session,
+            until: moment.saturating_mul(2),
+        },
+    }
+}
+
+// A step of a play.
+fn playing(kind: u32, drawn: Draw) -> Step
+    ensures { IsAskable result }
+{
+    let Draw {
+        session,
+        moment,
+        ..
+    } = drawn;
+    match kind {
+        52..=54 => Step::Play(Play {
+            session,
+            from: None,
+            stop: 500,
+            unit_ms: 20,
+            now: moment,
+        }),
+        55 => Step::Pause {
+            session,
+            unit_ms: 20,
+            now: moment,
+        },
+        _ => Step::Finish {
+            session,
+            unit_ms: 20,
+            now: moment.saturating_mul(2),
+        },
+    }
+}
+
+// A step of one of 64 kinds. Most give nothing back, so that there is something to be given back.
+fn step_of(kind: u32, drawn: Draw) -> Step
+    ensures { IsAskable result }
+{
+    let Draw {
+        session,
+        admission,
+        conn,
+        moment,
+        ..
+    } = drawn;
+    match kind {
+        0..=51 => growing(kind, drawn),
+        52..=56 => playing(kind, drawn),
+        57 => Step::Return {
+            session,
+            admission,
+            thing: Thing::Rate(80_000),
+        },
+        58 => unwind(drawn),
+        59..=60 => Step::DropTrack {
+            session,
+            track: (drawn.few % 4) as u16,
+        },
+        61 => Step::End { session },
+        62 => Step::Expire { now: moment / 16 },
+        _ => Step::Hangup { conn },
+    }
+}
+
+// The text of the plain book that a journal makes.
+fn audited(alloc: Global, journal: &[Entry]) -> Result<Vec<u8>, Fail> {
+    let copy = Vec::from_slice(alloc, journal)?;
+    let kept = replay::<PlainBook>(alloc, &CROWDED, copy)?;
+    let mut text = Vec::new(alloc);
+    book_text(&mut text, &kept)?;
+    Ok(text)
+}
+
+// Each step is answered alike, and after each both print the same.
+#[test]
+fn steps_at_random_leave_both_books_alike(rt: HostRuntime) -> Result<(), Fail> {
+    let mut both = TwoBooks::open(rt.alloc(), &CROWDED)?;
+    let mut seed = 1;
+    let mut most = 0;
+    let mut longest = 0;
+    for turn in 0..10_000u32 {
+        let one = next(seed);
+        seed = next(one);
+        let alike = if seed >> 28 == 0 {
+            both.undo_alike()?
+        } else {
+            both.answer_alike(&step_of(one >> 26, drawn_from(one, seed)))
+        };
+        assert!(rt; alike && both.print_alike()?, "step {turn}");
+        most = both.indexed.book().living().max(most);
+        longest = both.indexed.journal().len().max(longest);
+    }
+    assert!(rt; most > 40 && longest > 200);
+    let replayed = audited(rt.alloc(), both.indexed.journal())?;
+    assert!(rt; replayed.as_slice() == both.text.1.as_slice());
+    Ok(())
+}
