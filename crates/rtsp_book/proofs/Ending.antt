@@ -1,12 +1,12 @@
 -- The end of a session gives back all that it has, and is allowed record by record.
-use Rattle.std.proofs.Common.{◌≡◌, ◌==◌, ℕ, Bool, true, false, T, ◌&&◌, cond, List, [], ◌∷◌, ◌++◌, refl, sym, ◌∙◌, ap, subst, arith, append_assoc}
+use Rattle.std.proofs.Common.{◌≡◌, ◌==◌, ℕ, true, false, T, cond, List, [], ◌∷◌, ◌++◌, refl, sym, ◌∙◌, ap, subst, arith, append_assoc}
 use Rattle.std.specs.Prelude.{Option, Some, None, flat_map}
 use Rattle.std.proofs.lemmas.Bool.{and_parts}
 use Rattle.std.proofs.lemmas.Bool.Decides.{nat_tests}
 use Rattle.std.specs.Ordering.{nat_cmp}
 use Rattle.std.specs.FinMap.{get, find, empty, entries, entries_sorted, is_sorted, get-entries}
 use Rattle.rtsp_record.specs.declared.holdings.Thing.{Thing}
-use Rattle.rtsp_record.specs.declared.holdings.Thing.TheVariants.{Pair, Chan, Rate}
+use Rattle.rtsp_record.specs.declared.holdings.Thing.TheVariants.{Rate}
 use Rattle.rtsp_record.specs.declared.phases.Phase.{Phase}
 use Rattle.rtsp_record.specs.declared.phases.Phase.TheVariants.{Ready, Playing, Ended}
 use Rattle.rtsp_record.specs.declared.streams.Stream.{Stream}
@@ -52,17 +52,12 @@ dropping_run s a f d ready normal is =
     ] refl
 
 free_one : (s a : ℕ) (f : Session) (d : Admission) (x : Thing) → under f a ≡ d → d.stream ≡ None → IsAddress x → d.address ≡ Some x → Run (frees s a x ∷ []) f (with_under f a (record d { address = None }))
-free_one s a f d (Pair p) is no_stream h some =
-    record {
-      own = (record { held = ap (λ (d : Admission). d.address) is ∙ some; no_stream = ap (λ (d : Admission). d.stream) is ∙ no_stream }, tt);
-      ends = ap (λ (d : Admission). Some (with_under f a (record d { address = None }))) is;
-    }
-free_one s a f d (Chan c k) is no_stream h some =
-    record {
-      own = (record { held = ap (λ (d : Admission). d.address) is ∙ some; no_stream = ap (λ (d : Admission). d.stream) is ∙ no_stream }, tt);
-      ends = ap (λ (d : Admission). Some (with_under f a (record d { address = None }))) is;
-    }
 free_one s a f d (Rate n) is no_stream h some = absurd h
+free_one s a f d x is no_stream h some =
+    record {
+      own = (record { held = ap (λ (d : Admission). d.address) is ∙ some; no_stream = ap (λ (d : Admission). d.stream) is ∙ no_stream }, tt);
+      ends = ap (λ (d : Admission). Some (with_under f a (record d { address = None }))) is;
+    }
 
 pub freeing_run : (s a : ℕ) (f : Session) (d : Admission) → Normal f → under f a ≡ d → d.stream ≡ None → ((x : Thing) → d.address ≡ Some x → IsAddress x) → Run (freeing s a d.address) f (with_under f a (record d { address = None }))
 freeing_run s a f d normal is no_stream proper =

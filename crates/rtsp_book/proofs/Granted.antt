@@ -1,11 +1,11 @@
 -- What a step is answered may be recorded.
-use Rattle.std.proofs.Common.{◌≡◌, ◌≢◌, ◌==◌, ℕ, ◌+◌, ◌≤◌, ◌<◌, Bool, true, false, ◌&&◌, ◌||◌, not, cond, List, [], ◌∷◌, ◌++◌, length, refl, sym, ◌∙◌, ap, subst, arith}
-use Rattle.std.specs.Prelude.{Option, Some, None, Result, Ok, Err, IsSome, is_some, is_none, nat_lt}
-use Rattle.std.proofs.lemmas.Bool.{and_parts, or_parts}
+use Rattle.std.proofs.Common.{◌≡◌, ℕ, ◌+◌, ◌≤◌, ◌<◌, Bool, true, false, ◌&&◌, ◌||◌, not, cond, List, [], ◌∷◌, ◌++◌, length, refl, sym, ◌∙◌, ap, subst, arith}
+use Rattle.std.specs.Prelude.{Option, Some, None, Result, Ok, Err, is_some, is_none, nat_lt, option_map}
+use Rattle.std.proofs.lemmas.Bool.{or_parts}
 use Rattle.std.proofs.lemmas.Bool.Decides.{nat_tests}
 use Rattle.std.specs.FinMap.{get, entries, entries_sorted, get-entries}
 use Rattle.rtsp_record.specs.declared.holdings.Thing.{Thing}
-use Rattle.rtsp_record.specs.declared.holdings.Thing.TheVariants.{Pair, Chan, Rate}
+use Rattle.rtsp_record.specs.declared.holdings.Thing.TheVariants.{Pair, Port, Chan, Rate}
 use Rattle.rtsp_record.specs.declared.phases.Phase.{Phase}
 use Rattle.rtsp_record.specs.declared.phases.Phase.TheVariants.{Ready, Playing, Ended}
 use Rattle.rtsp_record.specs.declared.streams.Stream.{Stream}
@@ -18,7 +18,7 @@ use Rattle.rtsp_sessions.specs.declared.startups.Startup.{Startup}
 use Rattle.rtsp_book.specs.declared.steps.Chain.{Chain}
 use Rattle.rtsp_book.specs.declared.steps.Step.{Step}
 use Rattle.rtsp_book.specs.declared.steps.Step.TheVariants as step
-use Rattle.rtsp_book.specs.declared.steps.Step.TheVariants.{Open, HoldRate, HoldPair, HoldChan, Return, Unwind, Pause, Finish, Touch, DropTrack, End, Expire, Hangup}
+use Rattle.rtsp_book.specs.declared.steps.Step.TheVariants.{Open, HoldRate, HoldPair, HoldPort, HoldChan, Return, Unwind, Pause, Finish, Touch, DropTrack, End, Expire, Hangup}
 use Rattle.rtsp_book.specs.declared.steps.ChannelHold.{ChannelHold}
 use Rattle.rtsp_book.specs.declared.steps.Commit.{Commit}
 use Rattle.rtsp_book.specs.declared.steps.Play.{Play}
@@ -26,27 +26,26 @@ use Rattle.rtsp_book.specs.declared.refusals.Refusal.{Refusal}
 use Rattle.rtsp_book.specs.declared.refusals.Refusal.TheVariants.{NoSession, TooManySessions, NoBandwidth, NoPair, NoChannel, WrongState, IdTaken, StartupTaken, NotHeld, JournalFull, NothingDue}
 use Rattle.rtsp_book.specs.Laws.{IsGranted}
 use Rattle.rtsp_record.specs.declared.holdings.Admission.{Admission}
-use Rattle.rtsp_record.specs.Books.{Session, Book, or_bare, freed, under, with_under, after_all, book_of}
+use Rattle.rtsp_record.specs.Books.{Session, Book, or_bare, under, after_all, book_of}
 use Rattle.rtsp_record.specs.Sums.{Spot, UdpPort, Channel, covers, covering, of_session, amount, with_id, bindings, streams, elsewhere, other_tracks, owed}
-use Rattle.rtsp_record.specs.Rules.{IsReady, IsPlaying, alike, Own, IsFree, AllAllowed}
-use Rattle.rtsp_record.specs.Choices.{least_pair, chosen_chan, IsWish}
+use Rattle.rtsp_record.specs.Rules.{IsPlaying, alike, Own, IsFree, AllAllowed}
+use Rattle.rtsp_record.specs.Choices.{least_pair, least_port, chosen_chan, IsWish}
 use Rattle.rtsp_record.specs.Moments.{point, sent_with_due}
-use Rattle.rtsp_record.specs.Rules.{is_same_thing, is_this, is_held, if_living}
+use Rattle.rtsp_record.specs.Rules.{if_living}
 use Rattle.rtsp_sessions.specs.Searches.{first_with, is_of_track, is_expired, is_channelled, is_on}
 use Rattle.rtsp_book.specs.Sessions.{is_ready, has_stream_under, has_stream}
 use Rattle.rtsp_book.specs.Returns.{giving_back, unbinding, ending}
-use Rattle.rtsp_book.specs.Made.{hold_chosen, as_pair, as_chan, adding, binding_to, committing, taking_back, unwinding, begun, playing, pausing, finishing, is_unfinished, touching, giving_back_found, dropping_track, ending_found, hanging_up, of_living, made}
+use Rattle.rtsp_book.specs.Made.{hold_chosen, adding, binding_to, committing, taking_back, unwinding, begun, playing, pausing, finishing, is_unfinished, touching, giving_back_found, dropping_track, ending_found, hanging_up, of_living, made}
 use Rattle.rtsp_book.specs.Replies.{is_wrong_hold, is_wrong_commit, is_startup_taken, is_unready_commit, is_wrong_play, is_full, Refusals, refusals, answered, AreDifferent, IsAskable}
 use Rattle.rtsp_book.specs.Laws.{Granted}
 use Rattle.rtsp_record.specs.Sound.{SoundSession, SoundRow, Sound}
-use Rattle.rtsp_record.proofs.Sound.{sound_of, freed_stream}
-use Rattle.rtsp_record.proofs.Rows.{under-own}
+use Rattle.rtsp_record.proofs.Sound.{sound_of}
 use Rattle.rtsp_record.proofs.Back.{allowed-append}
 use Rattle.rtsp_record.proofs.Trims.{AllFine}
 use Rattle.rtsp_record.proofs.Strands.{row_after}
-use Rattle.rtsp_book.proofs.Runs.{OwnAll, own-append, Lone, Giving, all_lone, lone_allowed, lone_row, fine-append, owed_given}
+use Rattle.rtsp_book.proofs.Runs.{OwnAll, Lone, Giving, all_lone, lone_allowed, lone_row, owed_given}
 use Rattle.rtsp_book.proofs.Ending.{giving_run, ending_own, giving_under, giving_unbinding, giving_ending}
-use Rattle.rtsp_record.proofs.Choices.{chosen_pair, chosen_chan_free}
+use Rattle.rtsp_record.proofs.Choices.{chosen_pair, chosen_port, chosen_chan_free}
 use Rattle.rtsp_book.proofs.Tests.{none_there, some_there, turned, no_more, some_more, ready_is}
 use Rattle.rtsp_book.proofs.TakenBack.{own_return, two_back}
 use Rattle.rtsp_book.proofs.Committing.{first_found, MayCommit, Adding, adding_run, lone_adding, lone_bound}
@@ -243,19 +242,21 @@ module _ (w : Whole) (n : ℕ) (b : Book) (ok : Sound w b) (room : n + owed b �
       no_spot (UdpPort q) is = absurd cc
       no_spot (Channel d l) is = absurd cc
 
+  -- what was found is held, or nothing is made
+  found_granted : (s a : ℕ) (g : ℕ → Thing) (o : Option ℕ) → is_none (get b s) ≡ false → ((p : ℕ) → if_living (get b s) (is_wrong_hold a (g p)) ≡ false) → ((p : ℕ) → o ≡ Some p → IsFree w b (g p))
+      → is_full w n b (hold_chosen s a (option_map g o)) ≡ false → IsGranted w n b (hold_chosen s a (option_map g o))
+  found_granted s a g None lives right free full = nothing_made
+  found_granted s a g (Some p) lives right free full = hold_granted s a (g p) lives (right p) (free p refl) full
+
   hold_pair_granted : (s a from : ℕ) → NoneFits (refusals w n b (HoldPair s a from)) → IsGranted w n b (made w b (HoldPair s a from))
-  hold_pair_granted s a from h =
-      elim (least_pair w b from) as (λ o. least_pair w b from ≡ o → is_none o ≡ false → is_full w n b (hold_chosen s a (as_pair o)) ≡ false → IsGranted w n b (hold_chosen s a (as_pair o))) [
-        | None ↦ λ _ off _. nothing_made
-        | Some p ↦ λ is _ full. hold_granted s a (Pair p) h.no_session h.wrong_state (chosen_pair w b from p is) full
-      ] refl h.no_pair h.journal_full
+  hold_pair_granted s a from h = found_granted s a Pair (least_pair w b from) h.no_session (λ _. h.wrong_state) (chosen_pair w b from) h.journal_full
+
+  hold_port_granted : (s a from : ℕ) → NoneFits (refusals w n b (HoldPort s a from)) → IsGranted w n b (made w b (HoldPort s a from))
+  hold_port_granted s a from h = found_granted s a Port (least_port w b from) h.no_session (λ _. h.wrong_state) (chosen_port w b from) h.journal_full
 
   hold_chan_granted : (k : ChannelHold) → IsWish k.wish → NoneFits (refusals w n b (HoldChan k)) → IsGranted w n b (made w b (HoldChan k))
   hold_chan_granted k ask h =
-      elim (chosen_chan b k.conn k.wish) as (λ o. chosen_chan b k.conn k.wish ≡ o → is_none o ≡ false → is_full w n b (hold_chosen k.session k.admission (as_chan k.conn o)) ≡ false → IsGranted w n b (hold_chosen k.session k.admission (as_chan k.conn o))) [
-        | None ↦ λ _ off _. nothing_made
-        | Some l ↦ λ is _ full. hold_granted k.session k.admission (Chan k.conn l) h.no_session h.wrong_state (chosen_chan_free w b k.conn k.wish l ask is) full
-      ] refl h.no_channel h.journal_full
+      found_granted k.session k.admission (Chan k.conn) (chosen_chan b k.conn k.wish) h.no_session (λ _. h.wrong_state) (λ l is. chosen_chan_free w b k.conn k.wish l ask is) h.journal_full
 
   commit_granted : (c : Commit) → NoneFits (refusals w n b (step.Commit c)) → IsGranted w n b (made w b (step.Commit c))
   commit_granted c h =
@@ -334,6 +335,7 @@ module _ (w : Whole) (n : ℕ) (b : Book) (ok : Sound w b) (room : n + owed b �
   made_granted (Open l) ask h = open_granted l h
   made_granted (HoldRate s a bits) ask h = hold_rate_granted s a bits h
   made_granted (HoldPair s a from) ask h = hold_pair_granted s a from h
+  made_granted (HoldPort s a from) ask h = hold_port_granted s a from h
   made_granted (HoldChan k) ask h = hold_chan_granted k ask h
   made_granted (Return s a x) ask h = giving s (frees s a x ∷ []) (refl, tt) (own_return s a x (get b s) h.no_session h.wrong_state h.not_held, tt)
   made_granted (step.Commit c) ask h = commit_granted c h

@@ -1,24 +1,22 @@
 -- What the replies rest on: look-ups as counts, and how long an end is.
-use Rattle.std.proofs.Common.{◌≡◌, ◌==◌, ℕ, ◌+◌, ◌≤◌, ◌<◌, Bool, true, false, ◌||◌, not, cond, List, [], ◌∷◌, ◌++◌, length, take, drop, flat_map, zero, suc, refl, sym, ◌∙◌, ap, subst, arith, get_or, add-one, drop-cons, append_assoc, length-append}
+use Rattle.std.proofs.Common.{◌≡◌, ◌==◌, ℕ, ◌+◌, ◌≤◌, ◌<◌, Bool, true, false, ◌||◌, cond, List, [], ◌∷◌, ◌++◌, length, drop, flat_map, refl, sym, ◌∙◌, ap, subst, arith, add-one, drop-cons, append_assoc, length-append}
 use Rattle.std.specs.Prelude.{Option, Some, None, Ok, is_some, nat_lt, sum_by, option_map, slice_get}
 use Rattle.std.proofs.lemmas.Bool.{or_parts}
 use Rattle.std.proofs.lemmas.Bool.Decides.{nat_tests}
 use Rattle.std.proofs.lemmas.List.Sums.{sum_by-cons}
-use Rattle.std.proofs.lemmas.List.{take_more}
 use Rattle.std.proofs.lemmas.Option.{slice_get_within, get_or_from_slice_get}
 use Rattle.std.specs.FinMap.{get, entries, entries_sorted, get-entries}
 use Rattle.rtsp_record.specs.declared.holdings.Whole.{Whole}
 use Rattle.rtsp_record.specs.declared.holdings.Admission.{Admission}
 use Rattle.rtsp_record.specs.declared.holdings.Thing.{Thing}
-use Rattle.rtsp_record.specs.declared.streams.Stream.{Stream}
 use Rattle.rtsp_book.specs.declared.steps.Commit.{Commit}
 use Rattle.rtsp_record.specs.declared.changes.Record.{Record}
 use Rattle.rtsp_record.specs.declared.changes.Record.TheVariants.{Open, Close, Hold, Free, Add, Drop, Move, Touch, Bind, Unbind}
 use Rattle.rtsp_record.specs.Records.{holds}
 use Rattle.rtsp_record.specs.declared.payloads.Life.{Life}
-use Rattle.rtsp_record.specs.Books.{Session, Book, after, after_all}
-use Rattle.rtsp_record.specs.Sums.{Measure, living, is_opening, if_there, of_admission, of_session, one_if, amount, with_id, bindings, returns, owed}
-use Rattle.rtsp_record.specs.Rules.{Own, Allowed, AllAllowed, IsFree}
+use Rattle.rtsp_record.specs.Books.{Session, Book}
+use Rattle.rtsp_record.specs.Sums.{living, if_there, of_session, one_if, amount, with_id, bindings, owed}
+use Rattle.rtsp_record.specs.Rules.{Own, AllAllowed, IsFree}
 use Rattle.rtsp_sessions.specs.Searches.{first_with}
 use Rattle.rtsp_sessions.specs.Lookups.{TakesNone, TakesNoMemory, session_at, number_of, with_id_in, with_startup_in, is_startup}
 use Rattle.rtsp_book.specs.Made.{committing, made}
@@ -26,7 +24,6 @@ use Rattle.rtsp_book.specs.declared.steps.Step.{Step}
 use Rattle.rtsp_book.specs.Replies.{is_wrong_hold, is_wrong_commit, is_startup_taken, is_unready_commit, refusals, answer, is_growing, IsAskable}
 use Rattle.rtsp_book.specs.Laws.{IsGranted, GivesBack}
 use Rattle.rtsp_record.proofs.Trims.{AllFine}
-use Rattle.rtsp_record.proofs.Back.{after_all-append}
 use Rattle.rtsp_book.proofs.Tests.{none_there, no_more}
 use Rattle.rtsp_book.proofs.Granted.{accepted, made_granted, own_hold, committed}
 use Rattle.rtsp_record.specs.Sound.{SoundRow, Sound}

@@ -1,10 +1,9 @@
 -- What a session holds may be taken back, one thing after another.
-use Rattle.std.proofs.Common.{◌≡◌, ◌≢◌, ℕ, Bool, true, false, ◌&&◌, not, cond, List, [], ◌∷◌, ◌++◌, refl, sym, ◌∙◌, ap}
+use Rattle.std.proofs.Common.{◌≡◌, ◌≢◌, ℕ, true, false, ◌&&◌, not, cond, [], ◌∷◌, ◌++◌, refl, sym, ◌∙◌, ap}
 use Rattle.std.specs.Prelude.{Option, Some, None, is_none}
 use Rattle.std.proofs.lemmas.Bool.{and_parts}
 use Rattle.rtsp_record.specs.declared.holdings.Admission.{Admission}
 use Rattle.rtsp_record.specs.declared.holdings.Thing.{Thing}
-use Rattle.rtsp_record.specs.declared.holdings.Thing.TheVariants.{Pair, Chan, Rate}
 use Rattle.rtsp_record.specs.Records.{frees}
 use Rattle.rtsp_record.specs.Books.{Session, freed, under, with_under}
 use Rattle.rtsp_record.specs.Rules.{alike, Own, is_held, if_living}
@@ -12,6 +11,7 @@ use Rattle.rtsp_book.specs.Sessions.{has_stream_under}
 use Rattle.rtsp_book.specs.Made.{taking_back}
 use Rattle.rtsp_book.specs.Replies.{AreDifferent}
 use Rattle.rtsp_record.proofs.Sound.{freed_stream}
+use Rattle.rtsp_record.proofs.LastWords.{Kinds, OneKind, TwoKinds, kinds}
 use Rattle.rtsp_record.proofs.Rows.{under-own}
 use Rattle.rtsp_record.proofs.Trims.{AllFine}
 use Rattle.rtsp_book.proofs.Runs.{OwnAll, own-append, Giving, fine-append}
@@ -26,15 +26,11 @@ own_return s a x (Some f) lives right held = own_free s a x f (turned (is_held f
 
 -- a second thing is still held when the first is freed
 still_held : (x y : Thing) (d : Admission) → x ≢ y → alike x d ≡ Some x → alike y d ≡ Some y → alike y (freed x d) ≡ Some y
-still_held (Rate m) (Rate k) d apart hx hy = absurd (apart (let same : ◌≡◌ {A = Option Thing} (Some (Rate m)) (Some (Rate k)) = sym hx ∙ hy in cc))
-still_held (Rate m) (Pair q) d apart hx hy = hy
-still_held (Rate m) (Chan c l) d apart hx hy = hy
-still_held (Pair p) (Rate k) d apart hx hy = hy
-still_held (Pair p) (Pair q) d apart hx hy = absurd (apart (let same : ◌≡◌ {A = Option Thing} (Some (Pair p)) (Some (Pair q)) = sym hx ∙ hy in cc))
-still_held (Pair p) (Chan c l) d apart hx hy = absurd (let same : ◌≡◌ {A = Option Thing} (Some (Pair p)) (Some (Chan c l)) = sym hx ∙ hy in cc)
-still_held (Chan c k) (Rate m) d apart hx hy = hy
-still_held (Chan c k) (Pair q) d apart hx hy = absurd (let same : ◌≡◌ {A = Option Thing} (Some (Chan c k)) (Some (Pair q)) = sym hx ∙ hy in cc)
-still_held (Chan c k) (Chan d' l) d apart hx hy = absurd (apart (let same : ◌≡◌ {A = Option Thing} (Some (Chan c k)) (Some (Chan d' l)) = sym hx ∙ hy in cc))
+still_held x y d apart hx hy = by (kinds x y)
+  where
+    by : Kinds x y → alike y (freed x d) ≡ Some y
+    by (OneKind same) = absurd (apart (let both : ◌≡◌ {A = Option Thing} (Some x) (Some y) = sym hx ∙ sym (same d) ∙ hy in cc))
+    by (TwoKinds off more less) = less d ∙ hy
 
 -- Free of one Hold of a chain, where it is held and has no stream
 pub one_back : (s a : ℕ) (f : Session) (o : Option Thing) → OwnAll (taking_back s a f o) (Some f) × AllFine (Giving s) (taking_back s a f o)

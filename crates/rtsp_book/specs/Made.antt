@@ -1,8 +1,8 @@
 -- What each step records where it isn't refused.
-use Rattle.std.specs.Prelude.{◌==◌, ℕ, ◌+◌, ◌-◌, Bool, false, ◌&&◌, ◌||◌, not, nat_lt, if◌then◌else◌, List, [], ◌∷◌, ◌++◌, Option, Some, None}
+use Rattle.std.specs.Prelude.{ℕ, ◌-◌, Bool, false, ◌&&◌, not, nat_lt, if◌then◌else◌, List, [], ◌∷◌, ◌++◌, option_map, Option, Some, None}
 use Rattle.std.specs.FinMap.{get, entries}
 use Rattle.rtsp_record.specs.declared.holdings.Thing.{Thing}
-use Rattle.rtsp_record.specs.declared.holdings.Thing.TheVariants.{Pair, Chan, Rate}
+use Rattle.rtsp_record.specs.declared.holdings.Thing.TheVariants.{Pair, Port, Chan, Rate}
 use Rattle.rtsp_record.specs.declared.phases.Phase.{Phase}
 use Rattle.rtsp_record.specs.declared.phases.Phase.TheVariants.{Ready, Playing, Ended}
 use Rattle.rtsp_record.specs.declared.streams.Stream.{Stream}
@@ -17,10 +17,10 @@ use Rattle.rtsp_book.specs.declared.steps.Step.TheVariants as step
 use Rattle.rtsp_book.specs.declared.steps.Commit.{Commit}
 use Rattle.rtsp_book.specs.declared.steps.Play.{Play}
 use Rattle.rtsp_record.specs.declared.holdings.Admission.{Admission}
-use Rattle.rtsp_record.specs.Books.{Session, Book, under}
-use Rattle.rtsp_record.specs.Sums.{of_session, other_tracks, living}
+use Rattle.rtsp_record.specs.Books.{Session, Book}
+use Rattle.rtsp_record.specs.Sums.{of_session, other_tracks}
 use Rattle.rtsp_record.specs.Rules.{is_held}
-use Rattle.rtsp_record.specs.Choices.{least_pair, chosen_chan}
+use Rattle.rtsp_record.specs.Choices.{least_pair, least_port, chosen_chan}
 use Rattle.rtsp_record.specs.Moments.{due, point, sent_with_due}
 use Rattle.rtsp_sessions.specs.Searches.{first_with, is_of_track, is_expired, is_channelled, is_on}
 use Rattle.rtsp_book.specs.Sessions.{has_stream_under, is_ready}
@@ -33,13 +33,15 @@ hold_chosen s a (Some x) = holds s a x ∷ []
 
 -- a pair as a thing
 abbrev pub as_pair : Option ℕ → Option Thing
-as_pair None = None
-as_pair (Some p) = Some (Pair p)
+as_pair o = option_map Pair o
+
+-- a port as a thing
+abbrev pub as_port : Option ℕ → Option Thing
+as_port o = option_map Port o
 
 -- channels as a thing
 abbrev pub as_chan : ℕ → Option ℕ → Option Thing
-as_chan c None = None
-as_chan c (Some k) = Some (Chan c k)
+as_chan c o = option_map (Chan c) o
 
 -- Add, in place of the stream of the same track where there is one
 abbrev pub adding : ℕ → ℕ → Stream → Option (ℕ × Admission) → List Record
@@ -128,6 +130,7 @@ abbrev pub made : Whole → Book → Step → List Record
 made w b (step.Open l) = change.Open l ∷ []
 made w b (step.HoldRate s a n) = holds s a (Rate n) ∷ []
 made w b (step.HoldPair s a from) = hold_chosen s a (as_pair (least_pair w b from))
+made w b (step.HoldPort s a from) = hold_chosen s a (as_port (least_port w b from))
 made w b (step.HoldChan h) = hold_chosen h.session h.admission (as_chan h.conn (chosen_chan b h.conn h.wish))
 made w b (step.Return s a x) = frees s a x ∷ []
 made w b (step.Commit c) = of_living (get b c.session) (committing c)

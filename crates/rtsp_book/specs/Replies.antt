@@ -1,26 +1,24 @@
 -- What a step is answered: its records, or the first refusal that fits.
-use Rattle.std.specs.Prelude.{◌≡◌, ◌≢◌, ℕ, ◌+◌, ◌-◌, ◌*◌, ◌≤◌, ◌<◌, Bool, true, false, ◌&&◌, ◌||◌, not, nat_lt, nat_le, if◌then◌else◌, List, [], ◌∷◌, length, is_some, is_none, Option, Some, None, Result, Ok, Err}
+use Rattle.std.specs.Prelude.{◌≢◌, ℕ, ◌+◌, ◌≤◌, ◌<◌, Bool, true, false, ◌&&◌, ◌||◌, not, nat_lt, nat_le, if◌then◌else◌, List, [], ◌∷◌, length, is_some, is_none, Option, Some, None, Result, Ok, Err}
 use Rattle.std.specs.FinMap.{get, entries}
 use Rattle.rtsp_record.specs.declared.holdings.Thing.{Thing}
-use Rattle.rtsp_record.specs.declared.holdings.Thing.TheVariants.{Pair, Chan, Rate}
-use Rattle.rtsp_record.specs.declared.phases.Phase.TheVariants.{Ready}
+use Rattle.rtsp_record.specs.declared.holdings.Thing.TheVariants.{Pair, Port, Chan, Rate}
 use Rattle.rtsp_record.specs.declared.streams.Stream.{Stream}
 use Rattle.rtsp_record.specs.declared.holdings.Whole.{Whole}
 use Rattle.rtsp_record.specs.declared.changes.Record.{Record}
-use Rattle.rtsp_record.specs.declared.changes.Record.TheVariants.{Hold}
-use Rattle.rtsp_record.specs.declared.payloads.Holding.{Holding}
+use Rattle.rtsp_record.specs.Records.{holds}
 use Rattle.rtsp_record.specs.declared.changes.Entry.{Entry}
 use Rattle.rtsp_sessions.specs.declared.startups.Startup.{Startup}
 use Rattle.rtsp_book.specs.declared.steps.Chain.{Chain}
 use Rattle.rtsp_book.specs.declared.steps.Step.{Step}
-use Rattle.rtsp_book.specs.declared.steps.Step.TheVariants.{Open, HoldRate, HoldPair, HoldChan, Return, Commit, Unwind, Play, Pause, Finish, Touch, DropTrack, End, Expire, Hangup}
+use Rattle.rtsp_book.specs.declared.steps.Step.TheVariants.{Open, HoldRate, HoldPair, HoldPort, HoldChan, Return, Commit, Unwind, Play, Pause, Finish, Touch, DropTrack, End, Expire, Hangup}
 use Rattle.rtsp_book.specs.declared.steps.Play.{Play as PlayStep}
 use Rattle.rtsp_book.specs.declared.refusals.Refusal.{Refusal}
 use Rattle.rtsp_book.specs.declared.refusals.Refusal.TheVariants.{NoSession, TooManySessions, NoBandwidth, NoPair, NoChannel, WrongState, IdTaken, StartupTaken, NotHeld, JournalFull, NothingDue}
 use Rattle.rtsp_record.specs.Books.{Session, Book, under, after_all, book_of}
 use Rattle.rtsp_record.specs.Sums.{of_session, amount, with_id, bindings, elsewhere, other_tracks, living, held_rate, owed, others_holding}
 use Rattle.rtsp_record.specs.Rules.{alike, is_held, if_living}
-use Rattle.rtsp_record.specs.Choices.{least_pair, chosen_chan, IsWish}
+use Rattle.rtsp_record.specs.Choices.{least_pair, least_port, chosen_chan, IsWish}
 use Rattle.rtsp_sessions.specs.Searches.{first_with, is_expired, is_of_track, is_on}
 use Rattle.rtsp_book.specs.Sessions.{has_stream, has_stream_under, is_playing, is_ready}
 use Rattle.rtsp_book.specs.Made.{is_unfinished, made, start_of}
@@ -92,6 +90,12 @@ refusals w n b (HoldPair s a from) = record no_refusal {
   wrong_state = if_living (get b s) (is_wrong_hold a (Pair 0));
   journal_full = is_full w n b (made w b (HoldPair s a from));
 }
+refusals w n b (HoldPort s a from) = record no_refusal {
+  no_session = is_none (get b s);
+  no_pair = is_none (least_port w b from);
+  wrong_state = if_living (get b s) (is_wrong_hold a (Port 0));
+  journal_full = is_full w n b (made w b (HoldPort s a from));
+}
 refusals w n b (HoldChan h) = record no_refusal {
   no_session = is_none (get b h.session);
   no_channel = is_none (chosen_chan b h.conn h.wish);
@@ -161,11 +165,11 @@ abbrev pub answer : Whole → ℕ → Book → Step → Result (List Record) Ref
 answer w n b step = answered (refusals w n b step) (made w b step)
 
 -- the answer where a living session is to hold a thing that is free
-abbrev pub hold_answer : Whole → ℕ → Book → Holding → Session → Result (List Record) Refusal
-hold_answer w n b h f =
-    if is_wrong_hold h.admission h.thing f then Err WrongState
-    else if is_full w n b (Hold h ∷ []) then Err JournalFull
-    else Ok (Hold h ∷ [])
+abbrev pub hold_answer : Whole → ℕ → Book → ℕ → Thing → ℕ × Session → Result (List Record) Refusal
+hold_answer w n b a x v =
+    if is_wrong_hold a x v.1 then Err WrongState
+    else if is_full w n b (holds v.0 a x ∷ []) then Err JournalFull
+    else Ok (holds v.0 a x ∷ [])
 
 -- the records of a step, or its refusal
 abbrev pub reply : Whole → List Entry → Step → Result (List Record) Refusal
@@ -176,6 +180,7 @@ abbrev pub is_growing : Step → Bool
 is_growing (Open l) = true
 is_growing (HoldRate s a n) = true
 is_growing (HoldPair s a from) = true
+is_growing (HoldPort s a from) = true
 is_growing (HoldChan h) = true
 is_growing (Commit c) = true
 is_growing (Play d) = true

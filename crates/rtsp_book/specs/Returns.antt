@@ -1,5 +1,5 @@
 -- The records that give back.
-use Rattle.std.specs.Prelude.{ℕ, ◌+◌, ◌-◌, if◌then◌else◌, List, [], ◌∷◌, ◌++◌, flat_map, Option, Some, None}
+use Rattle.std.specs.Prelude.{ℕ, if◌then◌else◌, List, [], ◌∷◌, ◌++◌, flat_map, Option, Some, None}
 use Rattle.std.specs.FinMap.{entries}
 use Rattle.rtsp_record.specs.declared.holdings.Thing.{Thing}
 use Rattle.rtsp_record.specs.declared.holdings.Thing.TheVariants.{Rate}
@@ -8,7 +8,7 @@ use Rattle.rtsp_record.specs.declared.streams.Stream.{Stream}
 use Rattle.rtsp_record.specs.declared.changes.Record.{Record}
 use Rattle.rtsp_record.specs.Records.{closes, frees, drops, moves, unbinds}
 use Rattle.rtsp_record.specs.declared.holdings.Admission.{Admission}
-use Rattle.rtsp_record.specs.Books.{Session, under}
+use Rattle.rtsp_record.specs.Books.{Session}
 use Rattle.rtsp_record.specs.Sums.{is_opening}
 use Rattle.rtsp_record.specs.Books.{opening}
 

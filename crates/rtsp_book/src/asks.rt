@@ -18,6 +18,8 @@ pub struct Opening {
 pub enum Wanted {
     /// A pair of ports.
     Pair,
+    /// One port, for RTP and RTCP both (RFC 5761).
+    Port,
     /// Channels of a connection: the wish if it is free, else the least free ones.
     Channels { conn: u64, wish: Option<u8> },
 }
@@ -42,7 +44,7 @@ pub struct Ask {
 pub struct Admitted {
     pub session: u64,
     pub admission: u64,
-    /// A pair of ports, or channels.
+    /// A pair of ports, a port, or channels.
     pub address: Thing,
     pub stream: Stream,
 }

@@ -24,7 +24,7 @@ mod steps;
 pub use asks::{Admitted, Ask, Opening, Wanted};
 pub use kept::{Kept, NumbersSpent};
 pub use laws::{law_giving_back, law_granted};
-pub use receipts::{FreedPairs, Receipt};
+pub use receipts::{FreedPorts, Receipt};
 pub use refusals::Refusal;
 pub use rtsp_record::Life;
 pub use rtsp_sessions::{Admissions, BookRep, PlainBook, SessionView, Startup, Tally};

@@ -1,7 +1,7 @@
 //! What an accepted step recorded.
 
-ghost use Rattle.std.specs.Prelude.{◌≡◌, ◌<◌, ◌≤◌, [], ◌∷◌, ◌++◌, length};
-ghost use Rattle.rtsp_book.specs.Receipts.{freed_pair, freed_pairs, pair_under};
+ghost use Rattle.std.specs.Prelude.{◌≡◌, ◌<◌, ◌≤◌, [], ◌∷◌, ◌++◌, length, filter_map};
+ghost use Rattle.rtsp_book.specs.Receipts.{freed_pairs, freed_ports, freed_as};
 
 use rtsp_record::{Holding, Record, Renewal, Thing};
 use std::marker::Model;
@@ -67,37 +67,44 @@ impl Receipt {
     }
 
     /// The pairs of ports that were freed.
-    pub fn freed_pairs(&self) -> FreedPairs
+    pub fn freed_pairs(&self) -> FreedPorts
         ensures { result ≡ freed_pairs self.now }
     {
-        freed_in(self.records())
+        freed_in(self.records(), Kind::Pair)
+    }
+
+    /// The ports that were freed, each held by itself.
+    pub fn freed_ports(&self) -> FreedPorts
+        ensures { result ≡ freed_ports self.now }
+    {
+        freed_in(self.records(), Kind::Port)
     }
 }
 
-/// Pairs of ports that were given back, in order, at most 64: each by its first port, with the
-/// admission that held it. It is of fixed size and takes no memory.
+/// Pairs of ports, or ports, that were given back, in order, at most 64: each by its first port,
+/// with the admission that held it. It is of fixed size and takes no memory.
 #[derive(Drop)]
-pub struct FreedPairs {
-    pairs: [(u64, u16); 64],
+pub struct FreedPorts {
+    ports: [(u64, u16); 64],
     len: usize,
 }
 
-impl Model for FreedPairs {
+impl Model for FreedPorts {
     ghost use Rattle.std.specs.Prelude.{ℕ, List, take, ◌≤◌};
 
     ghost Value = { List (ℕ × ℕ) };
 
-    ghost view = { λ f. take f.len f.pairs };
+    ghost view = { λ f. take f.len f.ports };
 
     ghost invariant = { λ f. f.len ≤ 64 };
 }
 
-impl FreedPairs {
+impl FreedPorts {
     fn new() -> Self
         ensures { result ≡ [] }
     {
-        FreedPairs {
-            pairs: [(0, 0); 64],
+        FreedPorts {
+            ports: [(0, 0); 64],
             len: 0,
         }
     }
@@ -106,46 +113,47 @@ impl FreedPairs {
         requires { length self.old < 64 }
         ensures { self.new ≡ self.old ++ (admission, first_port) ∷ [] }
     {
-        self.pairs[self.len] = (admission, first_port);
+        self.ports[self.len] = (admission, first_port);
         self.len += 1;
     }
 
-    /// The pairs, in the order in which they were freed.
+    /// All of them, in the order in which they were freed.
     pub fn as_slice(&self) -> &[(u64, u16)]
         ensures value { result.now ≡ self.now }
         ensures short { length self.now ≤ 64 }
     {
-        &self.pairs[..self.len]
+        &self.ports[..self.len]
     }
 }
 
-// The pair that a record frees, with its admission.
-fn freed_pair(change: &Record) -> Option<(u64, u16)>
-    ensures { result ≡ freed_pair change.now }
+// What is looked for among what was freed.
+#[derive(Clone, Copy)]
+enum Kind {
+    Pair,
+    Port,
+}
+
+// What a record frees of this kind, by its first port, with its admission.
+fn freed_as(kind: Kind, change: &Record) -> Option<(u64, u16)>
+    ensures { result ≡ freed_as kind change.now }
 {
-    match change {
-        Record::Free(holding) => pair_under(holding),
+    let Record::Free(holding) = change else {
+        return None;
+    };
+    match (kind, holding.thing) {
+        (Kind::Pair, Thing::Pair(port)) => Some((holding.admission, port)),
+        (Kind::Port, Thing::Port(port)) => Some((holding.admission, port)),
         _ => None,
     }
 }
 
-// The pair, by its first port, where that is what is held, with the admission.
-fn pair_under(holding: &Holding) -> Option<(u64, u16)>
-    ensures { result ≡ pair_under holding.now.admission holding.now.thing }
-{
-    match holding.thing {
-        Thing::Pair(first_port) => Some((holding.admission, first_port)),
-        Thing::Chan(_, _) | Thing::Rate(_) => None,
-    }
-}
-
-fn freed_in(changes: &[Record]) -> FreedPairs
+fn freed_in(changes: &[Record], kind: Kind) -> FreedPorts
     requires { length changes.now ≤ 64 }
-    ensures { result ≡ freed_pairs changes.now }
+    ensures { result ≡ filter_map (freed_as kind) changes.now }
 {
-    let mut freed = FreedPairs::new();
+    let mut freed = FreedPorts::new();
     for change in changes {
-        if let Some((admission, first_port)) = freed_pair(change) {
+        if let Some((admission, first_port)) = freed_as(kind, change) {
             freed.push(admission, first_port);
         }
     }

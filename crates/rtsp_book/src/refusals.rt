@@ -15,8 +15,8 @@ pub enum Refusal {
     /// The uplink has fewer bits per second left than that.
     #[error("not enough bandwidth")]
     NoBandwidth,
-    /// No pair of ports from there on is free.
-    #[error("no free pair of ports")]
+    /// No pair of ports, or no port, from there on is free.
+    #[error("no free ports")]
     NoPair,
     /// No pair of channels of the connection is free.
     #[error("no free channels")]

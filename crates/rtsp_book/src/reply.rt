@@ -40,6 +40,11 @@ impl<'a, B: BookRep> Case<'a, B> {
                 admission,
                 from,
             } => self.hold_pair(session, admission, from, made),
+            Step::HoldPort {
+                session,
+                admission,
+                from,
+            } => self.hold_port(session, admission, from, made),
             Step::HoldChan(hold) => self.hold_chan(hold, made),
             Step::Return {
                 session,

@@ -75,11 +75,18 @@ pub enum Step {
         admission: u64,
         from: u32,
     },
+    /// Holds the least free port not below `from`, for a SETUP over UDP with RTP and RTCP on one
+    /// port. It grows. `NoSession`; `NoPair`; `WrongState` as for a pair.
+    HoldPort {
+        session: u64,
+        admission: u64,
+        from: u32,
+    },
     /// Holds the wished pair of channels of a connection where it is free, else the least free one,
     /// for an interleaved SETUP. It grows. `NoSession`; `NoChannel`; `WrongState` as for a pair.
     HoldChan(ChannelHold),
-    /// Gives a thing back that is held, as a pair that the system would not bind. `NoSession`;
-    /// `WrongState` where the admission has a stream; `NotHeld`.
+    /// Gives a thing back that is held, as a pair or a port that the system would not bind.
+    /// `NoSession`; `WrongState` where the admission has a stream; `NotHeld`.
     Return {
         session: u64,
         admission: u64,

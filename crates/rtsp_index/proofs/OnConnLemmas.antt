@@ -6,7 +6,7 @@ use Rattle.std.proofs.lemmas.Bool.Decides.{nat_tests}
 use Rattle.std.proofs.lemmas.List.Sums.{sum_by-cons}
 use Rattle.rtsp_record.specs.declared.holdings.Admission.{Admission}
 use Rattle.rtsp_record.specs.declared.holdings.Thing.{Thing}
-use Rattle.rtsp_record.specs.declared.holdings.Thing.TheVariants.{Pair, Chan, Rate}
+use Rattle.rtsp_record.specs.declared.holdings.Thing.TheVariants.{Pair, Port, Chan, Rate}
 use Rattle.rtsp_record.specs.Books.{Session, Book}
 use Rattle.rtsp_record.specs.Sums.{one_if, if_there, Channel, of_admission, of_session, amount, covering}
 use Rattle.rtsp_sessions.specs.Searches.{first_with, is_chan_of, is_binding_of, is_on}
@@ -20,6 +20,7 @@ covered c d k h = grind (arith, nat_tests)
 channel_there : (c : ℕ) (o : Option Thing) → is_chan_of c o ≡ true → (k : ℕ) × (if_there (covering (Channel c k)).thing o ≡ 1)
 channel_there c None h = absurd cc
 channel_there c (Some (Pair p)) h = absurd cc
+channel_there c (Some (Port p)) h = absurd cc
 channel_there c (Some (Chan d k)) h = (k, covered c d k h)
 channel_there c (Some (Rate n)) h = absurd cc
 

@@ -1,10 +1,11 @@
 -- Pools follow the records of a book.
-use Rattle.std.proofs.Common.{◌≡◌, ◌≢◌, ◌==◌, ℕ, zero, suc, ◌+◌, ◌*◌, ◌<◌, ◌≤◌, Bool, true, false, ◌&&◌, ◌||◌, cond, refl, sym, ◌∙◌, ap, subst, arith}
+use Rattle.std.proofs.Common.{◌≡◌, ◌==◌, ℕ, zero, suc, ◌+◌, ◌*◌, ◌<◌, ◌≤◌, Bool, true, false, ◌&&◌, ◌||◌, not, cond, refl, sym, ◌∙◌, ap, subst, arith}
 use Rattle.std.specs.Prelude.{Option, Some, None}
 use Rattle.std.specs.FinMap.{get, empty}
+use Rattle.std.proofs.Math.Nat.{one-mul}
 use Rattle.std.proofs.lemmas.Bool.Decides.{nat_tests}
 use Rattle.rtsp_record.specs.declared.holdings.Thing.{Thing}
-use Rattle.rtsp_record.specs.declared.holdings.Thing.TheVariants.{Pair, Chan, Rate}
+use Rattle.rtsp_record.specs.declared.holdings.Thing.TheVariants.{Pair, Port, Chan, Rate}
 use Rattle.rtsp_record.specs.declared.holdings.Whole.{Whole}
 use Rattle.rtsp_record.specs.declared.payloads.Holding.{Holding}
 use Rattle.rtsp_record.specs.declared.changes.Record.{Record}
@@ -14,10 +15,11 @@ use Rattle.rtsp_record.specs.Books.{Session, Book, after}
 use Rattle.rtsp_record.specs.Sums.{one_if, covers, Spot, UdpPort, Channel, amount, covering, rates, held_rate}
 use Rattle.rtsp_record.specs.Rules.{InWhole, IsFree, Own, Living, MayFree}
 use Rattle.rtsp_record.specs.Sound.{SoundRow}
-use Rattle.rtsp_record.specs.Choices.{least_of, from_on, least_pair_by, least_pair, is_free, is_pair_free, is_chan_free}
+use Rattle.rtsp_record.specs.Choices.{least_of, from_on, least_pair_by, least_port_by, least_pair, least_port, is_free, is_port_free, is_pair_free, is_chan_free}
+use Rattle.rtsp_record.proofs.Choices.{at_first, from_next}
 use Rattle.rtsp_record.proofs.Sound.{amount-empty}
 use Rattle.rtsp_record.proofs.Balance.{balance}
-use Rattle.rtsp_pools.specs.Pools.{is_free_chan}
+use Rattle.rtsp_pools.specs.Pools.{is_free_chan, is_free_pair}
 use Rattle.rtsp_index.specs.declared.pools.Pools.{Pools}
 use Rattle.rtsp_index.specs.Following.{Follows, HoldsMore, IsHeld}
 use Rattle.rtsp_index.specs.Pooling.{ArePoolsOf}
@@ -27,38 +29,42 @@ use Rattle.rtsp_index.specs.Pooling.{ArePoolsOf}
 pub nothing_held : (q : Spot) → is_free empty q ≡ true
 nothing_held q = ap (λ n. n == 0) (amount-empty (covering q))
 
-pub no_pair_held : (p : ℕ) → is_pair_free empty p ≡ true
-no_pair_held p = (λ t. nothing_held (UdpPort p) t && is_free empty (UdpPort (p + 1))) ∙ nothing_held (UdpPort (p + 1))
-
 -- The least of two tests that agree.
 
-least_same : (t u : ℕ → Bool) (p n : ℕ) → ((i : ℕ) → i < n → t (p + 2 * i) ≡ u (p + 2 * i)) → least_of t p n ≡ least_of u p n
+least_same : (step : ℕ) (t u : ℕ → Bool) (p n : ℕ) → ((i : ℕ) → i < n → t (p + step * i) ≡ u (p + step * i)) → least_of step t p n ≡ least_of step u p n
 unfolding least_of
-least_same t u p zero h = refl
-least_same t u p (suc n) h =
-    let first : p + 2 * 0 ≡ p = omega arith in
-    let here : t p ≡ u p = sym (ap t first) ∙ h 0 (omega arith) ∙ ap u first in
-    let rest : least_of t (p + 2) n ≡ least_of u (p + 2) n = least_same t u (p + 2) n (λ i lt. let next : p + 2 * (i + 1) ≡ p + 2 + 2 * i = omega arith in sym (ap t next) ∙ h (i + 1) (omega (arith, lt)) ∙ ap u next) in
+least_same step t u p zero h = refl
+least_same step t u p (suc n) h =
+    let here : t p ≡ u p = ap t (sym (at_first step p)) ∙ h 0 (omega arith) ∙ ap u (at_first step p) in
+    let rest : least_of step t (p + step) n ≡ least_of step u (p + step) n =
+    least_same step t u (p + step) n (λ i lt. ap t (from_next step p i) ∙ h (i + 1) (omega (arith, lt)) ∙ sym (ap u (from_next step p i))) in
     λ k. cond (here k) (Some p) (rest k)
 
 pub least_pair_same : (t : ℕ → Bool) (w : Whole) (b : Book) (from : ℕ) → ((q : ℕ) → InWhole w (Pair q) → t q ≡ is_pair_free b q) → least_pair_by t w from ≡ least_pair w b from
 unfolding least_pair_by
 least_pair_same t w b from h =
-    least_same (from_on from t) (from_on from (is_pair_free b)) w.first_port w.pairs (λ i lt. ap (λ v. from_on from (λ _. v) (w.first_port + 2 * i)) (h (w.first_port + 2 * i) (i, lt, refl)))
+    least_same 2 (from_on from t) (from_on from (is_pair_free b)) w.first_port w.pairs (λ i lt. ap (λ v. from_on from (λ _. v) (w.first_port + 2 * i)) (h (w.first_port + 2 * i) (i, lt, refl)))
+
+pub least_port_same : (t : ℕ → Bool) (w : Whole) (b : Book) (from : ℕ) → ((q : ℕ) → InWhole w (Port q) → t q ≡ is_port_free b q) → least_port_by t w from ≡ least_port w b from
+unfolding least_port_by
+least_port_same t w b from h =
+    least_same 1 (from_on from t) (from_on from (is_port_free b)) w.first_port (2 * w.pairs)
+    (λ i lt. ap (λ v. from_on from (λ _. v) (w.first_port + 1 * i)) (h (w.first_port + 1 * i) (i, lt, ap (λ i. w.first_port + i) (one-mul i))))
 
 pub chans_same : (b : Book) (p : Pools) (c : ℕ) → ArePoolsOf b p → (k : ℕ) → is_free_chan p.chans c k ≡ is_chan_free b c k
 chans_same b p c ok k = λ t. ok.chans c k t && ok.chans c (k + 1) t
 
--- Counts of what covers a spot.
+-- the two ports of a pair of the whole are ports of the whole
+pub first_port : (w : Whole) (q : ℕ) → InWhole w (Pair q) → InWhole w (Port q)
+first_port w q at = (2 * at.0, omega (arith, at.1), at.2)
 
-is_zero : (n m : ℕ) → n ≡ m → (n == 0) ≡ (m == 0)
-is_zero n m h = ap (λ n. n == 0) h
+pub second_port : (w : Whole) (q : ℕ) → InWhole w (Pair q) → InWhole w (Port (q + 1))
+second_port w q at = (2 * at.0 + 1, omega (arith, at.1), omega (arith, at.2))
 
-both_off : (u v : Bool) → u ≡ false → v ≡ false → (u || v) ≡ false
-both_off u v h k = ap (λ u. u || v) h ∙ k
+pub pairs_same : (b : Book) (p : Pools) → ArePoolsOf b p → (q : ℕ) → InWhole p.pairs.whole (Pair q) → is_free_pair p.pairs q ≡ is_pair_free b q
+pairs_same b p ok q at = λ t. ok.ports q (first_port p.pairs.whole q at) t && ok.ports (q + 1) (second_port p.pairs.whole q at) t
 
-off : (q p : ℕ) → q ≢ p → (q == p) ≡ false
-off q p h = grind (arith, nat_tests)
+-- What is free beside a thing, and without it.
 
 on : (p : ℕ) → (p == p) ≡ true
 on p = grind (arith, nat_tests)
@@ -70,75 +76,40 @@ or_on : (u v : Bool) → v ≡ true → (u || v) ≡ true
 or_on true v h = refl
 or_on false v h = h
 
-elsewhere : (q p : ℕ) → q ≢ p → q ≢ p + 1 → one_if (covers (UdpPort q) (Pair p)) ≡ 0
-elsewhere q p one two = ap one_if (both_off (q == p) (q == p + 1) (off q p one) (off q (p + 1) two))
+pub covers_port : (p : ℕ) → covers (UdpPort p) (Port p) ≡ true
+covers_port p = on p
 
-first_port : (p : ℕ) → one_if (covers (UdpPort p) (Pair p)) ≡ 1
-first_port p = ap one_if (on_or (p == p) (p == p + 1) (on p))
+pub covers_first : (p : ℕ) → covers (UdpPort p) (Pair p) ≡ true
+covers_first p = on_or (p == p) (p == p + 1) (on p)
 
-second_port : (p : ℕ) → one_if (covers (UdpPort (p + 1)) (Pair p)) ≡ 1
-second_port p = ap one_if (or_on (p + 1 == p) (p + 1 == p + 1) (on (p + 1)))
+pub covers_second : (p : ℕ) → covers (UdpPort (p + 1)) (Pair p) ≡ true
+covers_second p = or_on (p + 1 == p) (p + 1 == p + 1) (on (p + 1))
 
--- two pairs of the whole that aren't the same have no port in common
-pairs_apart : (w : Whole) (p q : ℕ) → InWhole w (Pair p) → InWhole w (Pair q) → q ≢ p → (q ≢ p + 1) × (q + 1 ≢ p)
-pairs_apart w p q one two apart = (λ e. absurd (omega (arith, e, one.2, two.2)), λ e. absurd (omega (arith, e, one.2, two.2)))
+pub covers_channel : (c k : ℕ) → covers (Channel c k) (Chan c k) ≡ true
+covers_channel c k = (λ t. on c t && (k == k || k == k + 1)) ∙ on_or (k == k) (k == k + 1) (on k)
 
-module _ (w : Whole) (b c : Book) (p : ℕ) (more : HoldsMore (Pair p) b c) where
-  -- other pairs aren't touched
-  pub pair_untouched : (q : ℕ) → InWhole w (Pair p) → InWhole w (Pair q) → q ≢ p → is_pair_free c q ≡ is_pair_free b q
-  pair_untouched q one two apart =
-      let far = pairs_apart w p q one two apart in
-      let first : amount (covering (UdpPort q)) c ≡ amount (covering (UdpPort q)) b = omega (arith, more (covering (UdpPort q)), elsewhere q p apart far.0) in
-      let second : amount (covering (UdpPort (q + 1))) c ≡ amount (covering (UdpPort (q + 1))) b = omega (arith, more (covering (UdpPort (q + 1))), elsewhere (q + 1) p far.1 (λ e. apart (omega (arith, e)))) in
-      λ t. (first t == 0) && (second t == 0)
-
-  -- a pair that is held isn't free
-  pub pair_taken : is_pair_free c p ≡ false
-  pair_taken = ap (λ u. u && is_free c (UdpPort (p + 1))) (some (amount (covering (UdpPort p)) c) (omega (arith, more (covering (UdpPort p)), first_port p)))
+module _ (x : Thing) (b c : Book) (more : HoldsMore x b c) (q : Spot) where
+  -- with the thing what it covers isn't free, and all else is as without it
+  pub free_beside : is_free c q ≡ (not (covers q x) && is_free b q)
+  free_beside = beside (covers q x) (amount (covering q) b) (amount (covering q) c) (more (covering q))
     where
-      some : (n : ℕ) → 1 ≤ n → (n == 0) ≡ false
-      some n h = grind (arith, nat_tests)
+      beside : (t : Bool) (n m : ℕ) → m ≡ n + one_if t → (m == 0) ≡ (not t && n == 0)
+      beside true n m h = some m (omega (arith, h))
+        where
+          some : (n : ℕ) → 1 ≤ n → (n == 0) ≡ false
+          some n h = grind (arith, nat_tests)
+      beside false n m h = let same : m ≡ n = omega (arith, h) in ap (λ n. n == 0) same
 
-  -- where no port is held twice, the pair is free without the thing
-  pub pair_given : ((q : Spot) → amount (covering q) c ≤ 1) → is_pair_free b p ≡ true
-  pair_given once =
-      let first : amount (covering (UdpPort p)) b ≡ 0 = omega (arith, more (covering (UdpPort p)), first_port p, once (UdpPort p)) in
-      let second : amount (covering (UdpPort (p + 1))) b ≡ 0 = omega (arith, more (covering (UdpPort (p + 1))), second_port p, once (UdpPort (p + 1))) in
-      λ t. (first t == 0) && (second t == 0)
+  pub isnt_free : covers q x ≡ true → is_free c q ≡ false
+  isnt_free is = free_beside ∙ ap (λ t. not t && is_free b q) is
 
-  pub pair_same_chan : (d l : ℕ) → is_free c (Channel d l) ≡ is_free b (Channel d l)
-  pair_same_chan d l = is_zero _ _ (omega (arith, more (covering (Channel d l))))
-
-  pub pair_same_rate : held_rate c ≡ held_rate b
-  pair_same_rate = omega (arith, more rates)
-
-module _ (b c : Book) (conn k : ℕ) (more : HoldsMore (Chan conn k) b c) where
-  pub chan_same_pair : (q : ℕ) → is_pair_free c q ≡ is_pair_free b q
-  chan_same_pair q =
-      let first : amount (covering (UdpPort q)) c ≡ amount (covering (UdpPort q)) b = omega (arith, more (covering (UdpPort q))) in
-      let second : amount (covering (UdpPort (q + 1))) c ≡ amount (covering (UdpPort (q + 1))) b = omega (arith, more (covering (UdpPort (q + 1)))) in
-      λ t. (first t == 0) && (second t == 0)
-
-  pub chan_same_rate : held_rate c ≡ held_rate b
-  chan_same_rate = omega (arith, more rates)
-
-  -- without the channels what they cover is free
-  pub chan_given : (d l : ℕ) → ((q : Spot) → amount (covering q) c ≤ 1) → is_free b (Channel d l) ≡ (covers (Channel d l) (Chan conn k) || is_free c (Channel d l))
-  chan_given d l once = given (covers (Channel d l) (Chan conn k)) (amount (covering (Channel d l)) b) (amount (covering (Channel d l)) c) (more (covering (Channel d l))) (once (Channel d l))
+  -- without it, where nothing is held twice, what it covers is free
+  pub free_without : amount (covering q) c ≤ 1 → is_free b q ≡ (covers q x || is_free c q)
+  free_without once = without (covers q x) (amount (covering q) b) (amount (covering q) c) (more (covering q)) once
     where
-      given : (t : Bool) (n m : ℕ) → m ≡ n + one_if t → m ≤ 1 → (n == 0) ≡ (t || (m == 0))
-      given true n m h le = let none : n ≡ 0 = omega (arith, h, le) in ap (λ n. n == 0) none
-      given false n m h le = let same : n ≡ m = omega (arith, h) in ap (λ n. n == 0) same
-
-  -- the first channel is held
-  pub chan_taken : is_free c (Channel conn k) ≡ false
-  chan_taken = some (amount (covering (Channel conn k)) c) (omega (arith, more (covering (Channel conn k)), covered))
-    where
-      some : (n : ℕ) → 1 ≤ n → (n == 0) ≡ false
-      some n h = grind (arith, nat_tests)
-
-      covered : one_if (covers (Channel conn k) (Chan conn k)) ≡ 1
-      covered = ap one_if ((λ t. on conn t && (k == k || k == k + 1)) ∙ on_or (k == k) (k == k + 1) (on k))
+      without : (t : Bool) (n m : ℕ) → m ≡ n + one_if t → m ≤ 1 → (n == 0) ≡ (t || m == 0)
+      without true n m h le = let none : n ≡ 0 = omega (arith, h, le) in ap (λ n. n == 0) none
+      without false n m h le = let same : n ≡ m = omega (arith, h) in ap (λ n. n == 0) same
 
 -- Records.
 
@@ -150,6 +121,7 @@ held_after w b r k is =
 held_in_whole : (w : Whole) (a : ℕ) (x : Thing) (o : Option Session) → SoundRow w o → Living o (λ f. MayFree f a x) → InWhole w x
 held_in_whole w a x None ok h = absurd h
 held_in_whole w a (Pair p) (Some f) ok h = (ok.in_whole a (Pair p) h.held).0
+held_in_whole w a (Port p) (Some f) ok h = (ok.in_whole a (Port p) h.held).0
 held_in_whole w a (Chan c k) (Some f) ok h = (ok.in_whole a (Chan c k) h.held).0
 held_in_whole w a (Rate n) (Some f) ok h = tt
 
@@ -182,7 +154,7 @@ pub pools_stay : (w : Whole) (b : Book) (r : Record) (p : Pools) → ((k : Holdi
 pools_stay w b r p h g f ok =
     let same = holds_same b r h g f.allowed.0 in
     record {
-      pairs = λ q at. ok.pairs q at ∙ sym (λ t. (same.0 (UdpPort q) t == 0) && (same.0 (UdpPort (q + 1)) t == 0));
-      chans = λ d l. ok.chans d l ∙ sym (is_zero _ _ (same.0 (Channel d l)));
+      ports = λ q at. ok.ports q at ∙ sym (ap (λ n. n == 0) (same.0 (UdpPort q)));
+      chans = λ d l. ok.chans d l ∙ sym (ap (λ n. n == 0) (same.0 (Channel d l)));
       rate = ok.rate ∙ sym same.1;
     }

@@ -1,7 +1,7 @@
 -- A record after a book, and what it holds or frees.
 use Rattle.std.specs.Prelude.{◌≡◌, ◌+◌, ◌≤◌, Bool, true, false}
 use Rattle.rtsp_record.specs.declared.holdings.Thing.{Thing}
-use Rattle.rtsp_record.specs.declared.holdings.Thing.TheVariants.{Pair, Chan, Rate}
+use Rattle.rtsp_record.specs.declared.holdings.Thing.TheVariants.{Pair, Port, Chan, Rate}
 use Rattle.rtsp_record.specs.declared.holdings.Whole.{Whole}
 use Rattle.rtsp_record.specs.declared.changes.Record.{Record}
 use Rattle.rtsp_record.specs.declared.changes.Record.TheVariants.{Hold, Bind}
@@ -28,6 +28,7 @@ pub record IsHeld (w : Whole) (x : Thing) (b c : Book) : Type 0 where
 -- channels
 abbrev pub is_chan : Thing → Bool
 is_chan (Pair p) = false
+is_chan (Port p) = false
 is_chan (Chan c k) = true
 is_chan (Rate n) = false
 

@@ -102,6 +102,10 @@ impl BookRep for IndexedBook {
         self.parts().pools.least_pair(from)
     }
 
+    fn least_port(&self, from: u32) -> Option<u16> {
+        self.parts().pools.least_port(from)
+    }
+
     fn least_chan(&self, conn: u64, wish: Option<u8>) -> Option<u8> {
         self.parts().pools.least_chan(conn, wish)
     }

@@ -1,4 +1,4 @@
-//! What is free of a whole: pairs of ports, channels, and bits of the uplink.
+//! What is free of a whole: ports, channels, and bits of the uplink.
 
 ghost use Rattle.std.specs.Prelude.{◌≡◌, ◌+◌, ◌≤◌, ◌↔◌, ℕ, true, false, IfOk, OnOk, IsOk, IsTrue};
 ghost use Rattle.std.specs.FinMap.{empty};
@@ -6,7 +6,7 @@ ghost use Rattle.indexmap.specs.IndexMap.{spare};
 ghost use Rattle.rtsp_record.specs.Books.{Book, after};
 ghost use Rattle.rtsp_record.specs.Sums.{one_if, held_rate, Channel};
 ghost use Rattle.rtsp_record.specs.Rules.{IsFree};
-ghost use Rattle.rtsp_record.specs.Choices.{HasPorts, is_free, least_pair, chosen_chan};
+ghost use Rattle.rtsp_record.specs.Choices.{HasPorts, is_free, least_pair, least_port, chosen_chan};
 ghost use Rattle.rtsp_index.specs.Following.{Follows, HoldsMore, IsHeld, is_chan, is_chan_hold};
 
 use rtsp_pools::{ChanPool, PairPool, RatePool};
@@ -62,6 +62,7 @@ impl Pools {
     {
         match *thing {
             Thing::Pair(first) => self.pairs.take(first),
+            Thing::Port(port) => self.pairs.take_port(port),
             Thing::Chan(conn, first) => match self.chans.take(conn, first) {
                 Ok(()) => {}
                 Err(_) => unreachable!(),
@@ -79,6 +80,7 @@ impl Pools {
     {
         match *thing {
             Thing::Pair(first) => self.pairs.give(first),
+            Thing::Port(port) => self.pairs.give_port(port),
             Thing::Chan(conn, first) => self.chans.give(conn, first),
             Thing::Rate(bits) => self.rate.give(bits),
         }
@@ -105,6 +107,7 @@ impl Pools {
     {
         match *thing {
             Thing::Pair(first) => self.pairs.is_free(first),
+            Thing::Port(port) => self.pairs.is_free_port(port),
             Thing::Chan(conn, first) => first % 2 == 0 && self.chans.is_free(conn, first),
             Thing::Rate(bits) => bits <= self.rate.free_count(),
         }
@@ -115,6 +118,13 @@ impl Pools {
         ensures { (b : Book) → ArePoolsOf b self.now → result ≡ least_pair self.now.pairs.whole b from }
     {
         self.pairs.least_free(from)
+    }
+
+    /// The least free port not below `from`.
+    pub(crate) fn least_port(&self, from: u32) -> Option<u16>
+        ensures { (b : Book) → ArePoolsOf b self.now → result ≡ least_port self.now.pairs.whole b from }
+    {
+        self.pairs.least_free_port(from)
     }
 
     /// The wish where it is free on the connection, else the least free even pair of channels.

@@ -6,7 +6,7 @@ use Rattle.std.proofs.lemmas.Nat.Bits.{bit_at-zero, bit_at-lt, bit_at_and, bit_a
 use Rattle.std.proofs.lemmas.Bool.Decides.{nat_tests}
 use Rattle.std.proofs.lemmas.Bool.{cases_eq, cases_lt}
 use Rattle.std.proofs.lemmas.List.{get_or_past, get_or_default}
-use Rattle.rtsp_pools.specs.Bits.{bit_of, count_below, IsSummed}
+use Rattle.rtsp_pools.specs.Bits.{bit_of, has, count_below, IsSummed}
 
 -- bits with those below a place masked
 abbrev pub rest_of : ℕ → ℕ → ℕ
@@ -242,6 +242,13 @@ below_limit limit words summary count k sound there =
 -- what is read at a place is the word there
 pub read : (words : List ℕ) (i w : ℕ) → i < length words → w ≡ get_or words i w → w ≡ get_or words i 0
 read words i w within is = is ∙ get_or_default words i w 0 within
+
+-- what the test of a bit says
+pub is_there : (words : List ℕ) (k : ℕ) → has words k ≡ true → bit_of words k ≡ 1
+is_there words k h = is_one (bit_of words k) h
+
+pub isnt_there : (words : List ℕ) (k : ℕ) → has words k ≡ false → bit_of words k ≡ 0
+isnt_there words k h = not_one (bit_of words k) (bit_at-lt (get_or words (k / 64) 0) (k % 64)) h
 
 -- a bit as a test
 pub flag : (words : List ℕ) (k : ℕ) → bit_of words k ≡ cond (nat_eq (bit_of words k) 1) 1 0

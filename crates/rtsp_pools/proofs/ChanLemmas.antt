@@ -5,8 +5,8 @@ use Rattle.std.specs.Int.{bit_at, bit_not, trailing_zeros, w128}
 use Rattle.std.proofs.lemmas.Nat.Bits.{bit_at-lt, bit_at_not, bit_at_ones, bit_at-trailing_zeros}
 use Rattle.rtsp_pools.specs.declared.chan_pool.ChanPool.{ChanPool}
 use Rattle.rtsp_record.specs.Sums.{one_if}
-use Rattle.rtsp_record.specs.Choices.{least_chan_by}
-use Rattle.rtsp_pools.specs.Pools.{held_bits, is_free_channel, is_free_chan, count_of}
+use Rattle.rtsp_record.specs.Choices.{count_of, least_chan_by}
+use Rattle.rtsp_pools.specs.Pools.{held_bits, is_free_channel, is_free_chan}
 use Rattle.rtsp_pools.proofs.LeastLemmas.{chan_found, chan_missing, count_end}
 
 twice : (t : Bool) → (t && t) ≡ t
@@ -69,13 +69,13 @@ module _ (pool : ChanPool) (c bits : ℕ) (are : bits ≡ held_bits pool c) (fit
       (2 * i, ap (λ k. bit_at (held_bits pool c) k == 0) at ∙ ap (λ b. bit_at b i == 0) (sym are) ∙ ap (λ n. n == 0) lowest.1)
 
 -- one more pair looked at
-pub counted_one : (takes : ℕ → Bool) (count n more : ℕ) (t : Bool) → (count ≤ n) × (count ≡ count_of takes 0 n) → takes (2 * n) ≡ t → more ≡ count + one_if t → (more ≤ n + 1) × (more ≡ count_of takes 0 (n + 1))
+pub counted_one : (takes : ℕ → Bool) (count n more : ℕ) (t : Bool) → (count ≤ n) × (count ≡ count_of 2 takes 0 n) → takes (2 * n) ≡ t → more ≡ count + one_if t → (more ≤ n + 1) × (more ≡ count_of 2 takes 0 (n + 1))
 counted_one takes count n more t was is now =
     let next : suc n ≡ n + 1 = omega arith in
     let at : 0 + 2 * n ≡ 2 * n = omega arith in
     let last : one_if (takes (0 + 2 * n)) ≡ one_if t = ap one_if (ap takes at ∙ is) in
-    let more_is : more ≡ count_of takes 0 (suc n) = omega (arith, now, was.1, last, count_end takes 0 n) in
-    (omega (arith, was.0, now, one_small t), more_is ∙ ap (count_of takes 0) next)
+    let more_is : more ≡ count_of 2 takes 0 (suc n) = omega (arith, now, was.1, last, count_end 2 takes 0 n) in
+    (omega (arith, was.0, now, one_small t), more_is ∙ ap (count_of 2 takes 0) next)
   where
     one_small : (t : Bool) → one_if t ≤ 1
     one_small true = omega arith

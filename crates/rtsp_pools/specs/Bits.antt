@@ -1,10 +1,18 @@
 -- Numbers as bits of words of 64 bits, with a summary of the words.
-use Rattle.std.specs.Prelude.{◌≡◌, ℕ, zero, suc, ◌+◌, ◌*◌, ◌/◌, ◌%◌, ◌<◌, ◌≤◌, List, length, slice_index}
+use Rattle.std.specs.Prelude.{◌≡◌, ◌==◌, ℕ, zero, suc, ◌+◌, ◌*◌, ◌/◌, ◌%◌, ◌<◌, ◌≤◌, Bool, ◌&&◌, List, length, slice_index}
 use Rattle.std.specs.Int.{bit_at}
 
 -- the bit of a number; a number past the words has 0
 abbrev pub bit_of : List ℕ → ℕ → ℕ
 bit_of words k = bit_at (slice_index words (k / 64)) (k % 64)
+
+-- a number is there
+abbrev pub has : List ℕ → ℕ → Bool
+has words k = bit_of words k == 1
+
+-- a pair is there exactly where its two numbers are
+abbrev pub ArePairsOf : List ℕ → List ℕ → Type 0
+ArePairsOf numbers pairs = (k : ℕ) → has pairs k ≡ (has numbers (2 * k) && has numbers (2 * k + 1))
 
 -- how many of the first n are there
 unfoldable pub count_below : List ℕ → ℕ → ℕ

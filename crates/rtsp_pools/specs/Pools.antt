@@ -1,25 +1,39 @@
 -- What is free in each pool, and how a pool changes.
-use Rattle.std.specs.Prelude.{◌≡◌, ◌==◌, ℕ, zero, suc, ◌+◌, ◌-◌, ◌/◌, Bool, ◌&&◌, ◌||◌, not, nat_eq, Option, Some, None}
+use Rattle.std.specs.Prelude.{◌≡◌, ◌==◌, ℕ, ◌+◌, ◌-◌, ◌*◌, ◌/◌, Bool, ◌&&◌, ◌||◌, not, nat_eq, Option, Some, None}
 use Rattle.std.specs.Int.{bit_at}
 use Rattle.indexmap.specs.IndexMap.{get}
-use Rattle.rtsp_record.specs.declared.holdings.Thing.TheVariants.{Chan}
-use Rattle.rtsp_record.specs.Sums.{one_if, covers, Channel}
+use Rattle.rtsp_record.specs.declared.holdings.Thing.{Thing}
+use Rattle.rtsp_record.specs.declared.holdings.Thing.TheVariants.{Port, Chan}
+use Rattle.rtsp_record.specs.Sums.{covers, UdpPort, Channel}
+use Rattle.rtsp_record.specs.Rules.{InWhole}
+use Rattle.rtsp_record.specs.Choices.{count_of}
 use Rattle.rtsp_pools.specs.declared.pair_pool.PairPool.{PairPool}
 use Rattle.rtsp_pools.specs.declared.chan_pool.ChanPool.{ChanPool}
-use Rattle.rtsp_pools.specs.Bits.{bit_of}
+use Rattle.rtsp_pools.specs.Bits.{has}
 
--- how many of the n numbers p, p + 2, p + 4 and so on the test takes
-unfoldable pub count_of : (ℕ → Bool) → ℕ → ℕ → ℕ
-count_of takes p zero = 0
-count_of takes p (suc n) = one_if (takes p) + count_of takes (p + 2) n
+-- a port of the whole is free
+abbrev pub is_free_port : PairPool → ℕ → Bool
+is_free_port pool q = has pool.ports.words.items (q - pool.whole.first_port)
 
--- a pair of the whole is free
+-- both ports of a pair of the whole are free
 abbrev pub is_free_pair : PairPool → ℕ → Bool
-is_free_pair pool p = bit_of pool.free.words.items ((p - pool.whole.first_port) / 2) == 1
+is_free_pair pool p = is_free_port pool p && is_free_port pool (p + 1)
+
+-- how many ports are free
+abbrev pub free_ports : PairPool → ℕ
+free_ports pool = count_of 1 (is_free_port pool) pool.whole.first_port (2 * pool.whole.pairs)
 
 -- how many pairs are free
 abbrev pub free_pairs : PairPool → ℕ
-free_pairs pool = count_of (is_free_pair pool) pool.whole.first_port pool.whole.pairs
+free_pairs pool = count_of 2 (is_free_pair pool) pool.whole.first_port pool.whole.pairs
+
+-- of the ports of the whole, what the thing covers isn't free any more, and all else is as it was
+abbrev pub PortsGone : PairPool → PairPool → Thing → Type 0
+PortsGone old new x = (q : ℕ) → InWhole old.whole (Port q) → is_free_port new q ≡ (not (covers (UdpPort q) x) && is_free_port old q)
+
+-- of the ports of the whole, what the thing covers is free, and all else is as it was
+abbrev pub PortsCome : PairPool → PairPool → Thing → Type 0
+PortsCome old new x = (q : ℕ) → InWhole old.whole (Port q) → is_free_port new q ≡ (covers (UdpPort q) x || is_free_port old q)
 
 -- a number that may be missing, as 0
 abbrev pub or_zero : Option ℕ → ℕ
@@ -40,7 +54,7 @@ is_free_chan pool c k = is_free_channel pool c k && is_free_channel pool c (k + 
 
 -- how many even channels of a connection are free with the next
 abbrev pub free_chans : ChanPool → ℕ → ℕ
-free_chans pool c = count_of (is_free_chan pool c) 0 128
+free_chans pool c = count_of 2 (is_free_chan pool c) 0 128
 
 -- what is covered isn't free any more, and all else is as it was
 abbrev pub HasGone : ChanPool → ChanPool → ℕ → ℕ → Type 0

@@ -1,7 +1,7 @@
 //! A set of numbers, in which the least from a number on is found by looking at few words.
 
-ghost use Rattle.std.specs.Prelude.{◌≡◌, ◌≢◌, ℕ, ◌+◌, ◌==◌, ◌<◌, ◌≤◌, ◌^◌, IfOk, IfSome, IfNone};
-ghost use Rattle.rtsp_pools.specs.Bits.{bit_of, count_below, IsSummed};
+ghost use Rattle.std.specs.Prelude.{◌≡◌, ◌≢◌, ℕ, ◌+◌, ◌<◌, ◌≤◌, ◌^◌, IfOk, IfSome, IfNone};
+ghost use Rattle.rtsp_pools.specs.Bits.{bit_of, has, count_below, IsSummed};
 
 use crate::words::{lowest_bit, lowest_number, write_bit};
 use std::alloc::{AllocError, Global};
@@ -79,9 +79,26 @@ impl BitSet {
     /// Whether a number is there.
     pub(crate) fn contains(&self, number: usize) -> bool
         requires { number < self.now.limit }
-        ensures { result ≡ (bit_of self.now.words.items number == 1) }
+        ensures { result ≡ has self.now.words.items number }
     {
         (self.words[number / 64] >> (number % 64)) & 1 == 1
+    }
+
+    /// Puts a number in or takes it out, where it isn't so already.
+    pub(crate) fn put(&mut self, number: usize, is_there: bool)
+        requires { number < self.old.limit }
+        ensures limit { self.new.limit ≡ self.old.limit }
+        ensures there { has self.new.words.items number ≡ is_there }
+        ensures others { (k : ℕ) → k ≢ number → bit_of self.new.words.items k ≡ bit_of self.old.words.items k }
+    {
+        if self.contains(number) == is_there {
+            return;
+        }
+        if is_there {
+            self.insert(number);
+        } else {
+            self.remove(number);
+        }
     }
 
     /// The least number from one on.

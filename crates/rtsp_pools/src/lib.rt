@@ -1,5 +1,5 @@
-//! Pools of what is free: pairs of ports, channels by connection, and bits of the uplink. Only
-//! opening a pool, and holding the first channels of a connection, take memory.
+//! Pools of what is free: ports, each by itself and in pairs, channels by connection, and bits of
+//! the uplink. Only opening a pool, and holding the first channels of a connection, take memory.
 //!
 //! The definitions of `specs/` read in this order: Bits (numbers as bits of words), Pools (what is
 //! free in each pool).

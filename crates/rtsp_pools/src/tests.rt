@@ -42,6 +42,33 @@ fn the_least_free_pair_is_found_over_words_that_are_held(
     Ok(())
 }
 
+const TWO_PAIRS: Whole = Whole {
+    first_port: 5_000,
+    pairs: 2,
+    uplink: 160_000,
+    sessions: 4,
+    journal: 64,
+};
+
+// A pair one of whose ports is held alone isn't free, and its other port is.
+#[test]
+fn a_port_of_a_pair_is_taken_alone(rt: HostRuntime) -> Result<(), AllocError> {
+    let mut pool = PairPool::open(rt.alloc(), &TWO_PAIRS)?;
+    pool.take_port(5_000);
+    assert_eq!(rt; pool.least_free(0), Some(5_002));
+    assert_eq!(rt; pool.least_free_port(0), Some(5_001));
+    pool.take(5_002);
+    assert_eq!(rt; pool.least_free_port(5_002), None);
+    assert_eq!(rt; pool.free_ports(), 1);
+    assert_eq!(rt; pool.is_free_port(5_001), true);
+    assert_eq!(rt; pool.is_free_port(5_003), false);
+    assert_eq!(rt; pool.is_free_port(5_004), false);
+    pool.give_port(5_000);
+    assert_eq!(rt; pool.least_free(0), Some(5_000));
+    assert_eq!(rt; pool.free_count(), 1);
+    Ok(())
+}
+
 // Channels 2 and 3 of connection 1 are held, and none of connection 2.
 #[test]
 fn channels_are_free_by_connection(rt: HostRuntime) -> Result<(), AllocError> {

@@ -3,7 +3,7 @@ use Rattle.std.proofs.Common.{◌≡◌, ℕ, ◌+◌, refl, ap, arith}
 use Rattle.std.specs.Prelude.{Option, Some, None}
 use Rattle.std.specs.FinMap.{get}
 use Rattle.rtsp_record.specs.declared.holdings.Thing.{Thing}
-use Rattle.rtsp_record.specs.declared.holdings.Thing.TheVariants.{Pair, Chan, Rate}
+use Rattle.rtsp_record.specs.declared.holdings.Thing.TheVariants.{Rate}
 use Rattle.rtsp_record.specs.declared.changes.Record.{Record}
 use Rattle.rtsp_record.specs.declared.changes.Record.TheVariants.{Open, Close, Hold, Free, Add, Drop, Move, Touch, Bind, Unbind}
 use Rattle.rtsp_record.specs.Records.{inverse_of, session_of}
@@ -39,13 +39,11 @@ rate_some d n m h = elim (d.rate) as (λ o. rate_there o ≡ Some (Rate m) → o
 
 pub hold_more : (m : Measure) (x : Thing) (d : Admission) → alike x d ≡ None → of_admission m (holding x d) ≡ of_admission m d + m.thing x
 hold_more m (Rate n) d h = omega (arith, ap (if_there (λ n. m.thing (Rate n))) (rate_none d n h))
-hold_more m (Pair p) d h = omega (arith, ap (if_there m.thing) h)
-hold_more m (Chan c k) d h = omega (arith, ap (if_there m.thing) h)
+hold_more m x d h = omega (arith, ap (if_there m.thing) h)
 
 pub free_less : (m : Measure) (x : Thing) (d : Admission) → alike x d ≡ Some x → of_admission m (freed x d) + m.thing x ≡ of_admission m d
 free_less m (Rate n) d h = omega (arith, ap (if_there (λ n. m.thing (Rate n))) (rate_some d n n h))
-free_less m (Pair p) d h = omega (arith, ap (if_there m.thing) h)
-free_less m (Chan c k) d h = omega (arith, ap (if_there m.thing) h)
+free_less m x d h = omega (arith, ap (if_there m.thing) h)
 
 -- the sum over a session with something else under an admission
 pub session-under : (m : Measure) (f : Session) (a : ℕ) (d : Admission) → of_session m (with_under f a d) + of_admission m (under f a) ≡ of_session m f + of_admission m d

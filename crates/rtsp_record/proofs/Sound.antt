@@ -5,7 +5,7 @@ use Rattle.std.proofs.lemmas.Bool.{and_parts}
 use Rattle.std.proofs.lemmas.Bool.Decides.{nat_tests}
 use Rattle.std.specs.FinMap.{get, empty}
 use Rattle.rtsp_record.specs.declared.holdings.Thing.{Thing}
-use Rattle.rtsp_record.specs.declared.holdings.Thing.TheVariants.{Pair, Chan, Rate}
+use Rattle.rtsp_record.specs.declared.holdings.Thing.TheVariants.{Rate}
 use Rattle.rtsp_record.specs.declared.phases.Phase.{Phase}
 use Rattle.rtsp_record.specs.declared.phases.Phase.TheVariants.{Ready, Playing, Ended}
 use Rattle.rtsp_record.specs.declared.streams.Stream.{Stream}
@@ -47,15 +47,21 @@ bare_stream d v e h = none_some v (sym (ap (λ (d : Admission). d.stream) e) ∙
 bare_address : (d : Admission) (x : Thing) → d ≡ bare → d.address ≡ Some x → ⊥
 bare_address d x e h = none_some x (sym (ap (λ (d : Admission). d.address) e) ∙ h)
 
+pub alike_holding : (x : Thing) (d : Admission) → alike x (holding x d) ≡ Some x
+alike_holding (Rate n) d = refl
+alike_holding x d = refl
+
+pub alike_freed : (x : Thing) (d : Admission) → alike x (freed x d) ≡ None
+alike_freed (Rate n) d = refl
+alike_freed x d = refl
+
 pub holding_stream : (x : Thing) (d : Admission) → (holding x d).stream ≡ d.stream
 holding_stream (Rate n) d = refl
-holding_stream (Pair p) d = refl
-holding_stream (Chan c k) d = refl
+holding_stream x d = refl
 
 pub freed_stream : (x : Thing) (d : Admission) → (freed x d).stream ≡ d.stream
 freed_stream (Rate n) d = refl
-freed_stream (Pair p) d = refl
-freed_stream (Chan c k) d = refl
+freed_stream x d = refl
 
 -- what is held is an address of the whole
 abbrev pub Proper : Whole → Admission → Type 0
@@ -63,13 +69,11 @@ Proper w d = (y : Thing) → d.address ≡ Some y → InWhole w y × IsAddress y
 
 hold_proper : (w : Whole) (x : Thing) (d : Admission) → InWhole w x → Proper w d → Proper w (holding x d)
 hold_proper w (Rate n) d h p y e = p y e
-hold_proper w (Pair q) d h p y e = let same : Pair q ≡ y = cc in subst (λ y. InWhole w y × IsAddress y) same (h, tt)
-hold_proper w (Chan c k) d h p y e = let same : Chan c k ≡ y = cc in subst (λ y. InWhole w y × IsAddress y) same (h, tt)
+hold_proper w x d h p y e = let same : x ≡ y = cc in subst (λ y. InWhole w y × IsAddress y) same (h, tt)
 
 free_proper : (w : Whole) (x : Thing) (d : Admission) → Proper w d → Proper w (freed x d)
 free_proper w (Rate n) d p y e = p y e
-free_proper w (Pair q) d p y e = absurd (none_some y e)
-free_proper w (Chan c k) d p y e = absurd (none_some y e)
+free_proper w x d p y e = absurd (none_some y e)
 
 either : (a b : Bool) → a ≡ true → (a || b) ≡ true
 either true b h = refl
@@ -81,8 +85,7 @@ or_other false b h = h
 
 pub holds_some : (x : Thing) (d : Admission) → alike x d ≡ Some x → is_holding d ≡ true
 holds_some (Rate n) d h = either (is_some d.rate) (is_some d.address) (elim (d.rate) as (λ o. rate_there o ≡ Some (Rate n) → is_some o ≡ true) [ None ↦ λ e. absurd cc | Some m ↦ λ e. refl ] h)
-holds_some (Pair p) d h = or_other (is_some d.rate) (is_some d.address) (ap is_some h)
-holds_some (Chan c k) d h = or_other (is_some d.rate) (is_some d.address) (ap is_some h)
+holds_some x d h = or_other (is_some d.rate) (is_some d.address) (ap is_some h)
 
 -- how many hold something, after a change under one admission
 pub holding-under : (f : Session) (a : ℕ) (d : Admission) → admissions_holding (with_under f a d) + one_if (is_holding (under f a)) ≡ admissions_holding f + one_if (is_holding d)
@@ -248,8 +251,7 @@ room_once w b r q g le = omega (arith, le)
 
 fitting_rate : (w : Whole) (b : Book) (x : Thing) → FitsRate w b x → amount rates b ≤ w.uplink → amount rates b + rate_of x ≤ w.uplink
 fitting_rate w b (Rate n) fits le = fits
-fitting_rate w b (Pair p) fits le = omega (arith, le)
-fitting_rate w b (Chan c k) fits le = omega (arith, le)
+fitting_rate w b x fits le = omega (arith, le)
 
 pub room_rate : (w : Whole) (b : Book) (r : Record) → Others w r b → amount rates b ≤ w.uplink → amount rates b + gain rates r ≤ w.uplink
 room_rate w b (Hold k) g le = fitting_rate w b k.thing g.rate le

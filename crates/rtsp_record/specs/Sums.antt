@@ -1,7 +1,7 @@
 -- Sums and counts over all that stands in a book.
 use Rattle.std.specs.Prelude.{◌==◌, ℕ, ◌+◌, Bool, false, ◌&&◌, ◌||◌, not, cond, is_some, Option, Some, None}
 use Rattle.rtsp_record.specs.declared.holdings.Thing.{Thing}
-use Rattle.rtsp_record.specs.declared.holdings.Thing.TheVariants.{Pair, Chan, Rate}
+use Rattle.rtsp_record.specs.declared.holdings.Thing.TheVariants.{Pair, Port, Chan, Rate}
 use Rattle.rtsp_record.specs.declared.phases.Phase.{Phase}
 use Rattle.rtsp_record.specs.declared.phases.Phase.TheVariants.{Ready, Playing, Ended}
 use Rattle.rtsp_record.specs.declared.streams.Stream.{Stream}
@@ -58,6 +58,7 @@ bindings c i = record nothing { binding = λ k. one_if (k.0 == c && k.1 == i) }
 abbrev pub rate_of : Thing → ℕ
 rate_of (Rate n) = n
 rate_of (Pair p) = 0
+rate_of (Port p) = 0
 rate_of (Chan c k) = 0
 
 -- held bits
@@ -69,12 +70,14 @@ pub data Spot : Type 0 where
   UdpPort : (p : ℕ) → Spot
   Channel : (c k : ℕ) → Spot
 
--- a pair covers two ports, and channels cover two of their connection
+-- a pair covers two ports, a port covers itself, and channels cover two of their connection
 abbrev pub covers : Spot → Thing → Bool
 covers (UdpPort q) (Pair p) = q == p || q == p + 1
+covers (UdpPort q) (Port p) = q == p
 covers (UdpPort q) (Chan c k) = false
 covers (UdpPort q) (Rate n) = false
 covers (Channel d l) (Pair p) = false
+covers (Channel d l) (Port p) = false
 covers (Channel d l) (Chan c k) = d == c && (l == k || l == k + 1)
 covers (Channel d l) (Rate n) = false
 

@@ -7,6 +7,8 @@ use crate::streams::Stream;
 pub enum Thing {
     /// The UDP port with this number and the next, for RTP and RTCP (RFC 3550 section 11).
     Pair(u16),
+    /// The one UDP port with this number, for RTP and RTCP both (RFC 5761).
+    Port(u16),
     /// The interleaved channel with this number and the next, of a connection (RFC 7826
     /// section 14).
     Chan(u64, u8),
@@ -19,7 +21,7 @@ pub enum Thing {
 pub struct Admission {
     /// Bits per second of the uplink.
     pub rate: Option<u64>,
-    /// A pair of ports, or channels.
+    /// A pair of ports, one port, or channels.
     pub address: Option<Thing>,
     pub stream: Option<Stream>,
 }

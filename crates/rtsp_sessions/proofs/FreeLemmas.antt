@@ -2,13 +2,13 @@
 use Rattle.std.proofs.Common.{◌≡◌, ◌==◌, ℕ, ◌+◌, ◌-◌, ◌/◌, ◌%◌, ◌<◌, ◌≤◌, Bool, true, false, ◌&&◌, ◌||◌, refl, sym, ◌∙◌, ap, arith}
 use Rattle.std.specs.Prelude.{IsTrue, nat_eq, nat_lt}
 use Rattle.std.proofs.lemmas.Bool.Decides.{nat_tests}
-use Rattle.rtsp_record.specs.declared.holdings.Thing.TheVariants.{Pair, Chan}
+use Rattle.rtsp_record.specs.declared.holdings.Thing.TheVariants.{Pair, Port, Chan}
 use Rattle.rtsp_record.specs.declared.holdings.Whole.{Whole}
 use Rattle.rtsp_record.specs.Books.{Book}
 use Rattle.rtsp_record.specs.Sums.{UdpPort, Channel, amount, covering}
 use Rattle.rtsp_record.specs.Rules.{InWhole, IsFree}
-use Rattle.rtsp_record.specs.Choices.{is_pair_free, is_chan_free}
-use Rattle.rtsp_record.proofs.Choices.{pair_is_free, chan_is_free}
+use Rattle.rtsp_record.specs.Choices.{is_port_free, is_pair_free, is_chan_free}
+use Rattle.rtsp_record.proofs.Choices.{pair_is_free, port_is_free, chan_is_free}
 
 pub zero_is : (n m : ℕ) → n ≡ m → (IsTrue (nat_eq n 0) → m ≡ 0) × (m ≡ 0 → IsTrue (nat_eq n 0))
 zero_is n m same = (λ h. grind (arith, nat_tests), λ h. grind (arith, nat_tests))
@@ -62,6 +62,12 @@ free_pair w b p r inside is = (
   λ f. is ∙ both_zero (amount (covering (UdpPort p)) b) (amount (covering (UdpPort (p + 1))) b)
       (f.free (UdpPort p) (first_of_two (p == p) (p == p + 1) (itself p)))
       (f.free (UdpPort (p + 1)) (second_of_two (p + 1 == p) (p + 1 == p + 1) (itself (p + 1)))),
+)
+
+pub free_port : (w : Whole) (b : Book) (p : ℕ) (r : Bool) → InWhole w (Port p) → r ≡ is_port_free b p → (IsTrue r → IsFree w b (Port p)) × (IsFree w b (Port p) → IsTrue r)
+free_port w b p r inside is = (
+  λ h. port_is_free w b p inside (sym is ∙ h),
+  λ f. is ∙ ap (λ n. n == 0) (f.free (UdpPort p) (itself p)),
 )
 
 pub free_chan : (w : Whole) (b : Book) (c k : ℕ) (r : Bool) → InWhole w (Chan c k) → r ≡ is_chan_free b c k → (IsTrue r → IsFree w b (Chan c k)) × (IsFree w b (Chan c k) → IsTrue r)

@@ -1,11 +1,13 @@
--- The chosen pair is the least: no free pair of the whole that is not below `from` is less, and where none is chosen there is none.
-use Rattle.std.proofs.Common.{◌≡◌, ℕ, ◌+◌, ◌*◌, ◌<◌, ◌≤◌, zero, suc, Bool, true, false, ◌&&◌, cond, refl, sym, ◌∙◌, ap, subst, arith}
-use Rattle.std.specs.Prelude.{Option, Some, None, nat_le}
+-- The chosen pair is the least: no free pair of the whole that is not below `from` is less, and where none is chosen there is none. So is the chosen port.
+use Rattle.std.proofs.Common.{◌≡◌, ℕ, ◌+◌, ◌*◌, ◌<◌, ◌≤◌, zero, suc, Bool, true, false, cond, refl, sym, ◌∙◌, ap, subst, arith}
+use Rattle.std.specs.Prelude.{Option, Some, None}
+use Rattle.std.proofs.Math.Nat.{one-mul}
 use Rattle.std.proofs.lemmas.Bool.Decides.{nat_tests}
 use Rattle.rtsp_record.specs.declared.holdings.Whole.{Whole}
 use Rattle.rtsp_record.specs.declared.phases.Phase.TheVariants.{Playing}
 use Rattle.rtsp_record.specs.Books.{Book}
-use Rattle.rtsp_record.specs.Choices.{from_on, is_pair_free, least_of, least_pair_by, least_pair}
+use Rattle.rtsp_record.specs.Choices.{from_on, is_port_free, is_pair_free, least_of, least_pair_by, least_pair, least_port_by, least_port}
+use Rattle.rtsp_record.proofs.Choices.{at_first, from_next}
 use Rattle.rtsp_record.specs.Moments.{due}
 
 -- not more than this number
@@ -13,25 +15,33 @@ abbrev pub AtMost : Option ℕ → ℕ → Type 0
 AtMost None p = ⊥
 AtMost (Some l) p = l ≤ p
 
-least_at : (takes : ℕ → Bool) (p n i : ℕ) → i < n → takes (p + 2 * i) ≡ true → AtMost (least_of takes p n) (p + 2 * i)
+least_at : (step : ℕ) (takes : ℕ → Bool) (p n i : ℕ) → i < n → takes (p + step * i) ≡ true → AtMost (least_of step takes p n) (p + step * i)
 unfolding least_of
-least_at takes p zero i lt h = absurd (omega (arith, lt))
-least_at takes p (suc n) zero lt h =
-    let same : p + 2 * zero ≡ p = omega arith in
-    elim (takes p) as (λ t. takes p ≡ t → AtMost (cond t (Some p) (least_of takes (p + 2) n)) (p + 2 * zero)) [
-      | true ↦ λ _. omega arith
-      | false ↦ λ off. absurd (cc (sym off ∙ sym (ap takes same) ∙ h))
+least_at step takes p zero i lt h = absurd (omega (arith, lt))
+least_at step takes p (suc n) zero lt h =
+    elim (takes p) as (λ t. takes p ≡ t → AtMost (cond t (Some p) (least_of step takes (p + step) n)) (p + step * zero)) [
+      | true ↦ λ _. omega (arith, at_first step p)
+      | false ↦ λ off. absurd (cc (sym off ∙ sym (ap takes (at_first step p)) ∙ h))
     ] refl
-least_at takes p (suc n) (suc k) lt h =
-    let same : p + 2 + 2 * k ≡ p + 2 * suc k = omega arith in
-    elim (takes p) as (λ t. AtMost (cond t (Some p) (least_of takes (p + 2) n)) (p + 2 * suc k)) [
+least_at step takes p (suc n) (suc k) lt h =
+    let next : k + 1 ≡ suc k = omega arith in
+    let same : p + step + step * k ≡ p + step * suc k = from_next step p k ∙ ap (λ i. p + step * i) next in
+    elim (takes p) as (λ t. AtMost (cond t (Some p) (least_of step takes (p + step) n)) (p + step * suc k)) [
       | true ↦ omega arith
-      | false ↦ subst (AtMost (least_of takes (p + 2) n)) same (least_at takes (p + 2) n k (omega (arith, lt)) (ap takes same ∙ h))
+      | false ↦ subst (AtMost (least_of step takes (p + step) n)) same (least_at step takes (p + step) n k (omega (arith, lt)) (ap takes same ∙ h))
     ]
 
 pub least_is : (w : Whole) (b : Book) (from i : ℕ) → i < w.pairs → from ≤ w.first_port + 2 * i → is_pair_free b (w.first_port + 2 * i) ≡ true → AtMost (least_pair w b from) (w.first_port + 2 * i)
 unfolding least_pair_by
-least_is w b from i lt le free = least_at (from_on from (is_pair_free b)) w.first_port w.pairs i lt (grind (arith, nat_tests))
+least_is w b from i lt le free = least_at 2 (from_on from (is_pair_free b)) w.first_port w.pairs i lt (grind (arith, nat_tests))
+
+pub least_port_is : (w : Whole) (b : Book) (from i : ℕ) → i < 2 * w.pairs → from ≤ w.first_port + i → is_port_free b (w.first_port + i) ≡ true → AtMost (least_port w b from) (w.first_port + i)
+unfolding least_port_by
+least_port_is w b from i lt le free =
+    let at : w.first_port + 1 * i ≡ w.first_port + i = omega (arith, one-mul i) in
+    let takes = from_on from (is_port_free b) in
+    let is : takes (w.first_port + i) ≡ true = grind (arith, nat_tests) in
+    subst (AtMost (least_port w b from)) at (least_at 1 takes w.first_port (2 * w.pairs) i lt (ap takes at ∙ is))
 
 -- how far a play of 500 units of 20 milliseconds is
 due_first : due (Playing 0 500 0 0) 20 0 ≡ 1

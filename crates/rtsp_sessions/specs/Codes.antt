@@ -3,9 +3,7 @@ use Rattle.std.specs.Prelude.{ℕ, Option, refl}
 use Rattle.std.specs.Coded.{Coded, code_by, coded×, coded_ℕ, coded_option}
 use Rattle.std.specs.FinMap.{code}
 use Rattle.rtsp_record.specs.declared.holdings.Admission.{Admission}
-use Rattle.rtsp_record.specs.declared.holdings.Thing.{Thing}
 use Rattle.rtsp_record.specs.declared.phases.Phase.{Phase}
-use Rattle.rtsp_record.specs.declared.streams.Stream.{Stream}
 use Rattle.rtsp_record.specs.Tables.{Table}
 use Rattle.rtsp_record.specs.Books.{Session}
 

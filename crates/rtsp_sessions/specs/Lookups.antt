@@ -1,6 +1,6 @@
 -- What look-ups give, and which changes want no memory.
 use Rattle.std.specs.Prelude.{◌==◌, ℕ, Bool, false, ◌&&◌, nat_le, List, [], ◌∷◌, option_map, Option, Some, None}
-use Rattle.std.specs.FinMap.{get, entries}
+use Rattle.std.specs.FinMap.{get}
 use Rattle.rtsp_record.specs.declared.changes.Record.{Record}
 use Rattle.rtsp_record.specs.declared.changes.Record.TheVariants.{Open, Hold, Add, Bind}
 use Rattle.rtsp_record.specs.Books.{Session, Book}

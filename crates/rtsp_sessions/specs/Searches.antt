@@ -2,7 +2,7 @@
 use Rattle.std.specs.Prelude.{◌==◌, ℕ, Bool, false, ◌||◌, nat_le, if◌then◌else◌, List, [], ◌∷◌, is_some, Option, Some, None}
 use Rattle.std.specs.FinMap.{entries}
 use Rattle.rtsp_record.specs.declared.holdings.Thing.{Thing}
-use Rattle.rtsp_record.specs.declared.holdings.Thing.TheVariants.{Pair, Chan, Rate}
+use Rattle.rtsp_record.specs.declared.holdings.Thing.TheVariants.{Pair, Port, Chan, Rate}
 use Rattle.rtsp_record.specs.declared.streams.Stream.{Stream}
 use Rattle.rtsp_record.specs.declared.holdings.Admission.{Admission}
 use Rattle.rtsp_record.specs.Books.{Session}
@@ -29,6 +29,7 @@ is_expired now e = nat_le e.1.expires now
 abbrev pub is_chan_of : ℕ → Option Thing → Bool
 is_chan_of c None = false
 is_chan_of c (Some (Pair p)) = false
+is_chan_of c (Some (Port p)) = false
 is_chan_of c (Some (Chan d k)) = d == c
 is_chan_of c (Some (Rate n)) = false
 

@@ -121,6 +121,10 @@ impl BookRep for PlainBook {
         choices::least_pair(self.whole(), self.rows(), from)
     }
 
+    fn least_port(&self, from: u32) -> Option<u16> {
+        choices::least_port(self.whole(), self.rows(), from)
+    }
+
     fn least_chan(&self, conn: u64, wish: Option<u8>) -> Option<u8> {
         choices::chosen_chan(self.rows(), conn, wish)
     }

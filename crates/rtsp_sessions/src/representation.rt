@@ -6,7 +6,7 @@ ghost use Rattle.rtsp_record.specs.declared.holdings.Whole.{Whole};
 ghost use Rattle.rtsp_record.specs.Books.{Book, after_all};
 ghost use Rattle.rtsp_record.specs.Sums.{held_rate, owed, living};
 ghost use Rattle.rtsp_record.specs.Rules.{Allowed, AllAllowed};
-ghost use Rattle.rtsp_record.specs.Choices.{HasPorts, least_pair, chosen_chan};
+ghost use Rattle.rtsp_record.specs.Choices.{HasPorts, least_pair, least_port, chosen_chan};
 ghost use Rattle.rtsp_sessions.specs.Lookups.{TakesNoMemory, session_at, first_from, with_id_in, with_startup_in, expired_in, on_conn_in};
 
 use crate::views::SessionView;
@@ -69,6 +69,10 @@ pub trait BookRep: Drop {
     /// The least free pair of ports not below `from`, by its first port.
     fn least_pair(&self, from: u32) -> Option<u16>
         ensures { result ≡ least_pair (whole_of self.now) (contents self.now) from };
+
+    /// The least free port not below `from`, for RTP and RTCP both (RFC 5761).
+    fn least_port(&self, from: u32) -> Option<u16>
+        ensures { result ≡ least_port (whole_of self.now) (contents self.now) from };
 
     /// The wish where its two channels of the connection are free, else the least free even pair of
     /// channels there.

@@ -74,6 +74,7 @@ fn covers_port(thing: &Thing, port: u32) -> bool
 {
     match *thing {
         Thing::Pair(first) => port == u32::from(first) || port == u32::from(first) + 1,
+        Thing::Port(only) => port == u32::from(only),
         Thing::Chan(_, _) | Thing::Rate(_) => false,
     }
 }
@@ -86,7 +87,7 @@ fn covers_channel(thing: &Thing, conn: u64, channel: u16) -> bool
         Thing::Chan(of, first) => {
             conn == of && (channel == u16::from(first) || channel == u16::from(first) + 1)
         }
-        Thing::Pair(_) | Thing::Rate(_) => false,
+        Thing::Pair(_) | Thing::Port(_) | Thing::Rate(_) => false,
     }
 }
 
@@ -98,7 +99,7 @@ fn of_thing(tally: &Tally, thing: &Thing) -> u128
     match *tally {
         Tally::Rates => match *thing {
             Thing::Rate(bits) => u128::from(bits),
-            Thing::Pair(_) | Thing::Chan(_, _) => 0,
+            Thing::Pair(_) | Thing::Port(_) | Thing::Chan(_, _) => 0,
         },
         Tally::Port(port) => u128::from(covers_port(thing, port)),
         Tally::Channel(conn, channel) => u128::from(covers_channel(thing, conn, channel)),

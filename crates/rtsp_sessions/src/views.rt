@@ -252,7 +252,7 @@ fn with_thing(held: Admission, thing: &Thing) -> Admission
             rate: Some(bits),
             ..held
         },
-        Thing::Pair(_) | Thing::Chan(_, _) => Admission {
+        Thing::Pair(_) | Thing::Port(_) | Thing::Chan(_, _) => Admission {
             address: Some(*thing),
             ..held
         },
@@ -264,7 +264,7 @@ fn without_thing(held: Admission, thing: &Thing) -> Admission
 {
     match *thing {
         Thing::Rate(_) => Admission { rate: None, ..held },
-        Thing::Pair(_) | Thing::Chan(_, _) => Admission {
+        Thing::Pair(_) | Thing::Port(_) | Thing::Chan(_, _) => Admission {
             address: None,
             ..held
         },

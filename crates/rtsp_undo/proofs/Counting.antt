@@ -5,9 +5,8 @@ use Rattle.std.proofs.lemmas.Bool.{and_parts}
 use Rattle.std.proofs.lemmas.Bool.Decides.{nat_tests}
 use Rattle.rtsp_record.specs.declared.holdings.Whole.{Whole}
 use Rattle.rtsp_record.specs.Sums.{one_if}
-use Rattle.rtsp_record.specs.Choices.{least_of, from_on, least_pair_by}
+use Rattle.rtsp_record.specs.Choices.{least_of, count_of, from_on, least_pair_by}
 use Rattle.rtsp_record.proofs.Choices.{least_found, pair_found}
-use Rattle.rtsp_undo.specs.Pools.{count_of}
 use Rattle.rtsp_undo.proofs.Pools.{count_same}
 
 -- from a number on, and before it
@@ -36,27 +35,27 @@ count_few step takes p (suc n) = omega (arith, at_most (takes p), count_few step
     at_most false = omega arith
 
 -- after the least one there is one less
-next_of : (takes : ℕ → Bool) (from p n l : ℕ) → least_of (from_on from takes) p n ≡ Some l → count_of 2 (from_on from takes) p n ≡ 1 + count_of 2 (from_on (l + 1) takes) p n
+next_of : (takes : ℕ → Bool) (from p n l : ℕ) → least_of 2 (from_on from takes) p n ≡ Some l → count_of 2 (from_on from takes) p n ≡ 1 + count_of 2 (from_on (l + 1) takes) p n
 unfolding least_of count_of
 next_of takes from p zero l is = absurd cc
 next_of takes from p (suc n) l is =
-    elim (from_on from takes p) as (λ t. from_on from takes p ≡ t → cond t (Some p) (least_of (from_on from takes) (p + 2) n) ≡ Some l → one_if (from_on from takes p) + count_of 2 (from_on from takes) (p + 2) n ≡ 1 + (one_if (from_on (l + 1) takes p) + count_of 2 (from_on (l + 1) takes) (p + 2) n)) [
+    elim (from_on from takes p) as (λ t. from_on from takes p ≡ t → cond t (Some p) (least_of 2 (from_on from takes) (p + 2) n) ≡ Some l → one_if (from_on from takes p) + count_of 2 (from_on from takes) (p + 2) n ≡ 1 + (one_if (from_on (l + 1) takes p) + count_of 2 (from_on (l + 1) takes) (p + 2) n)) [
       | true ↦ λ on e.
           let same : p ≡ l = cc in
           let low : from ≤ p = is_from from p (and_parts (nat_le from p) (takes p) on).0 in
           let rest = count_same 2 (from_on from takes) (from_on (l + 1) takes) (p + 2) n (λ q le. on_from from q takes (omega (arith, low, le)) ∙ sym (on_from (l + 1) q takes (omega (arith, same, le)))) in
           omega (arith, ap one_if on, ap one_if (off_before (l + 1) p takes (omega (arith, same))), rest)
       | false ↦ λ off e.
-          let found = least_found (from_on from takes) (p + 2) n l e in
+          let found = least_found 2 (from_on from takes) (p + 2) n l e in
           omega (arith, ap one_if off, ap one_if (off_before (l + 1) p takes (omega (arith, found.at))), next_of takes from (p + 2) n l e)
     ] refl is
 
 -- where none is found there is none
-none_of : (takes : ℕ → Bool) (p n : ℕ) → least_of takes p n ≡ None → count_of 2 takes p n ≡ 0
+none_of : (takes : ℕ → Bool) (p n : ℕ) → least_of 2 takes p n ≡ None → count_of 2 takes p n ≡ 0
 unfolding least_of count_of
 none_of takes p zero is = refl
 none_of takes p (suc n) is =
-    elim (takes p) as (λ t. takes p ≡ t → cond t (Some p) (least_of takes (p + 2) n) ≡ None → one_if (takes p) + count_of 2 takes (p + 2) n ≡ 0) [
+    elim (takes p) as (λ t. takes p ≡ t → cond t (Some p) (least_of 2 takes (p + 2) n) ≡ None → one_if (takes p) + count_of 2 takes (p + 2) n ≡ 0) [
       | true ↦ λ _ e. absurd cc
       | false ↦ λ off e. omega (arith, ap one_if off, none_of takes (p + 2) n e)
     ] refl is

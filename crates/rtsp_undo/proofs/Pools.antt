@@ -5,23 +5,22 @@ use Rattle.std.specs.Prelude.{Option, Some, None, sum_by}
 use Rattle.std.proofs.lemmas.List.Sums.{sum_by-cons}
 use Rattle.std.specs.FinMap.{empty, entries}
 use Rattle.rtsp_record.specs.declared.holdings.Thing.{Thing}
-use Rattle.rtsp_record.specs.declared.holdings.Thing.TheVariants.{Pair, Chan, Rate}
+use Rattle.rtsp_record.specs.declared.holdings.Thing.TheVariants.{Pair, Port, Chan, Rate}
 use Rattle.rtsp_record.specs.declared.holdings.Whole.{Whole}
 use Rattle.rtsp_record.specs.declared.changes.Entry.{Entry}
-use Rattle.rtsp_record.specs.declared.streams.Stream.{Stream}
 use Rattle.rtsp_record.specs.declared.changes.Record.{Record}
 use Rattle.rtsp_record.specs.declared.changes.Record.TheVariants.{Open, Close, Hold, Free, Add, Drop, Move, Touch, Bind, Unbind}
 use Rattle.rtsp_record.specs.Records.{holds}
-use Rattle.rtsp_record.specs.Books.{Session, Book, after, after_all, records_of}
+use Rattle.rtsp_record.specs.Books.{Session, Book, after, after_all, records_of, book_of}
 use Rattle.rtsp_record.specs.declared.holdings.Admission.{Admission}
 use Rattle.rtsp_record.specs.Sums.{Measure, nothing, one_if, if_there, of_admission, of_session, amount, UdpPort, covering}
-use Rattle.rtsp_record.specs.Rules.{Allowed, AllAllowed}
+use Rattle.rtsp_record.specs.Rules.{Allowed, AllAllowed, IsLegal}
 use Rattle.rtsp_record.specs.Sound.{Sound}
 use Rattle.rtsp_record.proofs.Balance.{balance}
 use Rattle.rtsp_record.proofs.Sound.{same_nat, amount-empty, sound-empty, sound-after}
 use Rattle.rtsp_record.proofs.Back.{allowed-inverse, after-inverse}
-use Rattle.rtsp_record.specs.Choices.{is_free}
-use Rattle.rtsp_undo.specs.Pools.{pairs, ports, count_of, free_ports, AllPorts}
+use Rattle.rtsp_record.specs.Choices.{count_of, is_free}
+use Rattle.rtsp_undo.specs.Pools.{pairs, singles, ports, free_ports, AllPorts}
 
 -- what counts things alone
 abbrev things : (Thing → ℕ) → Measure
@@ -85,10 +84,12 @@ counted_still : (w : Whole) (b c : Book) → ((g : Thing → ℕ) → amount (th
 counted_still w b c same = counted_same w b c (same ports.thing) (λ q. same (covering (UdpPort q)).thing)
 
 counted_hold : (w : Whole) (b : Book) (s a : ℕ) (x : Thing) → Allowed w b (holds s a x) → counted w (after b (holds s a x)) ≡ counted w b
-counted_hold w b s a (Rate n) h =
-    counted_same w b (after b (holds s a (Rate n))) (omega (arith, balance ports b (holds s a (Rate n)) h.0)) (λ q. omega (arith, balance (covering (UdpPort q)) b (holds s a (Rate n)) h.0))
-counted_hold w b s a (Chan c k) h =
-    counted_same w b (after b (holds s a (Chan c k))) (omega (arith, balance ports b (holds s a (Chan c k)) h.0)) (λ q. omega (arith, balance (covering (UdpPort q)) b (holds s a (Chan c k)) h.0))
+counted_hold w b s a (Port x) h =
+    let c = after b (holds s a (Port x)) in
+    let place = h.1.in_whole in
+    let free : held_at b x ≡ 0 = h.1.free (UdpPort x) (same_nat x) in
+    let more : (q : ℕ) → held_at c q ≡ held_at b q + one_if (q == x) = λ q. omega (arith, balance (covering (UdpPort q)) b (holds s a (Port x)) h.0) in
+    omega (arith, balance ports b (holds s a (Port x)) h.0, free_less (held_at b) (held_at c) w.first_port (2 * w.pairs) place.0 x place.1 place.2 more free)
 counted_hold w b s a (Pair x) h =
     let c = after b (holds s a (Pair x)) in
     let place = h.1.in_whole in
@@ -104,6 +105,8 @@ counted_hold w b s a (Pair x) h =
     one_of : (t u : Bool) → u ≡ true → (t || u) ≡ true
     one_of true u h = refl
     one_of false u h = h
+counted_hold w b s a x h =
+    counted_same w b (after b (holds s a x)) (omega (arith, balance ports b (holds s a x) h.0)) (λ q. omega (arith, balance (covering (UdpPort q)) b (holds s a x) h.0))
 
 counted_after : (w : Whole) (b : Book) (r : Record) → Sound w b → Allowed w b r → counted w (after b r) ≡ counted w b
 counted_after w b (Hold k) ok h = counted_hold w b k.session k.admission k.thing h
@@ -132,39 +135,39 @@ all_free p (suc n) =
 pub ports_law : (w : Whole) (j : List Entry) → AllPorts w j
 ports_law w j legal = counted_all w empty (records_of j) (sound-empty w) legal ∙ omega (arith, amount-empty ports, all_free w.first_port (2 * w.pairs))
 
--- Two measures, one of which counts twice as much at least.
+-- A measure that counts as two others do, the first of them twice.
 
-if_there_twice : {X : Type 0} (f g : X → ℕ) (o : Option X) → ((x : X) → 2 * f x ≤ g x) → 2 * if_there f o ≤ if_there g o
-if_there_twice f g None le = omega arith
-if_there_twice f g (Some x) le = le x
+if_there_both : {X : Type 0} (f g h : X → ℕ) (o : Option X) → ((x : X) → h x ≡ 2 * f x + g x) → if_there h o ≡ 2 * if_there f o + if_there g o
+if_there_both f g h None is = omega arith
+if_there_both f g h (Some x) is = is x
 
-sum_twice : {X : Type 0} (f g : X → ℕ) (xs : List X) → ((x : X) → 2 * f x ≤ g x) → 2 * sum_by f xs ≤ sum_by g xs
-sum_twice f g [] le = omega arith
-sum_twice f g (x ∷ xs) le = omega (arith, sum_by-cons f x xs, sum_by-cons g x xs, le x, sum_twice f g xs le)
+sum_both : {X : Type 0} (f g h : X → ℕ) (xs : List X) → ((x : X) → h x ≡ 2 * f x + g x) → sum_by h xs ≡ 2 * sum_by f xs + sum_by g xs
+sum_both f g h [] is = omega arith
+sum_both f g h (x ∷ xs) is = omega (arith, sum_by-cons f x xs, sum_by-cons g x xs, sum_by-cons h x xs, is x, sum_both f g h xs is)
 
-things_twice : (f g : Thing → ℕ) (b : Book) → ((x : Thing) → 2 * f x ≤ g x) → 2 * amount (things f) b ≤ amount (things g) b
-things_twice f g b le = sum_twice (λ (e : ℕ × Session). of_session (things f) e.1) (λ (e : ℕ × Session). of_session (things g) e.1) (entries b) (λ e. session_twice e.1)
+nought : {X : Type 0} (o : Option X) → if_there (λ _. 0) o ≡ 0
+nought None = refl
+nought (Some x) = refl
+
+admission_both : (f g h : Thing → ℕ) (d : Admission) → ((x : Thing) → h x ≡ 2 * f x + g x) → of_admission (things h) d ≡ 2 * of_admission (things f) d + of_admission (things g) d
+admission_both f g h d is = omega (arith, if_there_both (λ n. f (Rate n)) (λ n. g (Rate n)) (λ n. h (Rate n)) d.rate (λ n. is (Rate n)), if_there_both f g h d.address is, nought d.stream)
+
+session_both : (f g h : Thing → ℕ) (s : Session) → ((x : Thing) → h x ≡ 2 * f x + g x) → of_session (things h) s ≡ 2 * of_session (things f) s + of_session (things g) s
+session_both f g h s is =
+    let each : (e : ℕ × Admission) → of_admission (things h) e.1 ≡ 2 * of_admission (things f) e.1 + of_admission (things g) e.1 = λ e. admission_both f g h e.1 is in
+    omega (arith, sum_both (λ (e : ℕ × Admission). of_admission (things f) e.1) (λ (e : ℕ × Admission). of_admission (things g) e.1) (λ (e : ℕ × Admission). of_admission (things h) e.1) (entries s.admissions) each, nought s.binding)
+
+-- a pair covers two ports, and a port by itself covers one
+pub covered_by : (b : Book) → amount ports b ≡ 2 * amount pairs b + amount singles b
+covered_by b =
+    sum_both (λ (e : ℕ × Session). of_session pairs e.1) (λ (e : ℕ × Session). of_session singles e.1) (λ (e : ℕ × Session). of_session ports e.1) (entries b) (λ e. session_both pairs.thing singles.thing ports.thing e.1 each)
   where
-    admission_twice : (d : Admission) → 2 * of_admission (things f) d ≤ of_admission (things g) d
-    admission_twice d = omega (arith, if_there_twice (λ n. f (Rate n)) (λ n. g (Rate n)) d.rate (λ n. le (Rate n)), if_there_twice f g d.address le, nought d.stream)
-      where
-        nought : (o : Option Stream) → if_there (λ _. 0) o ≡ 0
-        nought None = refl
-        nought (Some v) = refl
-
-    session_twice : (s : Session) → 2 * of_session (things f) s ≤ of_session (things g) s
-    session_twice s =
-        omega (arith, sum_twice (λ (e : ℕ × Admission). of_admission (things f) e.1) (λ (e : ℕ × Admission). of_admission (things g) e.1) (entries s.admissions) (λ e. admission_twice e.1), unbound s.binding)
-      where
-        unbound : (o : Option (ℕ × ℕ)) → if_there (λ _. 0) o ≡ 0
-        unbound None = refl
-        unbound (Some k) = refl
-
--- a pair covers two ports
-pub few_pairs : (b : Book) → 2 * amount pairs b ≤ amount ports b
-few_pairs b = things_twice pairs.thing ports.thing b each
-  where
-    each : (x : Thing) → 2 * pairs.thing x ≤ ports.thing x
+    each : (x : Thing) → ports.thing x ≡ 2 * pairs.thing x + singles.thing x
     each (Pair p) = omega arith
+    each (Port p) = omega arith
     each (Chan c k) = omega arith
     each (Rate n) = omega arith
+
+-- what pairs and single ports leave of all ports is free
+pub ports_left : (w : Whole) (j : List Entry) → IsLegal w j → 2 * amount pairs (book_of j) + amount singles (book_of j) + free_ports w (book_of j) ≡ 2 * w.pairs
+ports_left w j legal = omega (arith, ports_law w j legal, covered_by (book_of j))

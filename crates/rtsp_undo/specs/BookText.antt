@@ -1,5 +1,5 @@
 -- The text of a book: a line for each part of each living session, and then what is held and what is free.
-use Rattle.std.specs.Prelude.{ℕ, ◌-◌, List, [], ◌∷◌, ◌++◌, Option, Some, None, codes, decimal}
+use Rattle.std.specs.Prelude.{ℕ, ◌-◌, ◌==◌, if◌then◌else◌, List, [], ◌∷◌, ◌++◌, Option, Some, None, codes, decimal}
 use Rattle.std.specs.List.{flat_map}
 use Rattle.std.specs.FinMap.{entries}
 use Rattle.rtsp_text.specs.Hexadecimal.{hex_text}
@@ -12,7 +12,7 @@ use Rattle.rtsp_record.specs.Records.{holds, binds}
 use Rattle.rtsp_record.specs.Rules.{as_rate}
 use Rattle.rtsp_record.specs.Sums.{amount, held_rate}
 use Rattle.rtsp_record.specs.JournalText.{line_text, phase_text, setup_fields, record_line}
-use Rattle.rtsp_undo.specs.Pools.{pairs, free_pairs}
+use Rattle.rtsp_undo.specs.Pools.{pairs, singles, free_pairs, free_ports}
 
 -- the line of the thing that a session holds under an admission, where there is one
 abbrev pub hold_lines : ℕ → ℕ → Option Thing → List ℕ
@@ -49,6 +49,14 @@ rate_line w b = line_text (codes "rate" ∷ decimal (held_rate b) ∷ decimal (w
 abbrev pub pairs_line : Whole → Book → List ℕ
 pairs_line w b = line_text (codes "pairs" ∷ decimal (amount pairs b) ∷ decimal (free_pairs w b) ∷ [])
 
+-- the line of so many ports that are held by themselves and so many free ones, where one is held so
+abbrev pub singles_line : ℕ → ℕ → List ℕ
+singles_line held free = if held == 0 then [] else line_text (codes "ports" ∷ decimal held ∷ decimal free ∷ [])
+
+-- the line of the ports that are held by themselves and of those that nothing covers, where one is held so
+abbrev pub ports_line : Whole → Book → List ℕ
+ports_line w b = singles_line (amount singles b) (free_ports w b)
+
 -- the lines of all living sessions in ascending order, and then those of what is held and free
 abbrev pub book_text : Whole → Book → List ℕ
-book_text w b = flat_map session_text (entries b) ++ (rate_line w b ++ pairs_line w b)
+book_text w b = flat_map session_text (entries b) ++ (rate_line w b ++ (pairs_line w b ++ ports_line w b))

@@ -1,17 +1,18 @@
 -- What is held and what is free, counted by ports and by pairs.
-use Rattle.std.specs.Prelude.{◌≡◌, ℕ, ◌+◌, ◌*◌, zero, suc, Bool, true, false, List}
+use Rattle.std.specs.Prelude.{◌≡◌, ℕ, ◌+◌, ◌*◌, Bool, true, false, List}
 use Rattle.rtsp_record.specs.declared.holdings.Thing.{Thing}
-use Rattle.rtsp_record.specs.declared.holdings.Thing.TheVariants.{Pair, Chan, Rate}
+use Rattle.rtsp_record.specs.declared.holdings.Thing.TheVariants.{Pair, Port, Chan, Rate}
 use Rattle.rtsp_record.specs.declared.holdings.Whole.{Whole}
 use Rattle.rtsp_record.specs.declared.changes.Entry.{Entry}
 use Rattle.rtsp_record.specs.Books.{Book, book_of}
 use Rattle.rtsp_record.specs.Sums.{Measure, nothing, one_if, amount, UdpPort}
 use Rattle.rtsp_record.specs.Rules.{IsLegal}
-use Rattle.rtsp_record.specs.Choices.{is_free, is_pair_free}
+use Rattle.rtsp_record.specs.Choices.{count_of, is_free, is_pair_free}
 
 -- a pair of ports
 abbrev pub is_pair : Thing → Bool
 is_pair (Pair p) = true
+is_pair (Port p) = false
 is_pair (Chan c k) = false
 is_pair (Rate n) = false
 
@@ -19,20 +20,27 @@ is_pair (Rate n) = false
 abbrev pub pairs : Measure
 pairs = record nothing { thing = λ x. one_if (is_pair x) }
 
+-- one port by itself
+abbrev pub is_single : Thing → Bool
+is_single (Pair p) = false
+is_single (Port p) = true
+is_single (Chan c k) = false
+is_single (Rate n) = false
+
+-- ports that are held by themselves
+abbrev pub singles : Measure
+singles = record nothing { thing = λ x. one_if (is_single x) }
+
 -- how many ports a thing covers
 abbrev pub ports_of : Thing → ℕ
 ports_of (Pair p) = 2
+ports_of (Port p) = 1
 ports_of (Chan c k) = 0
 ports_of (Rate n) = 0
 
 -- ports that held things cover
 abbrev pub ports : Measure
 ports = record nothing { thing = ports_of }
-
--- how many of the n numbers p, p + step, p + 2 step and so on the test takes
-unfoldable pub count_of : ℕ → (ℕ → Bool) → ℕ → ℕ → ℕ
-count_of step takes p zero = 0
-count_of step takes p (suc n) = one_if (takes p) + count_of step takes (p + step) n
 
 -- how many pairs of the whole are free
 abbrev pub free_pairs : Whole → Book → ℕ

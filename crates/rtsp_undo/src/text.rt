@@ -1,13 +1,14 @@
 //! The text of a book.
 
-ghost use Rattle.std.specs.Prelude.{◌≡◌, ◌++◌, ◌≤◌, OnOk, OnErr};
+ghost use Rattle.std.specs.Prelude.{◌≡◌, ◌∷◌, [], ◌++◌, ◌≤◌, decimal, OnOk, OnErr};
 ghost use Rattle.std.specs.List.{AllByRecursion};
 ghost use Rattle.rtsp_text.specs.Appending.{Appends};
 ghost use Rattle.rtsp_record.specs.Records.{session_of};
 ghost use Rattle.rtsp_record.specs.Books.{book_of};
 ghost use Rattle.rtsp_record.specs.Choices.{HasPorts};
+ghost use Rattle.rtsp_record.specs.JournalText.{line_text};
 ghost use Rattle.rtsp_undo.specs.Pools.{free_pairs};
-ghost use Rattle.rtsp_undo.specs.BookText.{book_text};
+ghost use Rattle.rtsp_undo.specs.BookText.{book_text, singles_line};
 
 mod lines;
 mod sessions;
@@ -19,7 +20,8 @@ use sessions::write_sessions;
 use std::alloc::AllocError;
 
 /// Writes the text of the book at the end: for each living session its lines, by ascending number, and then the bits
-/// per second and the pairs of ports that are held and that are free. A refused one leaves the bytes as they were.
+/// per second and the pairs of ports that are held and that are free; where a port is held by itself, also how many are,
+/// and how many nothing covers. A refused one leaves the bytes as they were.
 pub fn book_text<B: BookRep>(out: &mut Vec<u8>, kept: &Kept<B>) -> Result<(), AllocError>
     ensures ok { OnOk result (out.new.items ≡ out.old.items ++ book_text kept.now.whole (book_of kept.now.journal)) }
     ensures err { OnErr result (out.new.items ≡ out.old.items) }
@@ -48,24 +50,33 @@ fn write_book<B: BookRep>(out: &mut Vec<u8>, kept: &Kept<B>) -> Result<(), Alloc
 {
     let book = kept.book();
     let whole = kept.whole();
-    let pairs = write_sessions(out, book, last_session(kept.journal()))?;
+    let held = write_sessions(out, book, last_session(kept.journal()))?;
     let rate = book.held_rate();
+    let ports = 2 * u64::from(whole.pairs);
+    write_held(out, b"rate", rate, whole.uplink - rate)?;
+    write_held(out, b"pairs", held.pairs, u64::from(free_pairs(book)))?;
+    write_singles(out, held.singles, ports - 2 * held.pairs - held.singles)
+}
+
+// The line of how much is held and how much is free.
+#[tactic(auto, using(rtsp_text::proofs::AppendLemmas::appends_whole))]
+fn write_held(out: &mut Vec<u8>, word: &[u8], held: u64, free: u64) -> Result<(), AllocError>
+    ensures { Appends result out.old.items out.new.items (line_text (word.now ∷ decimal held ∷ decimal free ∷ [])) }
+{
     write_line(
         out,
-        &[
-            Field::Word(b"rate"),
-            Field::Number(rate),
-            Field::Number(whole.uplink - rate),
-        ],
-    )?;
-    write_line(
-        out,
-        &[
-            Field::Word(b"pairs"),
-            Field::Number(u64::from(pairs)),
-            Field::Number(u64::from(free_pairs(book))),
-        ],
+        &[Field::Word(word), Field::Number(held), Field::Number(free)],
     )
+}
+
+// The line of the ports that are held by themselves, where there is one.
+fn write_singles(out: &mut Vec<u8>, held: u64, free: u64) -> Result<(), AllocError>
+    ensures { Appends result out.old.items out.new.items (singles_line held free) }
+{
+    if held == 0 {
+        return Ok(());
+    }
+    write_held(out, b"ports", held, free)
 }
 
 // The greatest number of a session in the journal, or 0. No living session is above it.

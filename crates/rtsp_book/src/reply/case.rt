@@ -5,7 +5,7 @@ ghost use Rattle.std.specs.FinMap.{get, entries};
 ghost use Rattle.rtsp_record.specs.Sums.{held_rate, living, owed};
 ghost use Rattle.rtsp_record.specs.Rules.{AllAllowed};
 ghost use Rattle.rtsp_record.specs.Sound.{Sound};
-ghost use Rattle.rtsp_record.specs.Choices.{least_pair, chosen_chan};
+ghost use Rattle.rtsp_record.specs.Choices.{least_pair, least_port, chosen_chan};
 ghost use Rattle.rtsp_sessions.specs.Lookups.{with_id_in, with_startup_in};
 ghost use Rattle.rtsp_sessions.specs.Searches.{is_expired, is_on, first_with};
 ghost use Rattle.rtsp_book.specs.Receipts.{filled};
@@ -110,6 +110,13 @@ impl<'a, B: BookRep> Case<'a, B> {
         ensures { result ≡ least_pair self.now.whole self.now.book from }
     {
         self.book.least_pair(from)
+    }
+
+    /// The least free port not below `from`.
+    pub(crate) fn least_port(&self, from: u32) -> Option<u16>
+        ensures { result ≡ least_port self.now.whole self.now.book from }
+    {
+        self.book.least_port(from)
     }
 
     /// The wish where it is free on the connection, else the least free pair of channels there.

@@ -1,4 +1,4 @@
-//! The replies to HoldRate, HoldPair, HoldChan and Return.
+//! The replies to HoldRate, HoldPair, HoldPort, HoldChan and Return.
 
 ghost use Rattle.std.specs.Prelude.{◌≡◌, ◌+◌, ◌≤◌, [], Some, is_some};
 ghost use Rattle.std.specs.FinMap.{get};
@@ -22,7 +22,7 @@ fn has_alike(held: &Admission, thing: &Thing) -> bool
 {
     match thing {
         Thing::Rate(_) => held.rate.is_some(),
-        Thing::Pair(_) | Thing::Chan(_, _) => held.address.is_some(),
+        Thing::Pair(_) | Thing::Port(_) | Thing::Chan(_, _) => held.address.is_some(),
     }
 }
 
@@ -33,6 +33,7 @@ pub(crate) fn has_this(held: &Admission, thing: &Thing) -> bool
     match (*thing, held.rate, held.address) {
         (Thing::Rate(bits), Some(rate), _) => rate == bits,
         (Thing::Pair(port), _, Some(Thing::Pair(first))) => first == port,
+        (Thing::Port(port), _, Some(Thing::Port(single))) => single == port,
         (Thing::Chan(conn, channel), _, Some(Thing::Chan(of, first))) => {
             of == conn && first == channel
         }
@@ -52,18 +53,28 @@ fn is_wrong(view: &SessionView, admission: u64, thing: &Thing) -> bool
 
 impl<'a, B: BookRep> Case<'a, B> {
     // The session that is seen is to hold a thing that is free.
-    fn hold(&self, view: &SessionView, holding: Holding, made: &mut Receipt) -> Result<(), Refusal>
-        requires lives { get self.now.book holding.session ≡ Some view.now.1 }
-        requires free { IsFree self.now.whole self.now.book holding.thing }
+    fn hold(
+        &self,
+        view: &SessionView,
+        admission: u64,
+        thing: Thing,
+        made: &mut Receipt,
+    ) -> Result<(), Refusal>
+        requires lives { get self.now.book view.now.0 ≡ Some view.now.1 }
+        requires free { IsFree self.now.whole self.now.book thing }
         requires sound { Sound self.now.whole self.now.book }
         requires room { self.now.entries + owed self.now.book ≤ self.now.whole.journal }
         requires empty { made.old ≡ [] }
-        ensures { filled result made.new ≡ hold_answer self.now.whole self.now.entries self.now.book holding view.now.1 }
+        ensures { filled result made.new ≡ hold_answer self.now.whole self.now.entries self.now.book admission thing view.now }
     {
-        if is_wrong(view, holding.admission, &holding.thing) {
+        if is_wrong(view, admission, &thing) {
             return Err(Refusal::WrongState);
         }
-        made.push(Record::Hold(holding));
+        made.push(Record::Hold(Holding {
+            session: view.session(),
+            admission,
+            thing,
+        }));
         self.unless_full(made)
     }
 
@@ -81,12 +92,7 @@ impl<'a, B: BookRep> Case<'a, B> {
         if self.exceeds_uplink(bits) {
             return Err(Refusal::NoBandwidth);
         }
-        let holding = Holding {
-            session,
-            admission,
-            thing: Thing::Rate(bits),
-        };
-        self.hold(view, holding, made)
+        self.hold(view, admission, Thing::Rate(bits), made)
     }
 
     pub(super) fn hold_pair(
@@ -100,15 +106,27 @@ impl<'a, B: BookRep> Case<'a, B> {
         ensures { filled result made.new ≡ answer self.now.whole self.now.entries self.now.book (Step.HoldPair session admission from) }
     {
         let view = self.living(session)?;
-        let Some(port) = self.least_pair(from) else {
-            return Err(Refusal::NoPair);
-        };
-        let holding = Holding {
-            session,
-            admission,
-            thing: Thing::Pair(port),
-        };
-        self.hold(view, holding, made)
+        match self.least_pair(from) {
+            Some(port) => self.hold(view, admission, Thing::Pair(port), made),
+            None => Err(Refusal::NoPair),
+        }
+    }
+
+    pub(super) fn hold_port(
+        &self,
+        session: u64,
+        admission: u64,
+        from: u32,
+        made: &mut Receipt,
+    ) -> Result<(), Refusal>
+        requires { made.old ≡ [] }
+        ensures { filled result made.new ≡ answer self.now.whole self.now.entries self.now.book (Step.HoldPort session admission from) }
+    {
+        let view = self.living(session)?;
+        match self.least_port(from) {
+            Some(port) => self.hold(view, admission, Thing::Port(port), made),
+            None => Err(Refusal::NoPair),
+        }
     }
 
     pub(super) fn hold_chan(&self, hold: ChannelHold, made: &mut Receipt) -> Result<(), Refusal>
@@ -117,15 +135,12 @@ impl<'a, B: BookRep> Case<'a, B> {
         ensures { filled result made.new ≡ answer self.now.whole self.now.entries self.now.book (Step.HoldChan hold) }
     {
         let view = self.living(hold.session)?;
-        let Some(channel) = self.least_chan(hold.conn, hold.wish) else {
-            return Err(Refusal::NoChannel);
-        };
-        let holding = Holding {
-            session: hold.session,
-            admission: hold.admission,
-            thing: Thing::Chan(hold.conn, channel),
-        };
-        self.hold(view, holding, made)
+        match self.least_chan(hold.conn, hold.wish) {
+            Some(channel) => {
+                self.hold(view, hold.admission, Thing::Chan(hold.conn, channel), made)
+            }
+            None => Err(Refusal::NoChannel),
+        }
     }
 
     pub(super) fn return_thing(

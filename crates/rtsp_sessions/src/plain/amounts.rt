@@ -1,8 +1,8 @@
 //! Sums over the rows of a plain book.
 
 ghost use Rattle.std.specs.Prelude.{◌≡◌, ◌==◌, ◌+◌, ◌<◌, ◌≤◌, ◌^◌, length, sum_by};
-ghost use Rattle.rtsp_record.specs.Sums.{amount, of_session, UdpPort, Channel};
-ghost use Rattle.rtsp_record.specs.Choices.{is_free, is_pair_free, is_chan_free};
+ghost use Rattle.rtsp_record.specs.Sums.{amount, of_session, Channel};
+ghost use Rattle.rtsp_record.specs.Choices.{is_free, is_port_free, is_pair_free, is_chan_free};
 ghost use Rattle.rtsp_sessions.specs.Plain.{InOrder, table_of};
 ghost use Rattle.rtsp_sessions.specs.Tallies.{measure_of};
 
@@ -30,11 +30,11 @@ pub(super) fn amount(rows: &[SessionView], tally: &Tally) -> u128
     sum(rows, tally)
 }
 
-/// Whether no held pair covers the port.
+/// Whether nothing that is held covers the port.
 pub(super) fn is_port_free(rows: &[SessionView], port: u32) -> bool
     requires in_order { InOrder rows.now }
     requires few { length rows.now < 2 ^ 32 }
-    ensures { result ≡ is_free (table_of rows.now) (UdpPort port) }
+    ensures { result ≡ is_port_free (table_of rows.now) port }
 {
     amount(rows, &Tally::Port(port)) == 0
 }

@@ -1,10 +1,10 @@
 //! What a plain book chooses of what is free.
 
 ghost use Rattle.std.specs.Prelude.{◌≡◌, ◌<◌, ◌^◌, ◌&&◌, nat_le, length};
-ghost use Rattle.rtsp_record.specs.Choices.{is_pair_free, least_pair, least_chan, chosen_chan, HasPorts};
+ghost use Rattle.rtsp_record.specs.Choices.{is_port_free, is_pair_free, least_pair, least_port, least_chan, chosen_chan, HasPorts};
 ghost use Rattle.rtsp_sessions.specs.Plain.{InOrder, table_of};
 
-use super::amounts::{is_chan_free, is_pair_free};
+use super::amounts::{is_chan_free, is_pair_free, is_port_free};
 use crate::views::SessionView;
 use rtsp_record::Whole;
 
@@ -32,6 +32,31 @@ fn is_candidate(rows: &[SessionView], from: u32, first: u32) -> bool
     ensures { result ≡ (nat_le from first && is_pair_free (table_of rows.now) first) }
 {
     from <= first && is_pair_free(rows, first)
+}
+
+/// The least free port not below `from`.
+pub(super) fn least_port(whole: &Whole, rows: &[SessionView], from: u32) -> Option<u16>
+    requires in_order { InOrder rows.now }
+    requires few { length rows.now < 2 ^ 32 }
+    requires ports { HasPorts whole.now }
+    ensures { result ≡ least_port whole.now (table_of rows.now) from }
+{
+    for index in 0..2 * u32::from(whole.pairs) {
+        let port = u32::from(whole.first_port) + index;
+        if is_port_candidate(rows, from, port) {
+            return Some(port as u16);
+        }
+    }
+    None
+}
+
+// Whether the port is not below `from`, and free.
+fn is_port_candidate(rows: &[SessionView], from: u32, port: u32) -> bool
+    requires in_order { InOrder rows.now }
+    requires few { length rows.now < 2 ^ 32 }
+    ensures { result ≡ (nat_le from port && is_port_free (table_of rows.now) port) }
+{
+    from <= port && is_port_free(rows, port)
 }
 
 /// The least free even pair of channels of the connection, by its first.

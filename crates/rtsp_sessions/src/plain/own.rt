@@ -72,7 +72,7 @@ fn alike(thing: &Thing, held: &Admission) -> Option<Thing>
             Some(bits) => Some(Thing::Rate(bits)),
             None => None,
         },
-        Thing::Pair(_) | Thing::Chan(_, _) => held.address,
+        Thing::Pair(_) | Thing::Port(_) | Thing::Chan(_, _) => held.address,
     }
 }
 

@@ -3,10 +3,10 @@
 ghost use Rattle.std.specs.Prelude.{◌≡◌, ◌<◌, ◌≤◌, ◌+◌, ◌^◌, ◌↔◌, IsTrue, length};
 ghost use Rattle.rtsp_record.specs.Sums.{amount, rates};
 ghost use Rattle.rtsp_record.specs.Rules.{InWhole, IsFree, MayOpen, Others, Allowed};
-ghost use Rattle.rtsp_record.specs.declared.holdings.Thing.TheVariants.{Pair, Chan, Rate};
+ghost use Rattle.rtsp_record.specs.declared.holdings.Thing.TheVariants.{Pair, Port, Chan, Rate};
 ghost use Rattle.rtsp_sessions.specs.Plain.{InOrder, table_of};
 
-use super::amounts::{amount, is_chan_free, is_pair_free};
+use super::amounts::{amount, is_chan_free, is_pair_free, is_port_free};
 use super::own::owns;
 use super::rows::find;
 use crate::tallies::Tally;
@@ -55,6 +55,7 @@ fn is_free(whole: &Whole, rows: &[SessionView], thing: &Thing) -> bool
 {
     match *thing {
         Thing::Pair(first) => is_free_pair(whole, rows, first),
+        Thing::Port(port) => is_free_port(whole, rows, port),
         Thing::Chan(conn, first) => is_free_chan(whole, rows, conn, first),
         Thing::Rate(bits) => is_free_rate(whole, rows, bits),
     }
@@ -80,6 +81,21 @@ fn is_free_pair(whole: &Whole, rows: &[SessionView], first: u16) -> bool
     ensures { IsTrue result ↔ IsFree whole.now (table_of rows.now) (Pair first) }
 {
     has_pair(whole, first) && is_pair_free(rows, u32::from(first))
+}
+
+// Whether the port is one of the whole.
+fn has_port(whole: &Whole, port: u16) -> bool
+    ensures { IsTrue result ↔ InWhole whole.now (Port port) }
+{
+    port >= whole.first_port && u32::from(port - whole.first_port) < 2 * u32::from(whole.pairs)
+}
+
+fn is_free_port(whole: &Whole, rows: &[SessionView], port: u16) -> bool
+    requires in_order { InOrder rows.now }
+    requires few { length rows.now < 2 ^ 32 }
+    ensures { IsTrue result ↔ IsFree whole.now (table_of rows.now) (Port port) }
+{
+    has_port(whole, port) && is_port_free(rows, u32::from(port))
 }
 
 // Whether channels begin at an even number.

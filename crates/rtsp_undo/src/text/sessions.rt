@@ -1,13 +1,13 @@
 //! The lines of the sessions of a book. Each function appends; after a refusal a part may be at the end.
 
-ghost use Rattle.std.specs.Prelude.{◌≡◌, ℕ, ◌≤◌, ◌<◌, ◌^◌, ◌++◌, length, take, None, IfOk, OnOk, OnErr, nat_le};
+ghost use Rattle.std.specs.Prelude.{◌≡◌, ℕ, ◌+◌, ◌≤◌, ◌<◌, ◌^◌, ◌++◌, length, take, None, IfOk, OnOk, OnErr, nat_le};
 ghost use Rattle.std.specs.List.{flat_map};
 ghost use Rattle.std.specs.FinMap.{get, entries};
 ghost use Rattle.rtsp_text.specs.Appending.{Appends};
 ghost use Rattle.rtsp_record.specs.Sums.{amount, of_admission, of_session};
 ghost use Rattle.rtsp_sessions.specs.Lookups.{as_binding};
 ghost use Rattle.rtsp_sessions.specs.Searches.{first_with};
-ghost use Rattle.rtsp_undo.specs.Pools.{pairs};
+ghost use Rattle.rtsp_undo.specs.Pools.{pairs, singles, ports};
 ghost use Rattle.rtsp_undo.specs.BookText.{admission_text, binding_lines, session_line, session_text};
 
 use crate::text::lines::write_admission;
@@ -75,28 +75,48 @@ fn write_session(out: &mut Vec<u8>, view: &SessionView) -> Result<(), AllocError
     write_binding(out, view.session(), view.binding())
 }
 
-// A pair of ports under an admission.
-fn pairs_under(held: &Admission) -> u16
-    ensures value { result ≡ of_admission pairs held.now }
-    ensures small { result ≤ 1 }
+/// What is held of the UDP ports: how many pairs, and how many ports by themselves.
+#[derive(Clone, Copy)]
+pub(super) struct Held {
+    pub(super) pairs: u64,
+    pub(super) singles: u64,
+}
+
+// What is held of the UDP ports under an admission.
+fn held_under(held: &Admission) -> Held
+    ensures pairs { result.pairs ≡ of_admission pairs held.now }
+    ensures singles { result.singles ≡ of_admission singles held.now }
+    ensures few { result.pairs + result.singles ≤ 1 }
 {
     match held.address {
-        Some(Thing::Pair(_)) => 1,
-        _ => 0,
+        Some(Thing::Pair(_)) => Held {
+            pairs: 1,
+            singles: 0,
+        },
+        Some(Thing::Port(_)) => Held {
+            pairs: 0,
+            singles: 1,
+        },
+        _ => Held {
+            pairs: 0,
+            singles: 0,
+        },
     }
 }
 
-// The pairs of ports that a session holds.
-fn pairs_of(view: &SessionView) -> u16
-    requires { of_session pairs view.now.1 < 2 ^ 16 }
-    ensures { result ≡ of_session pairs view.now.1 }
+// What a session holds of the UDP ports.
+fn held_by(view: &SessionView) -> Held
+    ensures pairs { result.pairs ≡ of_session pairs view.now.1 }
+    ensures singles { result.singles ≡ of_session singles view.now.1 }
 {
     let admissions = view.admissions();
-    let mut held = 0;
+    let (mut pairs, mut singles) = (0, 0);
     for index in 0..admissions.len() {
-        held += pairs_under(&admissions.at(index).1);
+        let held = held_under(&admissions.at(index).1);
+        pairs += held.pairs;
+        singles += held.singles;
     }
-    held
+    Held { pairs, singles }
 }
 
 // The first session not below a number.
@@ -109,27 +129,30 @@ fn next_view<B: BookRep>(book: &B, from: u64) -> Option<SessionView>
     }
 }
 
-/// The lines of all sessions of a book, of which none is above `last`; and how many pairs of ports they hold.
+/// The lines of all sessions of a book, of which none is above `last`; and what they hold of the UDP ports.
 pub(super) fn write_sessions<B: BookRep>(
     out: &mut Vec<u8>,
     book: &B,
     last: u64,
-) -> Result<u16, AllocError>
+) -> Result<Held, AllocError>
     requires last { (session : ℕ) → last < session → get (B.contents book.now) session ≡ None }
-    requires few { amount pairs (B.contents book.now) < 2 ^ 16 }
+    requires few { amount ports (B.contents book.now) < 2 ^ 64 }
     ensures text { OnOk result (out.new.items ≡ out.old.items ++ flat_map session_text (entries (B.contents book.now))) }
     ensures front { OnErr result (take (length out.old.items) out.new.items ≡ out.old.items) }
-    ensures held { IfOk result (λ held. held ≡ amount pairs (B.contents book.now)) }
+    ensures pairs { IfOk result (λ held. held.pairs ≡ amount pairs (B.contents book.now)) }
+    ensures singles { IfOk result (λ held. held.singles ≡ amount singles (B.contents book.now)) }
 {
     let mut from = 0;
-    let mut held = 0;
+    let (mut pairs, mut singles) = (0, 0);
     while let Some(view) = next_view(book, from) {
         write_session(out, &view)?;
-        held += pairs_of(&view);
+        let held = held_by(&view);
+        pairs += held.pairs;
+        singles += held.singles;
         if last <= view.session() {
-            return Ok(held);
+            return Ok(Held { pairs, singles });
         }
         from = view.session() + 1;
     }
-    Ok(held)
+    Ok(Held { pairs, singles })
 }

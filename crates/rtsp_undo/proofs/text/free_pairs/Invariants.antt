@@ -1,6 +1,6 @@
 use Rattle.std.proofs.Common.{◌≡◌, ◌+◌, ◌-◌, ◌^◌, ◌≤◌}
-use Rattle.rtsp_record.specs.Choices.{from_on, is_pair_free}
-use Rattle.rtsp_undo.specs.Pools.{count_of, free_pairs}
+use Rattle.rtsp_record.specs.Choices.{count_of, from_on, is_pair_free}
+use Rattle.rtsp_undo.specs.Pools.{free_pairs}
 use Rattle.rtsp_undo.proofs.text.free_pairs.Given as goal
 
 abbrev pub invariant-loop-port : goal.invariant-loop-port

@@ -1,4 +1,4 @@
-use Rattle.std.proofs.Common.{◌≡◌, ◌+◌, ◌++◌, sym, subst, length, flat_map, drop, arith, length-append}
+use Rattle.std.proofs.Common.{◌≡◌, ◌+◌, ◌++◌, sym, subst, flat_map, drop, arith, length-append}
 use Rattle.std.specs.FinMap.{entries}
 use Rattle.rtsp_book.specs.Returns.{giving_back}
 use Rattle.rtsp_book.proofs.Replying.{row_made, row_fits}

@@ -1,16 +1,27 @@
-use Rattle.std.proofs.Common.{◌/◌, sym, ◌∙◌, arith}
-use Rattle.rtsp_record.specs.Choices.{is_pair_free}
-use Rattle.rtsp_sessions.proofs.FreeLemmas.{free_pair, free_chan}
-use Rattle.rtsp_index.proofs.PoolLemmas.{chans_same}
+use Rattle.std.proofs.Common.{◌/◌, refl, sym, ◌∙◌, arith}
+use Rattle.rtsp_record.specs.Choices.{is_port_free, is_pair_free}
+use Rattle.rtsp_sessions.proofs.FreeLemmas.{free_pair, free_port, free_chan}
+use Rattle.rtsp_index.proofs.PoolLemmas.{chans_same, pairs_same}
 use Rattle.rtsp_index.proofs.pools.Pools.is_free.Goals as goal
 
 pub returns-in-Pair : goal.returns-in-Pair
 returns-in-Pair c b ok =
-    let w = c.args.self.now.pairs.whole in
+    let pools = c.args.self.now in
     let p = c.in-Pair.first in
+    let free = free_pair pools.pairs.whole b p (is_pair_free b p) in
     rw c.in-Pair.is (
-      λ h. let at = c.is_free.ensures.0 h in (free_pair w b p (is_pair_free b p) at.0 (λ t. is_pair_free b p)).0 (sym (ok.pairs p at.0) ∙ at.1),
-      λ h. c.is_free.ensures.1 (h.in_whole, ok.pairs p h.in_whole ∙ (free_pair w b p (is_pair_free b p) h.in_whole (λ t. is_pair_free b p)).1 h),
+      λ h. let at = c.is_free.ensures.0 h in (free at.0 refl).0 (sym (pairs_same b pools ok p at.0) ∙ at.1),
+      λ h. c.is_free.ensures.1 (h.in_whole, pairs_same b pools ok p h.in_whole ∙ (free h.in_whole refl).1 h),
+    )
+
+pub returns-in-Port : goal.returns-in-Port
+returns-in-Port c b ok =
+    let pools = c.args.self.now in
+    let p = c.in-Port.port in
+    let free = free_port pools.pairs.whole b p (is_port_free b p) in
+    rw c.in-Port.is (
+      λ h. let at = c.is_free_port.ensures.0 h in (free at.0 refl).0 (sym (ok.ports p at.0) ∙ at.1),
+      λ h. c.is_free_port.ensures.1 (h.in_whole, ok.ports p h.in_whole ∙ (free h.in_whole refl).1 h),
     )
 
 pub returns-then-first-eq0 : goal.returns-then-first-eq0

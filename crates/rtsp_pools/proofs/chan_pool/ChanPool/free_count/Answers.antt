@@ -1,12 +1,13 @@
 use Rattle.std.proofs.Common.{◌≡◌, ◌==◌, sym, ap, ◌∙◌, arith}
 use Rattle.std.specs.Int.{bit_at}
-use Rattle.rtsp_pools.specs.Pools.{is_free_chan, count_of}
+use Rattle.rtsp_record.specs.Choices.{count_of}
+use Rattle.rtsp_pools.specs.Pools.{is_free_chan}
 use Rattle.rtsp_pools.proofs.LeastLemmas.{count_none}
 use Rattle.rtsp_pools.proofs.ChanLemmas.{chan_at, counted_one}
 use Rattle.rtsp_pools.proofs.chan_pool.ChanPool.free_count.Goals as goal
 
 pub loop-pair-init : goal.loop-pair-init
-loop-pair-init c = (omega arith, sym (count_none (is_free_chan c.args.self.now c.args.conn) 0))
+loop-pair-init c = (omega arith, sym (count_none 2 (is_free_chan c.args.self.now c.args.conn) 0))
 
 pub loop-pair-preserved : goal.loop-pair-preserved
 loop-pair-preserved c =
@@ -18,4 +19,4 @@ loop-pair-preserved c =
 pub returns : goal.returns
 returns c =
     let last : c.loop-pair.pair ≡ 128 = omega (arith, c.loop-pair-test.false, c.loop-pair.auto.pair-end) in
-    c.loop-pair.invariant.1 ∙ ap (count_of (is_free_chan c.args.self.now c.args.conn) 0) last
+    c.loop-pair.invariant.1 ∙ ap (count_of 2 (is_free_chan c.args.self.now c.args.conn) 0) last

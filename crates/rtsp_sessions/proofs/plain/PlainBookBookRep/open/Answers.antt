@@ -1,4 +1,4 @@
-use Rattle.std.proofs.Common.{List, ℕ, refl, sym, ap, subst, ◌∙◌, arith}
+use Rattle.std.proofs.Common.{List, ℕ, refl, sym, ap, subst, ◌∙◌}
 use Rattle.rtsp_record.specs.Books.{Session}
 use Rattle.rtsp_record.specs.Sound.{Sound}
 use Rattle.rtsp_record.proofs.Sound.{sound-empty}

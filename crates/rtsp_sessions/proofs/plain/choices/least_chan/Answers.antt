@@ -14,7 +14,7 @@ returns-then-is_chan_free c =
     let takes = is_chan_free b c.args.conn in
     let i = c.loop-pair.pair in
     let free : takes (2 * i) ≡ true = sym c.is_chan_free.ensures ∙ c.if-is_chan_free.true in
-    sym (sym c.loop-pair.invariant ∙ chan_step takes i 128 (omega arith) ∙ ap (λ t. cond t (Some (2 * i)) (least_of takes (2 * (i + 1)) (128 - (i + 1)))) free)
+    sym (sym c.loop-pair.invariant ∙ chan_step takes i 128 (omega arith) ∙ ap (λ t. cond t (Some (2 * i)) (least_of 2 takes (2 * (i + 1)) (128 - (i + 1)))) free)
 
 pub loop-pair-preserved : goal.loop-pair-preserved
 loop-pair-preserved c =
@@ -22,8 +22,8 @@ loop-pair-preserved c =
     let takes = is_chan_free b c.args.conn in
     let i = c.loop-pair.pair in
     let free : takes (2 * i) ≡ false = sym c.is_chan_free.ensures ∙ c.if-is_chan_free.false in
-    sym (ap (λ t. cond t (Some (2 * i)) (least_of takes (2 * (i + 1)) (128 - (i + 1)))) free) ∙ sym (chan_step takes i 128 (omega arith)) ∙ c.loop-pair.invariant
+    sym (ap (λ t. cond t (Some (2 * i)) (least_of 2 takes (2 * (i + 1)) (128 - (i + 1)))) free) ∙ sym (chan_step takes i 128 (omega arith)) ∙ c.loop-pair.invariant
 
 pub returns : goal.returns
 returns c =
-    sym (sym c.loop-pair.invariant ∙ least_end (is_chan_free (table_of c.args.rows.now) c.args.conn) _ (128 - c.loop-pair.pair) (omega arith))
+    sym (sym c.loop-pair.invariant ∙ least_end 2 (is_chan_free (table_of c.args.rows.now) c.args.conn) _ (128 - c.loop-pair.pair) (omega arith))
