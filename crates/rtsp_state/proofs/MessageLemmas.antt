@@ -4,7 +4,6 @@ use Rattle.rtsp_grammar.specs.Header.{HeaderText}
 use Rattle.rtsp_grammar.specs.Writing.{header_text, headers_text}
 use Rattle.rtsp_state.specs.declared.words.Field.{Field}
 use Rattle.rtsp_state.specs.Words.{name_of_field}
-use Rattle.std.specs.Prelude.{codes}
 use Rattle.rtsp_grammar.specs.Writing.{start_line_text, response_text}
 use Rattle.rtsp_grammar.specs.declared.start_line.StartLine.TheVariants as starts
 use Rattle.rtsp_grammar.specs.declared.version.Version.TheVariants.{Rtsp2}

@@ -4,7 +4,7 @@ use Rattle.std.specs.List.{AllByRecursion}
 use Rattle.rtsp_transport.specs.Fitting.{fit_of}
 use Rattle.rtsp_transport.specs.Picking.{IsForeign, IsUsable, NotUsable, IsFirst, HasForeign, Picks, pick_of}
 use Rattle.rtsp_transport.specs.declared.picks.Pick.{Pick}
-use Rattle.rtsp_transport.specs.declared.picks.Pick.TheVariants.{Udp, Inter, Unsupported, Prohibited}
+use Rattle.rtsp_transport.specs.declared.picks.Pick.TheVariants.{Udp, Mux, Inter, Unsupported, Prohibited}
 use Rattle.rtsp_transport.specs.declared.spec.Spec.{Spec}
 use Rattle.rtsp_transport.proofs.FittingLemmas.{usable_only}
 use Rattle.rtsp_transport.proofs.PickingLemmas.{picks}
@@ -39,21 +39,26 @@ first_same peer (x ∷ b1) t1 (y ∷ b2) t2 s1 s2 p q e n1 n2 u1 u2 =
 same_first : (peer : ℕ) (specs : List Spec) (p q : Pick) → IsFirst peer specs p → IsFirst peer specs q → p ≡ q
 same_first peer specs p q f g = first_same peer f.before f.behind g.before g.behind f.spec g.spec p q (sym f.parts ∙ g.parts) f.none g.none f.usable g.usable
 
+-- what is the first usable one is the pick
+one_first : (peer : ℕ) (specs : List Spec) (p q : Pick) → IsFirst peer specs p → Picks peer specs q → p ≡ q
+one_first peer specs p (Udp a b) f g = same_first peer specs p (Udp a b) f g
+one_first peer specs p (Mux a) f g = same_first peer specs p (Mux a) f g
+one_first peer specs p (Inter w) f g = same_first peer specs p (Inter w) f g
+one_first peer specs p Unsupported f g = absurd (none_first peer specs p g.0 f)
+one_first peer specs p Prohibited f g = absurd (none_first peer specs p g.0 f)
+
 one_pick : (peer : ℕ) (specs : List Spec) (p q : Pick) → Picks peer specs p → Picks peer specs q → p ≡ q
-one_pick peer specs (Udp a b) (Udp c d) f g = same_first peer specs (Udp a b) (Udp c d) f g
-one_pick peer specs (Udp a b) (Inter w) f g = same_first peer specs (Udp a b) (Inter w) f g
-one_pick peer specs (Udp a b) Unsupported f g = absurd (none_first peer specs (Udp a b) g.0 f)
-one_pick peer specs (Udp a b) Prohibited f g = absurd (none_first peer specs (Udp a b) g.0 f)
-one_pick peer specs (Inter w) (Udp c d) f g = same_first peer specs (Inter w) (Udp c d) f g
-one_pick peer specs (Inter w) (Inter v) f g = same_first peer specs (Inter w) (Inter v) f g
-one_pick peer specs (Inter w) Unsupported f g = absurd (none_first peer specs (Inter w) g.0 f)
-one_pick peer specs (Inter w) Prohibited f g = absurd (none_first peer specs (Inter w) g.0 f)
-one_pick peer specs Unsupported (Udp c d) f g = absurd (none_first peer specs (Udp c d) f.0 g)
-one_pick peer specs Unsupported (Inter v) f g = absurd (none_first peer specs (Inter v) f.0 g)
+one_pick peer specs (Udp a b) q f g = one_first peer specs (Udp a b) q f g
+one_pick peer specs (Mux a) q f g = one_first peer specs (Mux a) q f g
+one_pick peer specs (Inter w) q f g = one_first peer specs (Inter w) q f g
+one_pick peer specs Unsupported (Udp a b) f g = absurd (none_first peer specs (Udp a b) f.0 g)
+one_pick peer specs Unsupported (Mux a) f g = absurd (none_first peer specs (Mux a) f.0 g)
+one_pick peer specs Unsupported (Inter w) f g = absurd (none_first peer specs (Inter w) f.0 g)
 one_pick peer specs Unsupported Unsupported f g = refl
 one_pick peer specs Unsupported Prohibited f g = absurd (none_foreign peer specs f.1 g.1)
-one_pick peer specs Prohibited (Udp c d) f g = absurd (none_first peer specs (Udp c d) f.0 g)
-one_pick peer specs Prohibited (Inter v) f g = absurd (none_first peer specs (Inter v) f.0 g)
+one_pick peer specs Prohibited (Udp a b) f g = absurd (none_first peer specs (Udp a b) f.0 g)
+one_pick peer specs Prohibited (Mux a) f g = absurd (none_first peer specs (Mux a) f.0 g)
+one_pick peer specs Prohibited (Inter w) f g = absurd (none_first peer specs (Inter w) f.0 g)
 one_pick peer specs Prohibited Unsupported f g = absurd (none_foreign peer specs g.1 f.1)
 one_pick peer specs Prohibited Prohibited f g = refl
 

@@ -1,7 +1,5 @@
 -- What the lower crates read, as functions of the text.
-use Rattle.std.proofs.Common.{◌≡◌, ◌⊎◌, ℕ, Bool, true, false, List, drop, Option, Some, None, Result, Ok, Err, refl, sym, ap, subst, ◌∙◌, inl, inr, eqb}
-use Rattle.std.specs.Prelude.{IsTrue, ◌↔◌, ◌&&◌}
-use Rattle.std.proofs.lemmas.Bool.{eqb-true, eq-eqb}
+use Rattle.std.proofs.Common.{◌≡◌, ◌⊎◌, ℕ, Bool, true, false, List, Option, Some, None, Result, Ok, Err, refl, sym, ap, subst, ◌∙◌, inl, inr}
 use Rattle.rtsp_text.specs.Decimal as digits
 use Rattle.rtsp_text.specs.Decimal.{SpellsNumber}
 use Rattle.rtsp_transport.specs.Session.{SpellsSession, is_session_name, name_of}

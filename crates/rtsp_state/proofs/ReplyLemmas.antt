@@ -1,5 +1,5 @@
 -- The room of each reply: 300 bytes, and what the client or the content makes longer.
-use Rattle.std.proofs.Common.{◌≡◌, ℕ, ◌+◌, List, [], ◌∷◌, ◌++◌, length, refl, ap, arith}
+use Rattle.std.proofs.Common.{◌≡◌, ℕ, ◌+◌, List, [], ◌∷◌, ◌++◌, length, refl, arith}
 use Rattle.std.specs.Prelude.{Option, Some, None, sum_by}
 use Rattle.std.proofs.lemmas.List.Sums.{sum_by-append}
 use Rattle.rtsp_grammar.specs.Header.{HeaderText}
@@ -7,7 +7,6 @@ use Rattle.rtsp_state.specs.declared.fault.Fault.{Fault}
 use Rattle.rtsp_state.specs.declared.fault.Fault.TheVariants as faults
 use Rattle.rtsp_state.specs.declared.status.Status.{Status}
 use Rattle.rtsp_state.specs.declared.status.Status.TheVariants as statuses
-use Rattle.rtsp_state.specs.declared.words.Word.{Word}
 use Rattle.rtsp_state.specs.declared.words.Word.TheVariants as words
 use Rattle.rtsp_state.specs.declared.response_start.ResponseStart.{ResponseStart}
 use Rattle.rtsp_state.specs.declared.reply.Kind.{Kind}

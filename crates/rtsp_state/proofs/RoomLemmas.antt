@@ -8,8 +8,8 @@ use Rattle.std.proofs.lemmas.Fmt.{length-decimal-le}
 use Rattle.std.proofs.lemmas.List.{length-append}
 use Rattle.std.proofs.lemmas.List.Sums.{sum_by_more_le, sum_by_more}
 use Rattle.rtsp_text.specs.Hexadecimal.{hex_text}
-use Rattle.rtsp_transport.specs.Granted.{ports_text, transport_text}
-use Rattle.rtsp_transport.specs.declared.write.Granted.TheVariants.{Udp, Inter}
+use Rattle.rtsp_transport.specs.Granted.{port_text, ports_text, transport_text}
+use Rattle.rtsp_transport.specs.declared.write.Granted.TheVariants.{Udp, Mux, Inter}
 use Rattle.rtsp_text.proofs.HexLemmas.{length-hex_text}
 use Rattle.rtsp_state.specs.declared.plan.StreamInfo.{StreamInfo}
 use Rattle.rtsp_state.specs.FixedText.{word_room}
@@ -80,6 +80,12 @@ ports_most a b x y =
     let e : length (ports_text a b) ≡ 2 + length (decimal a) + 4 + length (decimal b) + 1 = join5 (codes "\":") (decimal a) (codes "\"/\":") (decimal b) (codes "\"") in
     omega (arith, p, q, e)
 
+port_most : (a : ℕ) → a < 2 ^ 17 → length (port_text a) ≤ 9
+port_most a x =
+    let p = decimal_of_17 a x in
+    let e : length (port_text a) ≡ 2 + length (decimal a) + 1 = join3 (codes "\":") (decimal a) (codes "\"") in
+    omega (arith, p, e)
+
 pub id_most : (n : ℕ) → length (hex_text 32 n) ≤ 32
 id_most n = let e = length-hex_text 32 n in omega (arith, e)
 
@@ -92,6 +98,14 @@ udp_most a b p ssrc x y z =
     let v = ports_most p (p + 1) (omega (arith, z)) (omega (arith, z)) in
     let s = ssrc_most ssrc in
     let e : length (transport_text (Udp a b p ssrc)) ≡ 26 + length (ports_text a b) + 10 + length (ports_text p (p + 1)) + 6 + length (hex_text 8 ssrc) = join6 (codes "RTP/AVP;unicast;dest_addr=") (ports_text a b) (codes ";src_addr=") (ports_text p (p + 1)) (codes ";ssrc=") (hex_text 8 ssrc) in
+    omega (arith, u, v, s, e)
+
+pub mux_most : (a p ssrc : ℕ) → a < 2 ^ 16 → p < 2 ^ 16 → length (transport_text (Mux a p ssrc)) ≤ 88
+mux_most a p ssrc x y =
+    let u = port_most a (omega (arith, x)) in
+    let v = port_most p (omega (arith, y)) in
+    let s = ssrc_most ssrc in
+    let e : length (transport_text (Mux a p ssrc)) ≡ 26 + length (port_text a) + 10 + length (port_text p) + 15 + length (hex_text 8 ssrc) = join6 (codes "RTP/AVP;unicast;dest_addr=") (port_text a) (codes ";src_addr=") (port_text p) (codes ";RTCP-mux;ssrc=") (hex_text 8 ssrc) in
     omega (arith, u, v, s, e)
 
 pub inter_most : (k ssrc : ℕ) → k < 2 ^ 8 → length (transport_text (Inter k ssrc)) ≤ 88

@@ -1,13 +1,13 @@
 -- The headers of a response (RFC 7826 section 18).
-use Rattle.std.specs.Prelude.{◌≡◌, ℕ, ◌+◌, ◌≤◌, List, [], ◌∷◌, ◌++◌, length, decimal, vec_capacity, Option, Some, None}
+use Rattle.std.specs.Prelude.{ℕ, List, [], ◌∷◌, ◌++◌, length, decimal, Option, Some, None}
 use Rattle.rtsp_grammar.specs.Header.{HeaderText}
 use Rattle.rtsp_text.specs.Hexadecimal.{hex_text}
 use Rattle.rtsp_transport.specs.Granted.{transport_text}
 use Rattle.rtsp_transport.specs.declared.write.Granted.{Granted}
-use Rattle.rtsp_transport.specs.declared.write.Granted.TheVariants.{Udp, Inter}
+use Rattle.rtsp_transport.specs.declared.write.Granted.TheVariants.{Udp, Mux, Inter}
 use Rattle.rtsp_npt.specs.Printed.{time_text, range_text}
 use Rattle.rtsp_record.specs.declared.holdings.Thing.{Thing}
-use Rattle.rtsp_record.specs.declared.holdings.Thing.TheVariants.{Pair, Chan, Rate}
+use Rattle.rtsp_record.specs.declared.holdings.Thing.TheVariants.{Pair, Port, Chan, Rate}
 use Rattle.rtsp_record.specs.declared.streams.Stream.{Stream}
 use Rattle.rtsp_state.specs.Words.{name_of_field, text_of}
 use Rattle.rtsp_state.specs.declared.words.Field.TheVariants as fields
@@ -61,9 +61,10 @@ abbrev pub seek_line : HeaderText
 seek_line = record { name = name_of_field fields.SeekStyle; value = text_of words.Rap }
 
 -- what an address and a stream are granted as: two channels of the connection, or two ports of the server and two of the
--- client; bandwidth alone is no transport
+-- client, or one of each; bandwidth alone is no transport
 abbrev pub granted_of : Thing → Stream → Option Granted
 granted_of (Pair p) stream = Some (Udp stream.rtp_port stream.rtcp_port p stream.ssrc)
+granted_of (Port p) stream = Some (Mux stream.rtp_port p stream.ssrc)
 granted_of (Chan c k) stream = Some (Inter k stream.ssrc)
 granted_of (Rate n) stream = None
 

@@ -1,5 +1,5 @@
 -- SETUP (RFC 7826 section 13.3): a presentation; a track.
-use Rattle.std.specs.Prelude.{ℕ, ◌%◌, ◌==◌, ◌&&◌, not, nat_le, List, codes, slice_get, Option, Some, None, Result, Ok, Err, if◌then◌else◌}
+use Rattle.std.specs.Prelude.{ℕ, not, List, codes, slice_get, Option, Some, None, Result, Ok, Err}
 use Rattle.rtsp_state.specs.declared.status.Status.TheVariants.{BadRequest, MethodNotValid, AggregateNotAllowed, UnsupportedTransport, DestinationProhibited}
 use Rattle.rtsp_state.specs.declared.fault.Fault.{Fault}
 use Rattle.rtsp_state.specs.declared.fault.Fault.TheVariants.{Refused}
@@ -10,7 +10,7 @@ use Rattle.rtsp_state.specs.declared.plan.Plan.TheVariants as plans
 use Rattle.rtsp_state.specs.declared.setup_plan.SetupSession.{SetupSession}
 use Rattle.rtsp_state.specs.declared.setup_plan.SetupSession.TheVariants.{New, Living as Lives}
 use Rattle.rtsp_state.specs.declared.setup_plan.Delivery.{Delivery}
-use Rattle.rtsp_state.specs.declared.setup_plan.Delivery.TheVariants.{Udp, Interleaved}
+use Rattle.rtsp_state.specs.declared.setup_plan.Delivery.TheVariants.{Udp, Mux, Interleaved}
 use Rattle.rtsp_state.specs.declared.setup_plan.SetupPlan.{SetupPlan}
 use Rattle.rtsp_text.specs.Results.{◌>>=◌}
 use Rattle.rtsp_state.specs.Fault.{must}
@@ -36,6 +36,7 @@ may_set_up p (Some view) = do
 -- the transport that is picked has to be one that can be served
 abbrev pub delivery_of : Pick → Result Delivery Fault
 delivery_of (picks.Udp rtp rtcp) = Ok (Udp rtp rtcp)
+delivery_of (picks.Mux port) = Ok (Mux port)
 delivery_of (picks.Inter wish) = Ok (Interleaved wish)
 delivery_of picks.Unsupported = Err (Refused UnsupportedTransport)
 delivery_of picks.Prohibited = Err (Refused DestinationProhibited)

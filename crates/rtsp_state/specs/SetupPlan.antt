@@ -12,7 +12,7 @@ use Rattle.rtsp_state.specs.declared.setup_plan.SessionKey.{SessionKey}
 use Rattle.rtsp_state.specs.declared.setup_plan.SetupSession.{SetupSession}
 use Rattle.rtsp_state.specs.declared.setup_plan.SetupSession.TheVariants.{New, Living}
 use Rattle.rtsp_state.specs.declared.setup_plan.Delivery.{Delivery}
-use Rattle.rtsp_state.specs.declared.setup_plan.Delivery.TheVariants.{Udp, Interleaved}
+use Rattle.rtsp_state.specs.declared.setup_plan.Delivery.TheVariants.{Udp, Mux, Interleaved}
 use Rattle.rtsp_state.specs.declared.setup_plan.SetupPlan.{SetupPlan}
 use Rattle.rtsp_state.specs.declared.setup_plan.Drawn.{Drawn}
 
@@ -41,14 +41,17 @@ startup_of (Living key) conn = None
 
 abbrev pub wanted_of : Delivery → ℕ → Wanted
 wanted_of (Udp rtp rtcp) conn = wanted.Pair
+wanted_of (Mux port) conn = wanted.Port
 wanted_of (Interleaved wish) conn = wanted.Channels conn wish
 
 abbrev pub rtp_port : Delivery → ℕ
 rtp_port (Udp rtp rtcp) = rtp
+rtp_port (Mux port) = port
 rtp_port (Interleaved wish) = 0
 
 abbrev pub rtcp_port : Delivery → ℕ
 rtcp_port (Udp rtp rtcp) = rtcp
+rtcp_port (Mux port) = port
 rtcp_port (Interleaved wish) = 0
 
 abbrev pub stream_of : SetupPlan → Drawn → Stream
@@ -78,4 +81,5 @@ ask_of plan drawn = record {
 -- what is wished for is an even channel that has another after it
 abbrev pub WishesWell : Wanted → Type 0
 WishesWell wanted.Pair = Unit {0}
+WishesWell wanted.Port = Unit {0}
 WishesWell (wanted.Channels conn wish) = IsWish wish

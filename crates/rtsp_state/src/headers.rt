@@ -171,6 +171,7 @@ fn put_granted_value(room: &mut Room, address: Thing, stream: &Stream)
 {
     match address {
         Thing::Pair(port) => room.put_udp(stream.rtp_port, stream.rtcp_port, port, stream.ssrc),
+        Thing::Port(port) => room.put_mux(stream.rtp_port, port, stream.ssrc),
         Thing::Chan(_, channel) => room.put_interleaved(channel, stream.ssrc),
         Thing::Rate(_) => {}
     }

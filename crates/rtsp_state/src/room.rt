@@ -3,7 +3,7 @@
 ghost use Rattle.std.specs.Prelude.{◌<◌, ◌^◌, ◌-◌, ◌≡◌, ◌≤◌, ◌++◌, [], length, decimal, OnOk};
 ghost use Rattle.rtsp_text.specs.Hexadecimal.{hex_text};
 ghost use Rattle.rtsp_transport.specs.Granted.{transport_text};
-ghost use Rattle.rtsp_transport.specs.declared.write.Granted.TheVariants.{Udp, Inter};
+ghost use Rattle.rtsp_transport.specs.declared.write.Granted.TheVariants.{Udp, Mux, Inter};
 ghost use Rattle.rtsp_npt.specs.Printed.{time_text, range_text, stop_text};
 ghost use Rattle.rtsp_state.specs.Room.{Takes};
 
@@ -127,6 +127,21 @@ impl Room {
             client_rtp,
             client_rtcp,
             server_rtp,
+            ssrc,
+        };
+        write_transport(&mut self.bytes, &granted).unwrap();
+    }
+
+    /// Writes a transport over UDP with RTP and RTCP on one port.
+    #[tactic(auto, using(crate::proofs::RoomLemmas::appended, crate::proofs::RoomLemmas::mux_most))]
+    pub(crate) fn put_mux(&mut self, client: u16, server: u16, ssrc: u32)
+        requires { 88 ≤ self.old.spare }
+        ensures text { self.new.text ≡ self.old.text ++ transport_text (Mux client server ssrc) }
+        ensures room { Takes self.old self.new 88 }
+    {
+        let granted = Granted::Mux {
+            client,
+            server,
             ssrc,
         };
         write_transport(&mut self.bytes, &granted).unwrap();

@@ -55,6 +55,7 @@ fn delivery_of(pick: Pick) -> Result<Delivery, Fault>
             rtp_port,
             rtcp_port,
         }),
+        Pick::Mux { port } => Ok(Delivery::Mux { port }),
         Pick::Inter { wish } => Ok(Delivery::Interleaved { wish }),
         Pick::Unsupported => Err(Fault::Refused(Status::UnsupportedTransport)),
         Pick::Prohibited => Err(Fault::Refused(Status::DestinationProhibited)),

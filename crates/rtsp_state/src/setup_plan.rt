@@ -32,6 +32,8 @@ pub enum SetupSession {
 pub enum Delivery {
     /// By UDP, to these ports.
     Udp { rtp_port: u16, rtcp_port: u16 },
+    /// By UDP, RTP and RTCP both to this one port (RFC 5761).
+    Mux { port: u16 },
     /// Over the connection, on the even channel that the player wishes and the next, where it named one.
     Interleaved { wish: Option<ChannelPair> },
 }
@@ -136,6 +138,7 @@ impl SetupPlan {
     {
         match self.delivery {
             Delivery::Udp { .. } => Wanted::Pair,
+            Delivery::Mux { .. } => Wanted::Port,
             Delivery::Interleaved { wish } => Wanted::Channels {
                 conn,
                 wish: channel_of(wish),
@@ -152,6 +155,7 @@ impl SetupPlan {
                 rtp_port,
                 rtcp_port,
             } => (rtp_port, rtcp_port),
+            Delivery::Mux { port } => (port, port),
             Delivery::Interleaved { .. } => (0, 0),
         };
         Stream {

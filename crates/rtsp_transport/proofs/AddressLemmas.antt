@@ -1,4 +1,4 @@
--- A text has one pair of addresses.
+-- A text has one address, or one pair of them.
 use Rattle.std.proofs.Common.{◌≡◌, ℕ, ◌<◌, ◌≤◌, Bool, true, false, cond, eqb, List, [], ◌∷◌, ◌++◌, Option, Some, None, refl, sym, ap, subst, ◌∙◌, append_assoc}
 use Rattle.std.specs.Prelude.{◌&&◌, nat_le}
 use Rattle.std.specs.List.{list_all}
@@ -7,7 +7,7 @@ use Rattle.rtsp_text.specs.Bytes.{is_other}
 use Rattle.rtsp_text.specs.Options.{◌>>=◌}
 use Rattle.rtsp_text.specs.SplitOnce.{split_once}
 use Rattle.rtsp_text.specs.Decimal.{SpellsNumber, number_of}
-use Rattle.rtsp_transport.specs.Address.{Place, Places, SpellsPlace, SpellsPlaces, after, alone, quoted_of, quoted_pair, port_in, port_of, place_of, places_of}
+use Rattle.rtsp_transport.specs.Address.{Place, Places, SpellsPlace, SpellsPlaces, SpellsQuoted, after, alone, whole, quoted_of, quoted_pair, quoted_whole, port_in, port_of, place_of, quoted_place_of, places_of}
 use Rattle.rtsp_text.proofs.ByteLemmas.{eqb_same}
 use Rattle.rtsp_text.proofs.SplitLemmas.{split_parts, split_found}
 use Rattle.rtsp_text.proofs.FindsLemmas.{chain_found, sound_at}
@@ -123,6 +123,32 @@ place_complete text p s =
     let a = split_found 58 p.host s.digits s.host in
     let b = port_some s.digits p.port s.port s.some s.few in
     rw whole (rw a (rw b refl))
+
+whole_found : (p : List ℕ × List ℕ) (inner : List ℕ) → whole p ≡ Some inner → (p.1 ≡ []) × (p.0 ≡ inner)
+whole_found (first, []) inner e = (refl, cc)
+whole_found (first, b ∷ bytes) inner e = absurd cc
+
+pub quoted_sound : (text : List ℕ) (p : Place) → quoted_place_of text ≡ Some p → SpellsQuoted text p
+unfolding quoted_place_of quoted_whole
+quoted_sound text p e =
+    let s = chain_found (quoted_whole text) place_of p e in
+    let t = chain_found (quoted_of text) whole s.0 s.1 in
+    let q = quoted_found text t.0 t.1 in
+    let w = whole_found t.0 s.0 t.2 in
+    record {
+      inner = s.0;
+      parts = q.0 ∙ ap (λ (r : List ℕ). 34 ∷ t.0.0 ++ 34 ∷ r) w.0 ∙ ap (λ (i : List ℕ). 34 ∷ i ++ 34 ∷ []) w.1;
+      closed = subst (λ (i : List ℕ). list_all (is_other 34) i ≡ true) w.1 q.1;
+      spells = place_sound s.0 p s.2;
+    }
+
+pub quoted_complete : (text : List ℕ) (p : Place) → SpellsQuoted text p → quoted_place_of text ≡ Some p
+unfolding quoted_place_of quoted_whole
+quoted_complete text p s =
+    let parts = s.parts in
+    let a = quoted_some s.inner [] s.closed in
+    let b = place_complete s.inner p s.spells in
+    rw parts (rw a (rw b refl))
 
 pub places_sound : (text : List ℕ) (p : Places) → places_of text ≡ Some p → SpellsPlaces text p
 unfolding places_of

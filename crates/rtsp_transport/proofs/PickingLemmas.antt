@@ -4,19 +4,21 @@ use Rattle.std.proofs.lemmas.List.{drop_more, drop_all}
 use Rattle.rtsp_transport.specs.Fitting.{fit_of}
 use Rattle.rtsp_transport.specs.Picking.{IsForeign, IsUsable, NotUsable, IsFirst, HasForeign, Picks, prohibited_or, better, pick_of}
 use Rattle.rtsp_transport.specs.declared.picks.Pick.{Pick}
-use Rattle.rtsp_transport.specs.declared.picks.Pick.TheVariants.{Udp, Inter, Unsupported, Prohibited}
+use Rattle.rtsp_transport.specs.declared.picks.Pick.TheVariants.{Udp, Mux, Inter, Unsupported, Prohibited}
 use Rattle.rtsp_transport.specs.declared.spec.Spec.{Spec}
 use Rattle.rtsp_transport.proofs.FittingLemmas.{Fits, fits, usable_only, foreign_only}
 
 -- a refusal is no use
 none_unsupported : (peer : ℕ) (spec : Spec) → fit_of peer spec ≡ Unsupported → NotUsable peer spec
 none_unsupported peer spec e (Udp a b) u = let c = usable_only peer spec (Udp a b) u in absurd cc
+none_unsupported peer spec e (Mux a) u = let c = usable_only peer spec (Mux a) u in absurd cc
 none_unsupported peer spec e (Inter w) u = let c = usable_only peer spec (Inter w) u in absurd cc
 none_unsupported peer spec e Unsupported u = u
 none_unsupported peer spec e Prohibited u = u
 
 none_prohibited : (peer : ℕ) (spec : Spec) → fit_of peer spec ≡ Prohibited → NotUsable peer spec
 none_prohibited peer spec e (Udp a b) u = let c = usable_only peer spec (Udp a b) u in absurd cc
+none_prohibited peer spec e (Mux a) u = let c = usable_only peer spec (Mux a) u in absurd cc
 none_prohibited peer spec e (Inter w) u = let c = usable_only peer spec (Inter w) u in absurd cc
 none_prohibited peer spec e Unsupported u = u
 none_prohibited peer spec e Prohibited u = u
@@ -46,12 +48,14 @@ foreign_here peer spec specs f = record { before = []; spec = spec; behind = spe
 
 after_unsupported : (peer : ℕ) (spec : Spec) (specs : List Spec) (rest : Pick) → fit_of peer spec ≡ Unsupported → Picks peer specs rest → Picks peer (spec ∷ specs) rest
 after_unsupported peer spec specs (Udp a b) e p = later peer spec specs (Udp a b) (none_unsupported peer spec e) p
+after_unsupported peer spec specs (Mux a) e p = later peer spec specs (Mux a) (none_unsupported peer spec e) p
 after_unsupported peer spec specs (Inter w) e p = later peer spec specs (Inter w) (none_unsupported peer spec e) p
 after_unsupported peer spec specs Unsupported e p = ((none_unsupported peer spec e, p.0), (not_foreign peer spec e, p.1))
 after_unsupported peer spec specs Prohibited e p = ((none_unsupported peer spec e, p.0), foreign_later peer spec specs p.1)
 
 after_prohibited : (peer : ℕ) (spec : Spec) (specs : List Spec) (rest : Pick) → fit_of peer spec ≡ Prohibited → IsForeign peer spec → Picks peer specs rest → Picks peer (spec ∷ specs) (prohibited_or rest)
 after_prohibited peer spec specs (Udp a b) e f p = later peer spec specs (Udp a b) (none_prohibited peer spec e) p
+after_prohibited peer spec specs (Mux a) e f p = later peer spec specs (Mux a) (none_prohibited peer spec e) p
 after_prohibited peer spec specs (Inter w) e f p = later peer spec specs (Inter w) (none_prohibited peer spec e) p
 after_prohibited peer spec specs Unsupported e f p = ((none_prohibited peer spec e, p.0), foreign_here peer spec specs f)
 after_prohibited peer spec specs Prohibited e f p = ((none_prohibited peer spec e, p.0), foreign_here peer spec specs f)
@@ -62,6 +66,7 @@ picks peer [] = (tt, tt)
 picks peer (spec ∷ specs) = go (picks peer specs) (fit_of peer spec) refl (fits peer spec) where
   go : Picks peer specs (pick_of peer specs) → (fit : Pick) → fit_of peer spec ≡ fit → Fits peer spec fit → Picks peer (spec ∷ specs) (better fit (pick_of peer specs))
   go p (Udp a b) e f = at_once peer spec specs (Udp a b) f
+  go p (Mux a) e f = at_once peer spec specs (Mux a) f
   go p (Inter w) e f = at_once peer spec specs (Inter w) f
   go p Unsupported e f = after_unsupported peer spec specs (pick_of peer specs) e p
   go p Prohibited e f = after_prohibited peer spec specs (pick_of peer specs) e f p
@@ -74,6 +79,7 @@ IsRefusal pick = (pick ≡ Unsupported) ⊎ (pick ≡ Prohibited)
 
 prohibited_twice : (rest : Pick) → prohibited_or (prohibited_or rest) ≡ prohibited_or rest
 prohibited_twice (Udp a b) = refl
+prohibited_twice (Mux a) = refl
 prohibited_twice (Inter w) = refl
 prohibited_twice Unsupported = refl
 prohibited_twice Prohibited = refl
@@ -107,6 +113,7 @@ pub at_use : (peer : ℕ) (specs : List Spec) (i : ℕ) (d : Spec) (refusal fit 
 at_use peer specs i d refusal fit lt e n m p = subst (λ (f : Pick). Picks peer specs f) (sym p.1 ∙ ap (better refusal) (pick_at peer specs i d lt ∙ ap (λ (f : Pick). better f (pick_of peer (drop (i + 1) specs))) e) ∙ kind fit n m) (picks peer specs) where
   kind : (f : Pick) → ¬ f ≡ Unsupported → ¬ f ≡ Prohibited → better refusal (better f (pick_of peer (drop (i + 1) specs))) ≡ f
   kind (Udp a b) n m = wins refusal (Udp a b) (pick_of peer (drop (i + 1) specs)) p.0 refl refl
+  kind (Mux a) n m = wins refusal (Mux a) (pick_of peer (drop (i + 1) specs)) p.0 refl refl
   kind (Inter w) n m = wins refusal (Inter w) (pick_of peer (drop (i + 1) specs)) p.0 refl refl
   kind Unsupported n m = absurd (n refl)
   kind Prohibited n m = absurd (m refl)

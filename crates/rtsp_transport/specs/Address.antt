@@ -35,7 +35,14 @@ pub record SpellsPlaces (text : List ℕ) (places : Places) : Type 0 where
   pub rtp : SpellsPlace first places.rtp
   pub rtcp : SpellsPlace second places.rtcp
 
--- ---- the one pair of a text, read from left to right
+-- The text is one quoted address.
+pub record SpellsQuoted (text : List ℕ) (place : Place) : Type 0 where
+  pub inner : List ℕ
+  pub parts : text ≡ 34 ∷ inner ++ 34 ∷ []
+  pub closed : list_all (is_other 34) inner ≡ true
+  pub spells : SpellsPlace inner place
+
+-- ---- the one address or pair of a text, read from left to right
 
 -- the text after this byte
 abbrev pub after : ℕ → List ℕ → Option (List ℕ)
@@ -60,6 +67,16 @@ quoted_pair text = do
   second ← quoted_of rest
   alone first.0 second
 
+-- a text, where nothing is after it
+abbrev pub whole : List ℕ × List ℕ → Option (List ℕ)
+whole (inner, []) = Some inner
+whole (inner, b ∷ bytes) = None
+
+unfoldable pub quoted_whole : List ℕ → Option (List ℕ)
+quoted_whole text = do
+  parts ← quoted_of text
+  whole parts
+
 abbrev pub port_in : ℕ → Option ℕ
 port_in n = if nat_le 1 n && nat_le n 65535 then Some n else None
 
@@ -73,6 +90,11 @@ place_of text = do
   parts ← split_once 58 text
   port ← port_of parts.1
   Some (record { host = parts.0; port = port })
+
+unfoldable pub quoted_place_of : List ℕ → Option Place
+quoted_place_of text = do
+  inner ← quoted_whole text
+  place_of inner
 
 unfoldable pub places_of : List ℕ → Option Places
 places_of text = do

@@ -18,5 +18,5 @@ is_tcp protocol = is_named protocol (codes "RTP/AVP/TCP")
 -- a parameter of this name asks for more than this server serves
 unfoldable pub is_unserved : List ℕ → Bool
 is_unserved name =
-    ((((((is_named name (codes "multicast") || is_named name (codes "ttl")) || is_named name (codes "layers")) || is_named name (codes "setup"))
-    || is_named name (codes "connection")) || is_named name (codes "MIKEY")) || is_named name (codes "RTCP-mux"))
+    (((((is_named name (codes "multicast") || is_named name (codes "ttl")) || is_named name (codes "layers")) || is_named name (codes "setup"))
+    || is_named name (codes "connection")) || is_named name (codes "MIKEY"))

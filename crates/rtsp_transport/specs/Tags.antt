@@ -1,5 +1,5 @@
 -- The option tags of a Require header (RFC 7826 section 18.43).
-use Rattle.std.specs.Prelude.{◌≡◌, ◌≢◌, ℕ, Bool, true, false, not, List, [], codes, Result, Ok, Err, if◌then◌else◌}
+use Rattle.std.specs.Prelude.{◌≡◌, ◌≢◌, ℕ, Bool, true, false, not, ◌||◌, List, [], codes, Result, Ok, Err, if◌then◌else◌}
 use Rattle.std.specs.List.{join_with_byte}
 use Rattle.std.specs.Str.{bytes_eq}
 use Rattle.rtsp_text.specs.Bytes.{is_token}
@@ -24,7 +24,7 @@ pub record SpellsTags (text : List ℕ) (tags : List (List ℕ)) : Type 0 where
 
 -- what this server can do
 abbrev pub is_known : List ℕ → Bool
-is_known tag = bytes_eq tag (codes "play.basic")
+is_known tag = bytes_eq tag (codes "play.basic") || bytes_eq tag (codes "setup.rtp.rtcp.mux")
 
 -- ---- the one list of tags of a text, read from left to right
 

@@ -3,8 +3,8 @@
 ghost use Rattle.std.specs.Prelude.{◌≡◌, decimal};
 ghost use Rattle.std.specs.Option.{option_map};
 ghost use Rattle.rtsp_text.specs.Slices.{held, halves};
-ghost use Rattle.rtsp_transport.specs.Address.{after, quoted_of, quoted_pair};
-ghost use Rattle.rtsp_transport.specs.Address.{port_of, place_of, places_of};
+ghost use Rattle.rtsp_transport.specs.Address.{after, quoted_of, quoted_pair, quoted_whole};
+ghost use Rattle.rtsp_transport.specs.Address.{port_of, place_of, quoted_place_of, places_of};
 ghost use Rattle.rtsp_transport.specs.Peer.{after_text, after_peer, is_peer};
 
 use itoa::Buffer;
@@ -53,6 +53,15 @@ fn quoted_pair(text: &[u8]) -> Option<(&[u8], &[u8])>
     }
 }
 
+// One quoted text.
+#[tactic(auto, unfolding(crate::specs::Address::quoted_whole))]
+fn quoted_whole(text: &[u8]) -> Option<&[u8]>
+    ensures { held result ≡ quoted_whole text.now }
+{
+    let (inner, rest) = quoted_of(text)?;
+    if rest.is_empty() { Some(inner) } else { None }
+}
+
 #[tactic(auto, unfolding(crate::specs::Address::port_of))]
 fn port_of(digits: &[u8]) -> Option<u16>
     ensures { result ≡ port_of digits.now }
@@ -75,6 +84,14 @@ impl Address<'_> {
         let (host, digits) = split_once(text, b':')?;
         let port = port_of(digits)?;
         Some(Address { host, port })
+    }
+
+    /// One quoted address: where RTP and RTCP both go.
+    #[tactic(auto, unfolding(crate::specs::Address::quoted_place_of))]
+    pub fn read_one(text: &[u8]) -> Option<Address<'_>>
+        ensures { option_map place result ≡ quoted_place_of text.now }
+    {
+        Address::read(quoted_whole(text)?)
     }
 
     /// Two quoted addresses joined by a slash: where RTP goes, and where RTCP goes.

@@ -13,6 +13,8 @@ use crate::spec::{Parameter, Spec, is_named};
 pub enum Pick {
     /// RTP and RTCP go to these ports of the client.
     Udp { rtp_port: u16, rtcp_port: u16 },
+    /// Both go to this one port of the client (RFC 5761).
+    Mux { port: u16 },
     /// They go over the connection, on these channels if the client named any that can be served.
     Inter { wish: Option<ChannelPair> },
     /// None of the specifications can be served (461).
@@ -52,7 +54,7 @@ fn allows(peer: u32, host: &[u8]) -> bool
 }
 
 impl Spec {
-    ghost use Rattle.rtsp_transport.specs.Fitting.{udp_fit, inter_fit, fit_of};
+    ghost use Rattle.rtsp_transport.specs.Fitting.{udp_fit, mux_fit, inter_fit, fit_of};
 
     #[tactic(auto, unfolding(crate::specs::Fitting::udp_fit))]
     fn udp_fit(&self, peer: u32) -> Pick
@@ -74,6 +76,25 @@ impl Spec {
             rtp_port: rtp.port,
             rtcp_port: rtcp.port,
         }
+    }
+
+    #[tactic(auto, unfolding(crate::specs::Fitting::mux_fit))]
+    fn mux_fit(&self, peer: u32) -> Pick
+        ensures { result ≡ mux_fit peer self.now.parameters }
+    {
+        let Some(text) = Parameter::first_value(self.parameters.as_slice(), b"dest_addr") else {
+            return Pick::Unsupported;
+        };
+        let Some(place) = Address::read_one(text) else {
+            return Pick::Unsupported;
+        };
+        if is_bracketed(place.host) {
+            return Pick::Unsupported;
+        }
+        if !allows(peer, place.host) {
+            return Pick::Prohibited;
+        }
+        Pick::Mux { port: place.port }
     }
 
     #[tactic(auto, unfolding(crate::specs::Fitting::inter_fit))]
@@ -99,10 +120,15 @@ impl Spec {
         if Parameter::any_asks_more(self.parameters.as_slice()) {
             return Pick::Unsupported;
         }
+        let has_mux = Parameter::has_mux(self.parameters.as_slice());
         if is_udp(self.protocol.as_bytes()) {
-            return self.udp_fit(peer);
+            return if has_mux {
+                self.mux_fit(peer)
+            } else {
+                self.udp_fit(peer)
+            };
         }
-        if is_tcp(self.protocol.as_bytes()) {
+        if is_tcp(self.protocol.as_bytes()) && !has_mux {
             return self.inter_fit();
         }
         Pick::Unsupported

@@ -38,7 +38,8 @@ impl Parameter {
     ghost use Rattle.std.specs.Option.{option_copied};
     ghost use Rattle.rtsp_text.specs.Slices.{held};
     ghost use Rattle.rtsp_transport.specs.Names.{is_unserved};
-    ghost use Rattle.rtsp_transport.specs.Parameters.{asks_more, is_play, first_named, first_value};
+    ghost use Rattle.rtsp_transport.specs.Parameters.{asks_more, is_play, mux_has_value, has_mux};
+    ghost use Rattle.rtsp_transport.specs.Parameters.{first_named, first_value};
     ghost use Rattle.rtsp_transport.specs.TransportReading.{parameter_of, parameters_of};
 
     #[tactic(auto, unfolding(crate::specs::TransportReading::parameter_of))]
@@ -93,7 +94,14 @@ impl Parameter {
             || is_named(name, b"setup")
             || is_named(name, b"connection")
             || is_named(name, b"MIKEY")
-            || is_named(name, b"RTCP-mux")
+    }
+
+    // RTCP-mux with a value, which it never has (RFC 7826 section 18.54).
+    #[tactic(auto, unfolding(crate::specs::Parameters::mux_has_value))]
+    fn mux_has_value(&self) -> bool
+        ensures { result ≡ mux_has_value self.now }
+    {
+        is_named(self.name.as_bytes(), b"RTCP-mux") && self.value.is_some()
     }
 
     // The parameter asks for more than this server serves.
@@ -102,7 +110,9 @@ impl Parameter {
         ensures { result ≡ asks_more self.now }
     {
         let name = self.name.as_bytes();
-        Parameter::is_unserved(name) || (is_named(name, b"mode") && !self.is_play())
+        Parameter::is_unserved(name)
+            || self.mux_has_value()
+            || (is_named(name, b"mode") && !self.is_play())
     }
 
     /// Whether one of the parameters asks for more than this server serves.
@@ -126,6 +136,13 @@ impl Parameter {
         ensures { result ≡ is_some (first_named name.now parameters.now) }
     {
         Parameter::first_named(parameters, name).is_some()
+    }
+
+    /// Whether RTP and RTCP are to share one port (RFC 5761).
+    pub fn has_mux(parameters: &[Parameter]) -> bool
+        ensures { result ≡ has_mux parameters.now }
+    {
+        Parameter::any_named(parameters, b"RTCP-mux")
     }
 
     /// The value of the first parameter of a name.

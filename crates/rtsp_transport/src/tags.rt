@@ -63,5 +63,5 @@ pub fn read_tags(alloc: Global, text: &[u8]) -> Result<Vec<Text>, TextFault>
 pub fn is_known(tag: &[u8]) -> bool
     ensures { result ≡ is_known tag.now }
 {
-    tag == b"play.basic".as_slice()
+    tag == b"play.basic".as_slice() || tag == b"setup.rtp.rtcp.mux".as_slice()
 }

@@ -3,7 +3,7 @@
 ghost use Rattle.std.specs.Prelude.{◌≡◌, ◌≤◌, ◌+◌, ◌++◌, vec_capacity, IsOk, OnOk, OnErr};
 ghost use Rattle.rtsp_text.specs.Appending.{Appends, HasRoom};
 ghost use Rattle.rtsp_text.specs.Hexadecimal.{hex_text};
-ghost use Rattle.rtsp_transport.specs.Granted.{ports_text, transport_text};
+ghost use Rattle.rtsp_transport.specs.Granted.{port_text, ports_text, transport_text};
 
 use rtsp_text::{all_or_nothing, write_decimal, write_hex_u32};
 use std::alloc::AllocError;
@@ -17,6 +17,12 @@ pub enum Granted {
         client_rtp: u16,
         client_rtcp: u16,
         server_rtp: u16,
+        ssrc: u32,
+    },
+    /// RTP and RTCP over UDP, to the client's one port and from the server's one (RFC 5761).
+    Mux {
+        client: u16,
+        server: u16,
         ssrc: u32,
     },
     /// Over the connection: RTP on this channel, which is even, and RTCP on the next.
@@ -66,6 +72,17 @@ fn put_server(out: &mut Vec<u8>, rtp: u16) -> Result<(), AllocError>
     put_ports(out, u64::from(rtp), u64::from(rtp) + 1)
 }
 
+// A port without a host, as a quoted address.
+fn put_port(out: &mut Vec<u8>, port: u16) -> Result<(), AllocError>
+    ensures text { Appends result out.old.items out.new.items (port_text port) }
+    ensures capacity { vec_capacity out.old ≤ vec_capacity out.new }
+    ensures succeeds { HasRoom out.old (port_text port) → IsOk result }
+{
+    out.extend_from_slice(b"\":")?;
+    write_decimal(out, u64::from(port))?;
+    out.extend_from_slice(b"\"")
+}
+
 fn put_transport(out: &mut Vec<u8>, granted: &Granted) -> Result<(), AllocError>
     ensures text { Appends result out.old.items out.new.items (transport_text granted.now) }
     ensures capacity { vec_capacity out.old ≤ vec_capacity out.new }
@@ -83,6 +100,18 @@ fn put_transport(out: &mut Vec<u8>, granted: &Granted) -> Result<(), AllocError>
             out.extend_from_slice(b";src_addr=")?;
             put_server(out, server_rtp)?;
             out.extend_from_slice(b";ssrc=")?;
+            write_ssrc(out, ssrc)
+        }
+        Granted::Mux {
+            client,
+            server,
+            ssrc,
+        } => {
+            out.extend_from_slice(b"RTP/AVP;unicast;dest_addr=")?;
+            put_port(out, client)?;
+            out.extend_from_slice(b";src_addr=")?;
+            put_port(out, server)?;
+            out.extend_from_slice(b";RTCP-mux;ssrc=")?;
             write_ssrc(out, ssrc)
         }
         Granted::Inter { channel, ssrc } => {

@@ -1,4 +1,4 @@
-use Rattle.std.proofs.Common.{ℕ, ◌/◌, arith}
+use Rattle.std.proofs.Common.{◌/◌, arith}
 use Rattle.rtsp_state.proofs.setup_plan.channel_of.Goals as goal
 
 pub returns-in-Some-clause-wish : goal.returns-in-Some-clause-wish

@@ -1,6 +1,6 @@
 use Rattle.std.proofs.Common.{ℕ, ap, ◌∙◌, ◌+◌, ◌++◌, codes, decimal}
 use Rattle.rtsp_text.specs.Hexadecimal.{hex_text}
-use Rattle.rtsp_transport.specs.Granted.{ports_text}
+use Rattle.rtsp_transport.specs.Granted.{port_text, ports_text}
 use Rattle.rtsp_text.proofs.AppendLemmas.{appends_then, appends_whole, five_appended}
 use Rattle.rtsp_transport.proofs.write.put_transport.Goals as goal
 
@@ -12,6 +12,15 @@ returns-in_ok-extend_from_slice-in-Udp-3-clause-text c =
     c.in_ok-extend_from_slice-in-Udp.ensures.items c.in_ok-put_client-in-Udp.ensures.text c.in_ok-extend_from_slice-in-Udp-2.ensures.items c.in_ok-put_server-in-Udp.ensures.text c.in_ok-extend_from_slice-in-Udp-3.ensures.items in
     let ssrc = appends_whole c.write_ssrc.result c.extend_from_slice-in-Udp-2.new.self.items c.write_ssrc.new.out.items (hex_text 8 w.ssrc) c.write_ssrc.ensures.ok c.write_ssrc.ensures.err in
     rw w.is (appends_then c.write_ssrc.result c.args.out.now.items c.extend_from_slice-in-Udp-2.new.self.items c.write_ssrc.new.out.items _ (hex_text 8 w.ssrc) e ssrc)
+
+pub returns-in_ok-extend_from_slice-in-Mux-3-clause-text :
+    goal.returns-in_ok-extend_from_slice-in-Mux-3-clause-text
+returns-in_ok-extend_from_slice-in-Mux-3-clause-text c =
+    let w = c.in-Mux in
+    let e = five_appended c.args.out.now.items (codes "RTP/AVP;unicast;dest_addr=") (port_text w.client) (codes ";src_addr=") (port_text w.server) (codes ";RTCP-mux;ssrc=") _ _ _ _ _
+    c.in_ok-extend_from_slice-in-Mux.ensures.items c.in_ok-put_port-in-Mux.ensures.text c.in_ok-extend_from_slice-in-Mux-2.ensures.items c.in_ok-put_port-in-Mux-2.ensures.text c.in_ok-extend_from_slice-in-Mux-3.ensures.items in
+    let ssrc = appends_whole c.write_ssrc-in-Mux.result c.extend_from_slice-in-Mux-3.new.self.items c.write_ssrc-in-Mux.new.out.items (hex_text 8 w.ssrc) c.write_ssrc-in-Mux.ensures.ok c.write_ssrc-in-Mux.ensures.err in
+    rw w.is (appends_then c.write_ssrc-in-Mux.result c.args.out.now.items c.extend_from_slice-in-Mux-3.new.self.items c.write_ssrc-in-Mux.new.out.items _ (hex_text 8 w.ssrc) e ssrc)
 
 pub returns-in_ok-extend_from_slice-in-Inter-3-clause-text :
     goal.returns-in_ok-extend_from_slice-in-Inter-3-clause-text
