@@ -4,7 +4,7 @@ use Rattle.std.specs.Prelude.{Option, Some, None}
 use Rattle.rtsp_record.specs.declared.changes.Entry.{Entry}
 use Rattle.rtsp_record.specs.declared.changes.Record.{Record}
 use Rattle.rtsp_record.specs.declared.holdings.Thing.{Thing}
-use Rattle.rtsp_record.specs.declared.holdings.Thing.TheVariants.{Rate, Pair, Chan}
+use Rattle.rtsp_record.specs.declared.holdings.Thing.TheVariants.{Rate}
 use Rattle.rtsp_book.specs.declared.asks.Ask.{Ask}
 use Rattle.rtsp_book.specs.declared.asks.Opening.{Opening}
 use Rattle.rtsp_book.specs.declared.asks.Wanted.{Wanted}
@@ -22,10 +22,12 @@ use Rattle.rtsp_lock.proofs.Entries.{later_self, later_more, later_then}
 use Rattle.rtsp_admit.specs.declared.failure.Failure.{Failure}
 use Rattle.rtsp_admit.specs.declared.failure.Failure.TheVariants as failure
 use Rattle.rtsp_admit.specs.declared.failure.NoAddress.{NoAddress}
+use Rattle.rtsp_admit.specs.declared.udp_ports.UdpPorts.{UdpPorts}
+use Rattle.rtsp_admit.specs.declared.udp_ports.UdpPorts.TheVariants as udp
 use Rattle.rtsp_admit.specs.Binder.{Calls}
-use Rattle.rtsp_admit.specs.Steps.{chain_left, open_step, rate_step, pair_step, chan_step, return_step, commit_step}
-use Rattle.rtsp_admit.specs.Runs.{State, with_view, Opened, NotOpened, Held, Rated, PairReturned, PairRefused, Tried, Addressed, NotAddressed, Fails}
-use Rattle.rtsp_admit.specs.Additions.{hold_records, opened_records, rated_records, unreturned_records, returned_records, tried_records, addressed_records, unaddressed_records, failed_records, AdmissionsGrow}
+use Rattle.rtsp_admit.specs.Steps.{chain_left, open_step, rate_step, ports_from, ports_step, chan_step, return_step, commit_step}
+use Rattle.rtsp_admit.specs.Runs.{State, with_view, Opened, NotOpened, Held, Rated, PortsReturned, PortsRefused, Tried, PortsGranted, NoPortsGranted, Addressed, NotAddressed, Fails}
+use Rattle.rtsp_admit.specs.Additions.{hold_records, opened_records, rated_records, unreturned_records, returned_records, tried_records, granted_records, ungranted_records, addressed_records, unaddressed_records, failed_records, AdmissionsGrow}
 
 entries_by-append : (actor : ℕ) (rs ss : List Record) → entries_by actor (rs ++ ss) ≡ entries_by actor rs ++ entries_by actor ss
 entries_by-append actor [] ss = refl
@@ -87,32 +89,42 @@ module _ (ask : Ask) where
   grown_rated v u run =
       grown_then v run.opened u (opened_records ask ask.opening v run.opened run.opens) (hold_records ask (Rate ask.rate)) (grown_opened ask.opening v run.opened run.opens) (grown_held run.opened u (rate_step ask) (Rate ask.rate) run.holds)
 
-module _ {B : Type 0} (calls : Calls B) (ask : Ask) where
-  grown_returned : (from p : ℕ) (s t : State B) (run : PairReturned calls ask from p s t) → Grown s.view t.view (returned_records calls ask from p s t run)
+module _ {B : Type 0} (calls : Calls B) (ask : Ask) (kind : UdpPorts) where
+  grown_returned : (from p : ℕ) (s t : State B) (run : PortsReturned calls ask kind from p s t) → Grown s.view t.view (returned_records calls ask kind from p s t run)
   grown_returned from p s t run =
-      grown_then s.view run.between t.view (hold_records ask (Pair p)) run.made (grown_held ask s.view run.between (pair_step ask from) (Pair p) run.held) (grown_acted run.between t.view (return_step ask p) (Ok run.made) run.returned)
+      let ports = ports_from kind p in
+      grown_then s.view run.between t.view (hold_records ask ports) run.made (grown_held ask s.view run.between (ports_step ask kind from) ports run.held) (grown_acted run.between t.view (return_step ask ports) (Ok run.made) run.returned)
 
-  grown_tried : (before : List ℕ) (from : ℕ) (s t : State B) (run : Tried calls ask before from s t) → Grown s.view t.view (tried_records calls ask before from s t run)
+  grown_tried : (before : List ℕ) (from : ℕ) (s t : State B) (run : Tried calls ask kind before from s t) → Grown s.view t.view (tried_records calls ask kind before from s t run)
   grown_tried [] from s t run = grown_none s.view t.view (ap (λ (x : State B). x.view) run.1)
   grown_tried (p ∷ before) from s t run =
-      grown_then s.view run.between.view t.view (tried_records calls ask before run.start s run.between run.before) (returned_records calls ask run.start p run.between t run.returned) (grown_tried before run.start s run.between run.before) (grown_returned run.start p run.between t run.returned)
+      grown_then s.view run.between.view t.view (tried_records calls ask kind before run.start s run.between run.before) (returned_records calls ask kind run.start p run.between t run.returned) (grown_tried before run.start s run.between run.before) (grown_returned run.start p run.between t run.returned)
 
-  grown_unreturned : (from : ℕ) (refusal : Refusal) (unreturned : Option ℕ) (s t : State B) → PairRefused calls ask from refusal unreturned s t → Grown s.view t.view (unreturned_records ask unreturned)
-  grown_unreturned from refusal None s t run = grown_acted s.view t.view (pair_step ask from) (Err refusal) run.0
-  grown_unreturned from refusal (Some p) s t run =
-      subst (λ (rs : List Record). Grown s.view t.view rs) (append-nil (hold_records ask (Pair p)))
-      (grown_then s.view run.between t.view (hold_records ask (Pair p)) [] (grown_held ask s.view run.between (pair_step ask from) (Pair p) run.held) (grown_acted run.between t.view (return_step ask p) (Err refusal) run.refused))
+  grown_unreturned : (from : ℕ) (refusal : Refusal) (unreturned : Option Thing) (s t : State B) → PortsRefused calls ask kind from refusal unreturned s t → Grown s.view t.view (unreturned_records ask unreturned)
+  grown_unreturned from refusal None s t run = grown_acted s.view t.view (ports_step ask kind from) (Err refusal) run.0
+  grown_unreturned from refusal (Some x) s t run =
+      subst (λ (rs : List Record). Grown s.view t.view rs) (append-nil (hold_records ask x))
+      (grown_then s.view run.between t.view (hold_records ask x) [] (grown_held ask s.view run.between (ports_step ask kind from) x run.held) (grown_acted run.between t.view (return_step ask x) (Err refusal) run.refused))
 
+  grown_granted : (x : Thing) (s t : State B) (run : PortsGranted calls ask kind x s t) → Grown s.view t.view (granted_records calls ask kind x s t run)
+  grown_granted x s t run =
+      let step = ports_step ask kind run.from in
+      let held = subst (λ z. Held ask step z run.between.view t.view) (sym run.is) run.last.held in
+      grown_then s.view run.between.view t.view (tried_records calls ask kind run.tried run.from s run.between run.tries) (hold_records ask x) (grown_tried run.tried run.from s run.between run.tries) (grown_held ask run.between.view t.view step x held)
+
+  grown_ungranted : (e : NoAddress) (s t : State B) (run : NoPortsGranted calls ask kind e s t) → Grown s.view t.view (ungranted_records calls ask kind e s t run)
+  grown_ungranted e s t run =
+      grown_then s.view run.between.view t.view (tried_records calls ask kind run.tried run.from s run.between run.tries) (unreturned_records ask e.unreturned) (grown_tried run.tried run.from s run.between run.tries) (grown_unreturned run.from e.refusal e.unreturned run.between t run.last)
+
+module _ {B : Type 0} (calls : Calls B) (ask : Ask) where
   grown_addressed : (want : Wanted) (x : Thing) (s t : State B) (run : Addressed calls ask want x s t) → Grown s.view t.view (addressed_records calls ask want x s t run)
-  grown_addressed wanted.Pair (Pair p) s t run =
-      grown_then s.view run.between.view t.view (tried_records calls ask run.tried run.from s run.between run.tries) (hold_records ask (Pair p)) (grown_tried run.tried run.from s run.between run.tries) (grown_held ask run.between.view t.view (pair_step ask run.from) (Pair p) run.last.held)
-  grown_addressed wanted.Pair (Chan c k) s t run = absurd run
-  grown_addressed wanted.Pair (Rate n) s t run = absurd run
+  grown_addressed wanted.Pair x s t run = grown_granted calls ask udp.Pair x s t run
+  grown_addressed wanted.Port x s t run = grown_granted calls ask udp.Port x s t run
   grown_addressed (wanted.Channels conn wish) x s t run = grown_held ask s.view t.view (chan_step ask conn wish) x run.0
 
   grown_unaddressed : (want : Wanted) (e : NoAddress) (s t : State B) (run : NotAddressed calls ask want e s t) → Grown s.view t.view (unaddressed_records calls ask want e s t run)
-  grown_unaddressed wanted.Pair e s t run =
-      grown_then s.view run.between.view t.view (tried_records calls ask run.tried run.from s run.between run.tries) (unreturned_records ask e.unreturned) (grown_tried run.tried run.from s run.between run.tries) (grown_unreturned run.from e.refusal e.unreturned run.between t run.last)
+  grown_unaddressed wanted.Pair e s t run = grown_ungranted calls ask udp.Pair e s t run
+  grown_unaddressed wanted.Port e s t run = grown_ungranted calls ask udp.Port e s t run
   grown_unaddressed (wanted.Channels conn wish) e s t run = grown_acted s.view t.view (chan_step ask conn wish) (Err e.refusal) run.refused
 
   grown_failed : (cause : Failure) (s t : State B) (run : Fails calls ask cause s t) → Grown s.view t.view (failed_records calls ask cause s t run)

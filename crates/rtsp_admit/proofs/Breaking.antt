@@ -1,8 +1,8 @@
 -- How far an admission came before it was refused.
 use Rattle.std.proofs.Common.{◌≡◌, ℕ, ◌≤◌, Bool, true, false, cond, List, [], ◌∷◌, length, refl, sym, ap, subst, arith, le_refl, Ok, Err}
-use Rattle.std.specs.Prelude.{Option, Some, None, is_some, option_map}
+use Rattle.std.specs.Prelude.{Option, Some, None, is_some}
 use Rattle.rtsp_record.specs.declared.holdings.Thing.{Thing}
-use Rattle.rtsp_record.specs.declared.holdings.Thing.TheVariants.{Pair, Chan, Rate}
+use Rattle.rtsp_record.specs.declared.holdings.Thing.TheVariants.{Chan, Rate}
 use Rattle.rtsp_record.specs.declared.changes.Entry.{Entry}
 use Rattle.rtsp_record.specs.declared.changes.Record.{Record}
 use Rattle.rtsp_record.specs.Records.{opens, holds, frees}
@@ -22,15 +22,22 @@ use Rattle.rtsp_lock.specs.Calls.{Acted}
 use Rattle.rtsp_admit.specs.declared.failure.Failure.{Failure}
 use Rattle.rtsp_admit.specs.declared.failure.Failure.TheVariants as failure
 use Rattle.rtsp_admit.specs.declared.failure.NoAddress.{NoAddress}
+use Rattle.rtsp_admit.specs.declared.udp_ports.UdpPorts.{UdpPorts}
+use Rattle.rtsp_admit.specs.declared.udp_ports.UdpPorts.TheVariants as udp
 use Rattle.rtsp_admit.specs.Binder.{Calls}
-use Rattle.rtsp_admit.specs.Steps.{thing_in, chain_left, open_step, rate_step, pair_step, chan_step, return_step}
-use Rattle.rtsp_admit.specs.Runs.{State, with_view, Opened, NotOpened, Held, Rated, PairReturned, PairRefused, Tried, Addressed, NotAddressed, Fails}
-use Rattle.rtsp_admit.proofs.Rows.{quiet_row, holds_rate, holds_address, frees_pair, IsSecond}
+use Rattle.rtsp_admit.specs.Steps.{thing_in, chain_left, open_step, rate_step, ports_from, ports_step, chan_step, return_step}
+use Rattle.rtsp_admit.specs.Runs.{State, with_view, Opened, NotOpened, Held, Rated, PortsReturned, PortsRefused, Tried, PortsGranted, NoPortsGranted, Addressed, NotAddressed, Fails}
+use Rattle.rtsp_admit.proofs.Rows.{quiet_row, holds_rate, holds_address, frees_address, IsSecond}
 use Rattle.rtsp_admit.proofs.Going.{Goes, made_is, goes_none, goes_refused, goes_one, goes_then}
 
 chan_held : (s a c : ℕ) (o : Option ℕ) (t : Thing) → hold_chosen s a (as_chan c o) ≡ holds s a t ∷ [] → (k : ℕ) × (t ≡ Chan c k)
 chan_held s a c None t h = absurd cc
 chan_held s a c (Some k) t h = let same : ◌≡◌ {A = Option Thing} (Some (Chan c k)) (Some t) = ap thing_in h in (k, cc)
+
+-- ports are an address
+pub is_ports : (kind : UdpPorts) (p : ℕ) → IsAddress (ports_from kind p)
+is_ports udp.Pair p = tt
+is_ports udp.Port p = tt
 
 one_most : (t : Bool) (e : Entry) → length (cond t (e ∷ []) []) ≤ 1
 one_most true e = le_refl 1
@@ -72,12 +79,12 @@ module _ (ask : Ask) where
   keeps_address x v u step t is acted =
       goes_one ask.session ask.admission x None x (Some t) 0 v u step (holds ask.session ask.admission t) acted refl refl (le_refl 0) (λ o. holds_address ask.session ask.admission t x None o is)
 
-  return_one : (v u : View) (p : ℕ) (rs : List Record) → Acted v u (return_step ask p) (Ok rs) → Acted v u (return_step ask p) (Ok (frees ask.session ask.admission (Pair p) ∷ []))
-  return_one v u p rs acted = subst (λ rs. Acted v u (return_step ask p) (Ok rs)) (sym (made_is v u (return_step ask p) rs acted)) acted
+  return_one : (v u : View) (t : Thing) (rs : List Record) → Acted v u (return_step ask t) (Ok rs) → Acted v u (return_step ask t) (Ok (frees ask.session ask.admission t ∷ []))
+  return_one v u t rs acted = subst (λ rs. Acted v u (return_step ask t) (Ok rs)) (sym (made_is v u (return_step ask t) rs acted)) acted
 
-  keeps_returned : (x : Option Thing) (v u : View) (p : ℕ) (rs : List Record) → Acted v u (return_step ask p) (Ok rs) → Keeps 0 x (Some (Pair p)) x None v u
-  keeps_returned x v u p rs acted =
-      goes_one ask.session ask.admission x (Some (Pair p)) x None 0 v u (return_step ask p) (frees ask.session ask.admission (Pair p)) (return_one v u p rs acted) refl refl (le_refl 0) (frees_pair ask.session ask.admission p x (Some (Pair p)))
+  keeps_returned : (x : Option Thing) (v u : View) (t : Thing) (rs : List Record) → IsAddress t → Acted v u (return_step ask t) (Ok rs) → Keeps 0 x (Some t) x None v u
+  keeps_returned x v u t rs is acted =
+      goes_one ask.session ask.admission x (Some t) x None 0 v u (return_step ask t) (frees ask.session ask.admission t) (return_one v u t rs acted) refl refl (le_refl 0) (λ o. frees_address ask.session ask.admission t x (Some t) o is)
 
   pub is_chan : (conn : ℕ) (wish : Option ℕ) (t : Thing) (v u : View) → Held ask (chan_step ask conn wish) t v u → (k : ℕ) × (t ≡ Chan conn k)
   is_chan conn wish t v u h =
@@ -86,58 +93,74 @@ module _ (ask : Ask) where
   chan_address : (conn : ℕ) (wish : Option ℕ) (t : Thing) (v u : View) → Held ask (chan_step ask conn wish) t v u → IsAddress t
   chan_address conn wish t v u h = subst IsAddress (sym (is_chan conn wish t v u h).1) tt
 
-module _ {B : Type 0} (calls : Calls B) (ask : Ask) where
-  is_address : (want : Wanted) (x : Thing) (s t : State B) → Addressed calls ask want x s t → IsAddress x
-  is_address wanted.Pair (Pair p) s t h = tt
-  is_address wanted.Pair (Chan c k) s t h = absurd h
-  is_address wanted.Pair (Rate n) s t h = absurd h
-  is_address (wanted.Channels conn wish) x s t h = chan_address ask conn wish x s.view t.view h.0
+module _ {B : Type 0} (calls : Calls B) (ask : Ask) (kind : UdpPorts) where
+  granted_address : (x : Thing) (s t : State B) → PortsGranted calls ask kind x s t → IsAddress x
+  granted_address x s t h = subst IsAddress (sym h.is) (is_ports kind h.first)
 
-  keeps_pair_returned : (x : Option Thing) (from p : ℕ) (s t : State B) → PairReturned calls ask from p s t → Keeps ask 0 x None x None s.view t.view
-  keeps_pair_returned x from p s t h =
-      keeps_then ask 0 x None x (Some (Pair p)) x None s.view h.between t.view (keeps_address ask x s.view h.between (pair_step ask from) (Pair p) tt h.held) (keeps_returned ask x h.between t.view p h.made h.returned)
+  keeps_ports_returned : (x : Option Thing) (from p : ℕ) (s t : State B) → PortsReturned calls ask kind from p s t → Keeps ask 0 x None x None s.view t.view
+  keeps_ports_returned x from p s t h =
+      let held = ports_from kind p in
+      keeps_then ask 0 x None x (Some held) x None s.view h.between t.view (keeps_address ask x s.view h.between (ports_step ask kind from) held (is_ports kind p) h.held) (keeps_returned ask x h.between t.view held h.made (is_ports kind p) h.returned)
 
-  keeps_tried : (x : Option Thing) (before : List ℕ) (from : ℕ) (s t : State B) → Tried calls ask before from s t → Keeps ask 0 x None x None s.view t.view
+  keeps_tried : (x : Option Thing) (before : List ℕ) (from : ℕ) (s t : State B) → Tried calls ask kind before from s t → Keeps ask 0 x None x None s.view t.view
   keeps_tried x [] from s t h = goes_none ask.session ask.admission x None s.view t.view (ap (λ (w : State B). w.view) h.1)
   keeps_tried x (p ∷ before) from s t h =
-      keeps_then ask 0 x None x None x None s.view h.between.view t.view (keeps_tried x before h.start s h.between h.before) (keeps_pair_returned x h.start p h.between t h.returned)
+      keeps_then ask 0 x None x None x None s.view h.between.view t.view (keeps_tried x before h.start s h.between h.before) (keeps_ports_returned x h.start p h.between t h.returned)
 
-  keeps_pair_refused : (x : Option Thing) (from : ℕ) (refusal : Refusal) (unreturned : Option ℕ) (s t : State B) → PairRefused calls ask from refusal unreturned s t → Keeps ask 0 x None x (option_map Pair unreturned) s.view t.view
-  keeps_pair_refused x from refusal None s t h = keeps_refused ask x None s.view t.view (pair_step ask from) refusal h.0
-  keeps_pair_refused x from refusal (Some p) s t h =
-      keeps_then ask 0 x None x (Some (Pair p)) x (Some (Pair p)) s.view h.between t.view (keeps_address ask x s.view h.between (pair_step ask from) (Pair p) tt h.held) (keeps_refused ask x (Some (Pair p)) h.between t.view (return_step ask p) refusal h.refused)
+  unreturned_address : (from : ℕ) (refusal : Refusal) (unreturned : Option Thing) (s t : State B) → PortsRefused calls ask kind from refusal unreturned s t → IsSecond unreturned
+  unreturned_address from refusal None s t h = tt
+  unreturned_address from refusal (Some y) s t h = subst IsAddress (sym h.is) (is_ports kind h.first)
+
+  keeps_ports_refused : (x : Option Thing) (from : ℕ) (refusal : Refusal) (unreturned : Option Thing) (s t : State B) → PortsRefused calls ask kind from refusal unreturned s t → Keeps ask 0 x None x unreturned s.view t.view
+  keeps_ports_refused x from refusal None s t h = keeps_refused ask x None s.view t.view (ports_step ask kind from) refusal h.0
+  keeps_ports_refused x from refusal (Some y) s t h =
+      keeps_then ask 0 x None x (Some y) x (Some y) s.view h.between t.view (keeps_address ask x s.view h.between (ports_step ask kind from) y (unreturned_address from refusal (Some y) s t h) h.held) (keeps_refused ask x (Some y) h.between t.view (return_step ask y) refusal h.refused)
+
+  keeps_granted : (y : Thing) (x : Option Thing) (s t : State B) → PortsGranted calls ask kind y s t → Keeps ask 0 x None x (Some y) s.view t.view
+  keeps_granted y x s t h =
+      let held = subst (λ z. Held ask (ports_step ask kind h.from) z h.between.view t.view) (sym h.is) h.last.held in
+      keeps_then ask 0 x None x None x (Some y) s.view h.between.view t.view (keeps_tried x h.tried h.from s h.between h.tries) (keeps_address ask x h.between.view t.view (ports_step ask kind h.from) y (granted_address y s t h) held)
+
+  keeps_not_granted : (e : NoAddress) (x : Option Thing) (s t : State B) → NoPortsGranted calls ask kind e s t → Keeps ask 0 x None x e.unreturned s.view t.view
+  keeps_not_granted e x s t h =
+      keeps_then ask 0 x None x None x e.unreturned s.view h.between.view t.view (keeps_tried x h.tried h.from s h.between h.tries) (keeps_ports_refused x h.from e.refusal e.unreturned h.between t h.last)
+
+module _ {B : Type 0} (calls : Calls B) (ask : Ask) where
+  is_address : (want : Wanted) (x : Thing) (s t : State B) → Addressed calls ask want x s t → IsAddress x
+  is_address wanted.Pair x s t h = granted_address calls ask udp.Pair x s t h
+  is_address wanted.Port x s t h = granted_address calls ask udp.Port x s t h
+  is_address (wanted.Channels conn wish) x s t h = chan_address ask conn wish x s.view t.view h.0
 
   keeps_addressed : (want : Wanted) (y : Thing) (x : Option Thing) (s t : State B) → Addressed calls ask want y s t → Keeps ask 0 x None x (Some y) s.view t.view
-  keeps_addressed wanted.Pair (Pair p) x s t h =
-      keeps_then ask 0 x None x None x (Some (Pair p)) s.view h.between.view t.view (keeps_tried x h.tried h.from s h.between h.tries) (keeps_address ask x h.between.view t.view (pair_step ask h.from) (Pair p) tt h.last.held)
-  keeps_addressed wanted.Pair (Chan c k) x s t h = absurd h
-  keeps_addressed wanted.Pair (Rate n) x s t h = absurd h
+  keeps_addressed wanted.Pair y x s t h = keeps_granted calls ask udp.Pair y x s t h
+  keeps_addressed wanted.Port y x s t h = keeps_granted calls ask udp.Port y x s t h
   keeps_addressed (wanted.Channels conn wish) y x s t h = keeps_address ask x s.view t.view (chan_step ask conn wish) y (chan_address ask conn wish y s.view t.view h.0) h.0
 
-  keeps_not_addressed : (want : Wanted) (e : NoAddress) (x : Option Thing) (s t : State B) → NotAddressed calls ask want e s t → Keeps ask 0 x None x (option_map Pair e.unreturned) s.view t.view
-  keeps_not_addressed wanted.Pair e x s t h =
-      keeps_then ask 0 x None x None x (option_map Pair e.unreturned) s.view h.between.view t.view (keeps_tried x h.tried h.from s h.between h.tries) (keeps_pair_refused x h.from e.refusal e.unreturned h.between t h.last)
+  keeps_not_addressed : (want : Wanted) (e : NoAddress) (x : Option Thing) (s t : State B) → NotAddressed calls ask want e s t → Keeps ask 0 x None x e.unreturned s.view t.view
+  keeps_not_addressed wanted.Pair e x s t h = keeps_not_granted calls ask udp.Pair e x s t h
+  keeps_not_addressed wanted.Port e x s t h = keeps_not_granted calls ask udp.Port e x s t h
   keeps_not_addressed (wanted.Channels conn wish) e x s t h =
-      subst (λ o. Keeps ask 0 x None x (option_map Pair o) s.view t.view) (sym h.none) (keeps_refused ask x None s.view t.view (chan_step ask conn wish) e.refusal h.refused)
+      subst (λ o. Keeps ask 0 x None x o s.view t.view) (sym h.none) (keeps_refused ask x None s.view t.view (chan_step ask conn wish) e.refusal h.refused)
 
   pub keeps_fails : (cause : Failure) (s t : State B) → Fails calls ask cause s t → Keeps ask (one_if (chain_left ask cause).opened) None None (chain_left ask cause).first (chain_left ask cause).second s.view t.view
   keeps_fails (failure.Open refusal) s t h = keeps_not_opened ask ask.opening refusal s.view t.view h.0
   keeps_fails (failure.Rate refusal) s t h =
       keeps_then ask (one_if (is_some ask.opening)) None None None None None None s.view h.opened t.view (keeps_opened ask ask.opening s.view h.opened h.opens) (keeps_refused ask None None h.opened t.view (rate_step ask) refusal h.refused)
   keeps_fails (failure.Address e) s t h =
-      keeps_then ask (one_if (is_some ask.opening)) None None (Some (Rate ask.rate)) None (Some (Rate ask.rate)) (option_map Pair e.unreturned) s.view h.rated t.view (keeps_rated ask s.view h.rated h.rates) (keeps_not_addressed ask.wanted e (Some (Rate ask.rate)) (with_view h.rated s) t h.addresses)
+      keeps_then ask (one_if (is_some ask.opening)) None None (Some (Rate ask.rate)) None (Some (Rate ask.rate)) e.unreturned s.view h.rated t.view (keeps_rated ask s.view h.rated h.rates) (keeps_not_addressed ask.wanted e (Some (Rate ask.rate)) (with_view h.rated s) t h.addresses)
   keeps_fails (failure.Commit refusal x) s t h =
       let rate = Some (Rate ask.rate) in
       keeps_then ask (one_if (is_some ask.opening)) None None rate None rate (Some x) s.view h.rated t.view (keeps_rated ask s.view h.rated h.rates)
       (keeps_then ask 0 rate None rate (Some x) rate (Some x) h.rated h.held t.view (keeps_addressed ask.wanted x rate (with_view h.rated s) (with_view h.held t) h.addresses) (keeps_refused ask rate (Some x) h.held t.view _ refusal h.refused))
 
   -- the chain has at most a rate and an address
-  second_left : (unreturned : Option ℕ) → IsSecond (option_map Pair unreturned)
-  second_left None = tt
-  second_left (Some p) = tt
+  second_left : (want : Wanted) (e : NoAddress) (s t : State B) → NotAddressed calls ask want e s t → IsSecond e.unreturned
+  second_left wanted.Pair e s t h = unreturned_address calls ask udp.Pair h.from e.refusal e.unreturned h.between t h.last
+  second_left wanted.Port e s t h = unreturned_address calls ask udp.Port h.from e.refusal e.unreturned h.between t h.last
+  second_left (wanted.Channels conn wish) e s t h = subst IsSecond (sym h.none) tt
 
   pub second_is : (cause : Failure) (s t : State B) → Fails calls ask cause s t → IsSecond (chain_left ask cause).second
   second_is (failure.Open refusal) s t h = tt
   second_is (failure.Rate refusal) s t h = tt
-  second_is (failure.Address e) s t h = second_left e.unreturned
+  second_is (failure.Address e) s t h = second_left ask.wanted e (with_view h.rated s) t h.addresses
   second_is (failure.Commit refusal x) s t h = is_address ask.wanted x (with_view h.rated s) (with_view h.held t) h.addresses

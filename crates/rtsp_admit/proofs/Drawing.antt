@@ -7,7 +7,7 @@ use Rattle.std.proofs.lemmas.List.Elements.{filter-append}
 use Rattle.std.specs.FinMap.{get, entries}
 use Rattle.rtsp_record.specs.declared.holdings.Admission.{Admission}
 use Rattle.rtsp_record.specs.declared.holdings.Thing.{Thing}
-use Rattle.rtsp_record.specs.declared.holdings.Thing.TheVariants.{Pair, Chan, Rate}
+use Rattle.rtsp_record.specs.declared.holdings.Thing.TheVariants.{Rate}
 use Rattle.rtsp_record.specs.declared.holdings.Whole.{Whole}
 use Rattle.rtsp_record.specs.declared.phases.Phase.{Phase}
 use Rattle.rtsp_record.specs.declared.phases.Phase.TheVariants.{Ready, Playing, Ended}
@@ -25,13 +25,13 @@ use Rattle.rtsp_book.specs.declared.asks.Wanted.TheVariants as wanted
 use Rattle.rtsp_book.specs.declared.refusals.Refusal.{Refusal}
 use Rattle.rtsp_sessions.specs.declared.startups.Startup.{Startup}
 use Rattle.rtsp_book.specs.declared.steps.Step.{Step}
-use Rattle.rtsp_book.specs.declared.steps.Step.TheVariants.{Open, HoldRate, HoldPair, HoldChan, Return, Commit, Unwind, Play, Pause, Finish, Touch, DropTrack, End, Expire, Hangup}
+use Rattle.rtsp_book.specs.declared.steps.Step.TheVariants.{Open, HoldRate, HoldPair, HoldPort, HoldChan, Return, Commit, Unwind, Play, Pause, Finish, Touch, DropTrack, End, Expire, Hangup}
 use Rattle.rtsp_book.specs.Kept.{entries_by}
-use Rattle.rtsp_record.specs.Choices.{least_pair, chosen_chan}
+use Rattle.rtsp_record.specs.Choices.{least_pair, least_port, chosen_chan}
 use Rattle.rtsp_sessions.specs.Searches.{first_with}
 use Rattle.rtsp_book.specs.Sessions.{is_ready}
 use Rattle.rtsp_sessions.specs.Searches.{is_of_track}
-use Rattle.rtsp_book.specs.Made.{hold_chosen, as_pair, as_chan, adding, binding_to, committing, playing, pausing, finishing, touching, of_living, made}
+use Rattle.rtsp_book.specs.Made.{hold_chosen, as_pair, as_port, as_chan, adding, binding_to, committing, playing, pausing, finishing, touching, of_living, made}
 use Rattle.rtsp_book.specs.Returns.{dropping, freeing, freeing_rate}
 use Rattle.rtsp_record.proofs.Trims.{AllFine}
 use Rattle.rtsp_book.proofs.Runs.{Giving, fine-append}
@@ -45,9 +45,11 @@ use Rattle.rtsp_lock.proofs.Entries.{has_none}
 use Rattle.rtsp_admit.specs.declared.failure.Failure.{Failure}
 use Rattle.rtsp_admit.specs.declared.failure.Failure.TheVariants as failure
 use Rattle.rtsp_admit.specs.declared.failure.NoAddress.{NoAddress}
+use Rattle.rtsp_admit.specs.declared.udp_ports.UdpPorts.{UdpPorts}
+use Rattle.rtsp_admit.specs.declared.udp_ports.UdpPorts.TheVariants as udp
 use Rattle.rtsp_admit.specs.Binder.{Calls}
-use Rattle.rtsp_admit.specs.Steps.{chain_left, open_step, rate_step, pair_step, chan_step, return_step, commit_step}
-use Rattle.rtsp_admit.specs.Runs.{State, with_view, Opened, NotOpened, Held, Rated, PairReturned, PairRefused, Tried, Addressed, NotAddressed, Fails}
+use Rattle.rtsp_admit.specs.Steps.{chain_left, open_step, rate_step, ports_from, ports_step, chan_step, return_step, commit_step}
+use Rattle.rtsp_admit.specs.Runs.{State, with_view, Opened, NotOpened, Held, Rated, PortsReturned, PortsRefused, Tried, PortsGranted, NoPortsGranted, Addressed, NotAddressed, Fails}
 use Rattle.rtsp_admit.specs.Refused.{is_use_of, uses}
 use Rattle.rtsp_admit.specs.Numbers.{UsesDrawn, admission_of, ActsUseDrawn, DrawsGiveUnused, AdmissionsKeepDrawn}
 use Rattle.rtsp_admit.proofs.Going.{made_is}
@@ -74,6 +76,10 @@ other a n apart = elim (a == n) as (λ t. (a == n) ≡ t → t ≡ false) [ true
 quiet_pair : (n s a : ℕ) (o : Option ℕ) → n ≢ a → Quiet n (hold_chosen s a (as_pair o))
 quiet_pair n s a None apart = tt
 quiet_pair n s a (Some p) apart = (other a n apart, tt)
+
+quiet_port : (n s a : ℕ) (o : Option ℕ) → n ≢ a → Quiet n (hold_chosen s a (as_port o))
+quiet_port n s a None apart = tt
+quiet_port n s a (Some p) apart = (other a n apart, tt)
 
 quiet_chan : (n s a c : ℕ) (o : Option ℕ) → n ≢ a → Quiet n (hold_chosen s a (as_chan c o))
 quiet_chan n s a c None apart = tt
@@ -112,6 +118,7 @@ quiet_made : (n : ℕ) (w : Whole) (b : Book) (step : Step) → ((a : ℕ) → a
 quiet_made n w b (Open l) apart = (refl, tt)
 quiet_made n w b (HoldRate s a bits) apart = (other a n (apart a refl), tt)
 quiet_made n w b (HoldPair s a from) apart = quiet_pair n s a (least_pair w b from) (apart a refl)
+quiet_made n w b (HoldPort s a from) apart = quiet_port n s a (least_port w b from) (apart a refl)
 quiet_made n w b (HoldChan h) apart = quiet_chan n h.session h.admission h.conn (chosen_chan b h.conn h.wish) (apart h.admission refl)
 quiet_made n w b (Return s a x) apart = (refl, tt)
 quiet_made n w b (Commit c) apart =
@@ -207,32 +214,46 @@ module _ (ask : Ask) where
   owns_not_opened None refusal v u h own = absurd h
   owns_not_opened (Some o) refusal v u h own = owns_none v u (open_step ask o) (Err refusal) refl h own
 
+  -- a step for ports names the admission
+  names_ports : (kind : UdpPorts) (from : ℕ) → admission_of (ports_step ask kind from) ≡ Some ask.admission
+  names_ports udp.Pair from = refl
+  names_ports udp.Port from = refl
+
   owns_rated : (v u : View) → Rated ask v u → Owns v → Owns u
   owns_rated v u h own = owns_held h.opened u (rate_step ask) (Rate ask.rate) refl h.holds (owns_opened ask.opening v h.opened h.opens own)
 
-module _ {B : Type 0} (calls : Calls B) (ask : Ask) where
-  owns_returned : (from p : ℕ) (s t : State B) → PairReturned calls ask from p s t → Owns ask s.view → Owns ask t.view
-  owns_returned from p s t h own =
-      owns_none ask h.between t.view (return_step ask p) (Ok h.made) refl h.returned (owns_held ask s.view h.between (pair_step ask from) (Pair p) refl h.held own)
+module _ {B : Type 0} (calls : Calls B) (ask : Ask) (kind : UdpPorts) where
+  owns_ports : (from : ℕ) (x : Thing) (v u : View) → Held ask (ports_step ask kind from) x v u → Owns ask v → Owns ask u
+  owns_ports from x v u held own = owns_held ask v u (ports_step ask kind from) x (names_ports ask kind from) held own
 
-  owns_tried : (before : List ℕ) (from : ℕ) (s t : State B) → Tried calls ask before from s t → Owns ask s.view → Owns ask t.view
+  owns_returned : (from p : ℕ) (s t : State B) → PortsReturned calls ask kind from p s t → Owns ask s.view → Owns ask t.view
+  owns_returned from p s t h own =
+      owns_none ask h.between t.view (return_step ask (ports_from kind p)) (Ok h.made) refl h.returned (owns_ports from (ports_from kind p) s.view h.between h.held own)
+
+  owns_tried : (before : List ℕ) (from : ℕ) (s t : State B) → Tried calls ask kind before from s t → Owns ask s.view → Owns ask t.view
   owns_tried [] from s t h own = subst (λ (x : State B). Owns ask x.view) (sym h.1) own
   owns_tried (p ∷ before) from s t h own = owns_returned h.start p h.between t h.returned (owns_tried before h.start s h.between h.before own)
 
-  owns_pair_refused : (from : ℕ) (refusal : Refusal) (unreturned : Option ℕ) (s t : State B) → PairRefused calls ask from refusal unreturned s t → Owns ask s.view → Owns ask t.view
-  owns_pair_refused from refusal None s t h own = owns_own ask s.view t.view (pair_step ask from) (Err refusal) refl h.0 own
-  owns_pair_refused from refusal (Some p) s t h own =
-      owns_none ask h.between t.view (return_step ask p) (Err refusal) refl h.refused (owns_held ask s.view h.between (pair_step ask from) (Pair p) refl h.held own)
+  owns_ports_refused : (from : ℕ) (refusal : Refusal) (unreturned : Option Thing) (s t : State B) → PortsRefused calls ask kind from refusal unreturned s t → Owns ask s.view → Owns ask t.view
+  owns_ports_refused from refusal None s t h own = owns_own ask s.view t.view (ports_step ask kind from) (Err refusal) (names_ports ask kind from) h.0 own
+  owns_ports_refused from refusal (Some x) s t h own =
+      owns_none ask h.between t.view (return_step ask x) (Err refusal) refl h.refused (owns_ports from x s.view h.between h.held own)
 
+  owns_granted : (x : Thing) (s t : State B) → PortsGranted calls ask kind x s t → Owns ask s.view → Owns ask t.view
+  owns_granted x s t h own = owns_ports h.from (ports_from kind h.first) h.between.view t.view h.last.held (owns_tried h.tried h.from s h.between h.tries own)
+
+  owns_not_granted : (e : NoAddress) (s t : State B) → NoPortsGranted calls ask kind e s t → Owns ask s.view → Owns ask t.view
+  owns_not_granted e s t h own = owns_ports_refused h.from e.refusal e.unreturned h.between t h.last (owns_tried h.tried h.from s h.between h.tries own)
+
+module _ {B : Type 0} (calls : Calls B) (ask : Ask) where
   owns_addressed : (want : Wanted) (x : Thing) (s t : State B) → Addressed calls ask want x s t → Owns ask s.view → Owns ask t.view
-  owns_addressed wanted.Pair (Pair p) s t h own =
-      owns_held ask h.between.view t.view (pair_step ask h.from) (Pair p) refl h.last.held (owns_tried h.tried h.from s h.between h.tries own)
-  owns_addressed wanted.Pair (Chan c k) s t h own = absurd h
-  owns_addressed wanted.Pair (Rate n) s t h own = absurd h
+  owns_addressed wanted.Pair x s t h own = owns_granted calls ask udp.Pair x s t h own
+  owns_addressed wanted.Port x s t h own = owns_granted calls ask udp.Port x s t h own
   owns_addressed (wanted.Channels conn wish) x s t h own = owns_held ask s.view t.view (chan_step ask conn wish) x refl h.0 own
 
   owns_not_addressed : (want : Wanted) (e : NoAddress) (s t : State B) → NotAddressed calls ask want e s t → Owns ask s.view → Owns ask t.view
-  owns_not_addressed wanted.Pair e s t h own = owns_pair_refused h.from e.refusal e.unreturned h.between t h.last (owns_tried h.tried h.from s h.between h.tries own)
+  owns_not_addressed wanted.Pair e s t h own = owns_not_granted calls ask udp.Pair e s t h own
+  owns_not_addressed wanted.Port e s t h own = owns_not_granted calls ask udp.Port e s t h own
   owns_not_addressed (wanted.Channels conn wish) e s t h own = owns_own ask s.view t.view (chan_step ask conn wish) (Err e.refusal) refl h.refused own
 
   owns_fails : (cause : Failure) (s t : State B) → Fails calls ask cause s t → Owns ask s.view → Owns ask t.view

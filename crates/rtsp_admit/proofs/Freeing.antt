@@ -6,18 +6,17 @@ use Rattle.std.proofs.lemmas.Bool.Decides.{nat_tests}
 use Rattle.std.specs.FinMap.{get, entries, entries_sorted, get-entries}
 use Rattle.rtsp_record.specs.declared.holdings.Admission.{Admission}
 use Rattle.rtsp_record.specs.declared.holdings.Thing.{Thing}
-use Rattle.rtsp_record.specs.declared.holdings.Thing.TheVariants.{Pair, Chan, Rate}
+use Rattle.rtsp_record.specs.declared.holdings.Thing.TheVariants.{Pair, Port, Chan, Rate}
 use Rattle.rtsp_record.specs.declared.streams.Stream.{Stream}
 use Rattle.rtsp_record.specs.declared.changes.Record.{Record}
 use Rattle.rtsp_record.specs.declared.changes.Record.TheVariants.{Open, Close, Hold, Free, Add, Drop, Move, Touch, Bind, Unbind}
 use Rattle.rtsp_record.specs.Records.{frees, adds}
 use Rattle.rtsp_record.specs.Books.{Session, or_bare, under, book_of}
-use Rattle.rtsp_record.specs.Rules.{if_living}
+use Rattle.rtsp_record.specs.Rules.{is_same_thing, if_living}
 use Rattle.rtsp_record.proofs.Trims.{AllFine}
 use Rattle.rtsp_book.specs.declared.asks.Ask.{Ask}
 use Rattle.rtsp_book.specs.declared.steps.Commit.{Commit}
 use Rattle.rtsp_sessions.specs.declared.startups.Startup.{Startup}
-use Rattle.rtsp_book.specs.Receipts.{freed_pairs}
 use Rattle.rtsp_book.specs.Replies.{is_wrong_commit, refusals}
 use Rattle.rtsp_book.specs.Returns.{dropping, freeing, freeing_rate}
 use Rattle.rtsp_sessions.specs.Searches.{first_with}
@@ -29,31 +28,45 @@ use Rattle.rtsp_book.proofs.Granted.{accepted}
 use Rattle.rtsp_book.proofs.Runs.{fine-append}
 use Rattle.rtsp_lock.specs.declared.view.View.{View}
 use Rattle.rtsp_lock.specs.Calls.{Acted}
+use Rattle.rtsp_book.specs.Receipts.{freed_pairs, freed_ports}
+use Rattle.rtsp_admit.specs.Binder.{as_pairs, as_ports, freed_addresses}
 use Rattle.rtsp_admit.specs.Steps.{commit_step}
-use Rattle.rtsp_admit.specs.Pairs.{is_among}
+use Rattle.rtsp_admit.specs.Addresses.{is_address, is_among}
 
 -- a record frees nothing under the admission
 abbrev pub FreesOther : ℕ → Record → Type 0
 FreesOther a (Free k) = (a == k.admission) ≡ false
 FreesOther a r = Unit {0}
 
-free_one : (a b q s : ℕ) (x : Thing) (rs : List Record) → (a == b) ≡ false → is_among (freed_pairs rs) a q ≡ false → is_among (freed_pairs (frees s b x ∷ rs)) a q ≡ false
-free_one a b q s (Pair p) rs off rest = ap (λ v. (v && q == p) || is_among (freed_pairs rs) a q) off ∙ rest
-free_one a b q s (Chan c k) rs off rest = rest
-free_one a b q s (Rate n) rs off rest = rest
+-- among the pairs of some records, and among their single ports, is none of the admission
+abbrev NoneAmong : ℕ → Thing → List Record → Type 0
+NoneAmong a y rs = (is_among (as_pairs (freed_pairs rs)) a y ≡ false) × (is_among (as_ports (freed_ports rs)) a y ≡ false)
 
-among_none : (a q : ℕ) (rs : List Record) → AllFine (FreesOther a) rs → is_among (freed_pairs rs) a q ≡ false
-among_none a q [] h = refl
-among_none a q (Free k ∷ rs) h = free_one a k.admission q k.session k.thing rs h.0 (among_none a q rs h.1)
-among_none a q (Open k ∷ rs) h = among_none a q rs h.1
-among_none a q (Close k ∷ rs) h = among_none a q rs h.1
-among_none a q (Hold k ∷ rs) h = among_none a q rs h.1
-among_none a q (Add k ∷ rs) h = among_none a q rs h.1
-among_none a q (Drop k ∷ rs) h = among_none a q rs h.1
-among_none a q (Move k ∷ rs) h = among_none a q rs h.1
-among_none a q (Touch k ∷ rs) h = among_none a q rs h.1
-among_none a q (Bind k ∷ rs) h = among_none a q rs h.1
-among_none a q (Unbind k ∷ rs) h = among_none a q rs h.1
+free_one : (a b s : ℕ) (x y : Thing) (rs : List Record) → (a == b) ≡ false → NoneAmong a y rs → NoneAmong a y (frees s b x ∷ rs)
+free_one a b s (Pair p) y rs off rest = (ap (λ v. (v && is_same_thing y (Pair p)) || is_among (as_pairs (freed_pairs rs)) a y) off ∙ rest.0, rest.1)
+free_one a b s (Port p) y rs off rest = (rest.0, ap (λ v. (v && is_same_thing y (Port p)) || is_among (as_ports (freed_ports rs)) a y) off ∙ rest.1)
+free_one a b s (Chan c k) y rs off rest = rest
+free_one a b s (Rate n) y rs off rest = rest
+
+among_none : (a : ℕ) (y : Thing) (rs : List Record) → AllFine (FreesOther a) rs → NoneAmong a y rs
+among_none a y [] h = (refl, refl)
+among_none a y (Free k ∷ rs) h = free_one a k.admission k.session k.thing y rs h.0 (among_none a y rs h.1)
+among_none a y (Open k ∷ rs) h = among_none a y rs h.1
+among_none a y (Close k ∷ rs) h = among_none a y rs h.1
+among_none a y (Hold k ∷ rs) h = among_none a y rs h.1
+among_none a y (Add k ∷ rs) h = among_none a y rs h.1
+among_none a y (Drop k ∷ rs) h = among_none a y rs h.1
+among_none a y (Move k ∷ rs) h = among_none a y rs h.1
+among_none a y (Touch k ∷ rs) h = among_none a y rs h.1
+among_none a y (Bind k ∷ rs) h = among_none a y rs h.1
+among_none a y (Unbind k ∷ rs) h = among_none a y rs h.1
+
+-- nor is it among both
+among_both : (xs ys : List (ℕ × Thing)) (a : ℕ) (y : Thing) → is_among xs a y ≡ false → is_among ys a y ≡ false → is_among (xs ++ ys) a y ≡ false
+among_both [] ys a y first second = second
+among_both (x ∷ xs) ys a y first second =
+    let parts = or_parts (is_address x.0 x.1 a y) (is_among xs a y) first in
+    ap (λ v. v || is_among (xs ++ ys) a y) parts.0 ∙ among_both xs ys a y parts.1 second
 
 other_dropping : (a s b : ℕ) (o : Option Stream) → AllFine (FreesOther a) (dropping s b o)
 other_dropping a s b None = tt
@@ -108,10 +121,11 @@ other_living c (Some f) right =
     fine-append (FreesOther c.admission) (adding c.session c.admission c.stream o) (binding_to c.session c.startup)
     (other_adding c.admission c.session c.stream o (λ e some. other_admission f c.admission c.stream.track e parts.1 some)) (other_binding c.admission c.session c.startup)
 
--- a Commit frees no pair under its own admission
-pub commit_keeps : (ask : Ask) (v u : View) (rs : List Record) → Acted v u (commit_step ask) (Ok rs) → (q : ℕ) → is_among (freed_pairs rs) ask.admission q ≡ false
-commit_keeps ask v u rs acted q =
+-- a Commit frees no ports under its own admission
+pub commit_keeps : (ask : Ask) (v u : View) (rs : List Record) → Acted v u (commit_step ask) (Ok rs) → (y : Thing) → is_among (freed_addresses rs) ask.admission y ≡ false
+commit_keeps ask v u rs acted y =
     let b = book_of acted.journal in
     let c : Commit = record { session = ask.session; admission = ask.admission; stream = ask.stream; startup = ask.startup } in
     let answer = accepted (refusals v.whole _ b (commit_step ask)) (made v.whole b (commit_step ask)) rs acted.answers in
-    among_none ask.admission q rs (subst (AllFine (FreesOther ask.admission)) answer.1 (other_living c (get b ask.session) answer.0.wrong_state))
+    let none = among_none ask.admission y rs (subst (AllFine (FreesOther ask.admission)) answer.1 (other_living c (get b ask.session) answer.0.wrong_state)) in
+    among_both (as_pairs (freed_pairs rs)) (as_ports (freed_ports rs)) ask.admission y none.0 none.1

@@ -4,7 +4,7 @@ use Rattle.std.specs.Prelude.{Option, Some, None, is_some}
 use Rattle.std.proofs.lemmas.Bool.Decides.{nat_tests}
 use Rattle.std.specs.FinMap.{get, empty}
 use Rattle.rtsp_record.specs.declared.holdings.Thing.{Thing}
-use Rattle.rtsp_record.specs.declared.holdings.Thing.TheVariants.{Pair, Chan, Rate}
+use Rattle.rtsp_record.specs.declared.holdings.Thing.TheVariants.{Pair, Port, Chan, Rate}
 use Rattle.rtsp_record.specs.declared.holdings.Admission.{Admission}
 use Rattle.rtsp_record.specs.declared.changes.Record.{Record}
 use Rattle.rtsp_record.specs.declared.changes.Record.TheVariants.{Open, Close, Hold, Free, Add, Drop, Move, Touch, Bind, Unbind}
@@ -44,6 +44,7 @@ upto_bare x y = record { rate = inl refl; address = inl refl; stream = refl }
 upto_freed : (x y : Option Thing) (t : Thing) (d : Admission) → Upto x y d → Upto x y (freed t d)
 upto_freed x y (Rate n) d h = record { rate = inl refl; address = h.address; stream = h.stream }
 upto_freed x y (Pair p) d h = record { rate = h.rate; address = inl refl; stream = h.stream }
+upto_freed x y (Port p) d h = record { rate = h.rate; address = inl refl; stream = h.stream }
 upto_freed x y (Chan c k) d h = record { rate = h.rate; address = inl refl; stream = h.stream }
 
 upto_dropped : (x y : Option Thing) (d : Admission) → Upto x y d → Upto x y (streaming None d)
@@ -137,13 +138,20 @@ holds_address s a t x y None is h = tt
 holds_address s a (Rate n) x y (Some f) is h = absurd is
 holds_address s a (Pair p) x y (Some f) is h =
     subst (Upto x (Some (Pair p))) (sym (under-own f a (holding (Pair p) (under f a)))) (record { rate = h.rate; address = inr refl; stream = h.stream })
+holds_address s a (Port p) x y (Some f) is h =
+    subst (Upto x (Some (Port p))) (sym (under-own f a (holding (Port p) (under f a)))) (record { rate = h.rate; address = inr refl; stream = h.stream })
 holds_address s a (Chan c k) x y (Some f) is h =
     subst (Upto x (Some (Chan c k))) (sym (under-own f a (holding (Chan c k) (under f a)))) (record { rate = h.rate; address = inr refl; stream = h.stream })
 
-pub frees_pair : (s a p : ℕ) (x y : Option Thing) (o : Option Session) → Within a x y o → Within a x None (effect (frees s a (Pair p)) o)
-frees_pair s a p x y None h = tt
-frees_pair s a p x y (Some f) h =
+pub frees_address : (s a : ℕ) (t : Thing) (x y : Option Thing) (o : Option Session) → IsAddress t → Within a x y o → Within a x None (effect (frees s a t) o)
+frees_address s a t x y None is h = tt
+frees_address s a (Rate n) x y (Some f) is h = absurd is
+frees_address s a (Pair p) x y (Some f) is h =
     subst (Upto x None) (sym (under-own f a (freed (Pair p) (under f a)))) (record { rate = h.rate; address = inl refl; stream = h.stream })
+frees_address s a (Port p) x y (Some f) is h =
+    subst (Upto x None) (sym (under-own f a (freed (Port p) (under f a)))) (record { rate = h.rate; address = inl refl; stream = h.stream })
+frees_address s a (Chan c k) x y (Some f) is h =
+    subst (Upto x None) (sym (under-own f a (freed (Chan c k) (under f a)))) (record { rate = h.rate; address = inl refl; stream = h.stream })
 
 -- What an Unwind without an Open leaves.
 
@@ -157,6 +165,7 @@ abbrev pub IsFirst : Option Thing → Type 0
 IsFirst None = Unit {0}
 IsFirst (Some (Rate n)) = Unit {0}
 IsFirst (Some (Pair p)) = ⊥
+IsFirst (Some (Port p)) = ⊥
 IsFirst (Some (Chan c k)) = ⊥
 
 not_both : (v : Bool) → v ≡ true → v ≡ false → ⊥
@@ -208,11 +217,13 @@ second_back : (s a : ℕ) (f : Session) (x y : Option Thing) → IsSecond y → 
 second_back s a f x None is h = record { session = f; ends = refl; upto = record { rate = h.rate; address = inl (either_none _ h.address); stream = h.stream }; rate = refl }
 second_back s a f x (Some (Rate n)) is h = absurd is
 second_back s a f x (Some (Pair p)) is h = address_back s a f x (Pair p) (λ d. refl) (λ e. ap (is_this (Pair p)) e ∙ same_nat p) h
+second_back s a f x (Some (Port p)) is h = address_back s a f x (Port p) (λ d. refl) (λ e. ap (is_this (Port p)) e ∙ same_nat p) h
 second_back s a f x (Some (Chan c k)) is h = address_back s a f x (Chan c k) (λ d. refl) (λ e. ap (is_this (Chan c k)) e ∙ same_chan c k) h
 
 first_back : (s a : ℕ) (f g : Session) (x : Option Thing) → IsFirst x → Upto x None (under g a) → (under g a).rate ≡ (under f a).rate → (under f a).stream ≡ None → Within a None None (row_after (taking_back s a f x) (Some g))
 first_back s a f g None is h same stream = h
 first_back s a f g (Some (Pair p)) is h same stream = absurd is
+first_back s a f g (Some (Port p)) is h same stream = absurd is
 first_back s a f g (Some (Chan c k)) is h same stream = absurd is
 first_back s a f g (Some (Rate n)) is h same stream =
     elim (is_held f a (Rate n) && not (has_stream_under f a)) as (λ v. (is_held f a (Rate n) && not (has_stream_under f a)) ≡ v → Within a None None (row_after (cond v (frees s a (Rate n) ∷ []) []) (Some g))) [

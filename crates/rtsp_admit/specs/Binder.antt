@@ -1,39 +1,56 @@
 -- What the calls of a binder do.
-use Rattle.std.specs.Prelude.{◌≡◌, ℕ, ◌+◌, ◌-◌, ◌^◌, min, List, [], ◌∷◌, Option, Some, None}
+use Rattle.std.specs.Prelude.{◌≡◌, ℕ, ◌+◌, ◌-◌, ◌^◌, min, List, [], ◌∷◌, ◌++◌, map, Option, Some}
+use Rattle.rtsp_record.specs.declared.changes.Record.{Record}
+use Rattle.rtsp_record.specs.declared.holdings.Thing.{Thing}
+use Rattle.rtsp_record.specs.declared.holdings.Thing.TheVariants.{Pair, Port}
+use Rattle.rtsp_book.specs.Receipts.{freed_pairs, freed_ports}
 
--- a binder before and after a bind that succeeds, a bind that fails and an unbind, by admission and first port; and how many binds have failed
+-- a binder before and after a bind that succeeds, a bind that fails and an unbind, by admission and by the ports; and how many binds have failed
 pub record Calls (B : Type 0) : Type 1 where
-  pub binds : B → ℕ → ℕ → B → Type 0
-  pub fails : B → ℕ → ℕ → B → Type 0
-  pub unbinds : B → ℕ → ℕ → B → Type 0
+  pub binds : B → ℕ → Thing → B → Type 0
+  pub fails : B → ℕ → Thing → B → Type 0
+  pub unbinds : B → ℕ → Thing → B → Type 0
   pub failures : B → ℕ
 
 -- one more, up to the greatest u64
 abbrev pub raised : ℕ → ℕ
 raised n = min (n + 1) (2 ^ 64 - 1)
 
+-- pairs of ports as things, each under its admission
+abbrev pub as_pairs : List (ℕ × ℕ) → List (ℕ × Thing)
+as_pairs xs = map (λ x. (x.0, Pair x.1)) xs
+
+-- single ports as things, each under its admission
+abbrev pub as_ports : List (ℕ × ℕ) → List (ℕ × Thing)
+as_ports xs = map (λ x. (x.0, Port x.1)) xs
+
+-- what records freed of ports, each under its admission: the pairs, and then the single ports
+abbrev pub freed_addresses : List Record → List (ℕ × Thing)
+freed_addresses made = as_pairs (freed_pairs made) ++ as_ports (freed_ports made)
+
 module _ {B : Type 0} (calls : Calls B) where
-  -- the pair p was bound under admission a, and no failure was counted
-  pub record Bound (a p : ℕ) (b c : B) : Type 0 where
-    pub call : calls.binds b a p c
+  -- the ports x were bound under admission a, and no failure was counted
+  pub record Bound (a : ℕ) (x : Thing) (b c : B) : Type 0 where
+    pub call : calls.binds b a x c
     pub count : calls.failures c ≡ calls.failures b
 
-  -- it could not be bound, and that was counted
-  pub record Failed (a p : ℕ) (b c : B) : Type 0 where
-    pub call : calls.fails b a p c
+  -- they could not be bound, and that was counted
+  pub record Failed (a : ℕ) (x : Thing) (b c : B) : Type 0 where
+    pub call : calls.fails b a x c
     pub count : calls.failures c ≡ raised (calls.failures b)
 
-  -- it was unbound, and no failure was counted
-  pub record Unbound (a p : ℕ) (b c : B) : Type 0 where
-    pub call : calls.unbinds b a p c
+  -- they were unbound, and no failure was counted
+  pub record Unbound (a : ℕ) (x : Thing) (b c : B) : Type 0 where
+    pub call : calls.unbinds b a x c
     pub count : calls.failures c ≡ calls.failures b
 
-  -- these pairs were unbound in order, each under its admission
-  abbrev pub UnboundAll : List (ℕ × ℕ) → B → B → Type 0
+  -- these ports were unbound in order, each under its admission
+  abbrev pub UnboundAll : List (ℕ × Thing) → B → B → Type 0
   UnboundAll [] b c = c ≡ b
   UnboundAll (x ∷ xs) b c = (d : B) × Unbound x.0 x.1 b d × UnboundAll xs d c
 
-  -- the pair was unbound, where there is one
-  abbrev pub Released : ℕ → Option ℕ → B → B → Type 0
-  Released a None b c = c ≡ b
-  Released a (Some p) b c = Unbound a p b c
+  -- an address was unbound, where there is one and it is ports
+  abbrev pub Released : ℕ → Option Thing → B → B → Type 0
+  Released a (Some (Pair p)) b c = Unbound a (Pair p) b c
+  Released a (Some (Port p)) b c = Unbound a (Port p) b c
+  Released a other b c = c ≡ b

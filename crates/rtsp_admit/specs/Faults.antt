@@ -1,26 +1,29 @@
 -- A bind that failed shows in an admission only where it was counted.
-use Rattle.std.specs.Prelude.{◌≡◌, ℕ, ◌-◌, ◌<◌, ◌^◌, Contains, Result, Ok, Err}
+use Rattle.std.specs.Prelude.{◌≡◌, ◌-◌, ◌<◌, ◌^◌, Contains, Result, Ok, Err}
 use Rattle.rtsp_record.specs.declared.holdings.Thing.{Thing}
-use Rattle.rtsp_record.specs.declared.holdings.Thing.TheVariants.{Rate, Pair, Chan}
+use Rattle.rtsp_record.specs.declared.holdings.Thing.TheVariants.{Rate, Pair, Port, Chan}
 use Rattle.rtsp_book.specs.declared.asks.Admitted.{Admitted}
 use Rattle.rtsp_book.specs.declared.asks.Ask.{Ask}
 use Rattle.rtsp_book.specs.declared.refusals.Refusal.{Refusal}
 use Rattle.rtsp_book.specs.declared.steps.Step.{Step}
 use Rattle.rtsp_lock.specs.declared.view.View.{View}
 use Rattle.rtsp_lock.specs.Calls.{Acted}
+use Rattle.rtsp_admit.specs.declared.udp_ports.UdpPorts.{UdpPorts}
+use Rattle.rtsp_admit.specs.declared.udp_ports.UdpPorts.TheVariants as udp
+use Rattle.rtsp_admit.specs.Steps.{ports_step, first_steps}
 use Rattle.rtsp_admit.specs.Binder.{Calls}
-use Rattle.rtsp_admit.specs.Steps.{pair_step, first_steps}
 use Rattle.rtsp_admit.specs.Runs.{State, Held, Admits}
 
--- the least of all free pairs was asked for, and was this one
-pub record FirstPair (ask : Ask) (p : ℕ) : Type 0 where
+-- the least of all free ports was asked for, and was this
+pub record FirstPorts (ask : Ask) (kind : UdpPorts) (x : Thing) : Type 0 where
   pub before : View
   pub after : View
-  pub held : Held ask (pair_step ask 0) (Pair p) before after
+  pub held : Held ask (ports_step ask kind 0) x before after
 
--- a pair that was granted is the first that was held
+-- ports that were granted are the first that were held
 abbrev pub IsFirstOffer : Ask → Thing → Type 0
-IsFirstOffer ask (Pair p) = FirstPair ask p
+IsFirstOffer ask (Pair p) = FirstPorts ask udp.Pair (Pair p)
+IsFirstOffer ask (Port p) = FirstPorts ask udp.Port (Port p)
 IsFirstOffer ask (Chan c k) = Unit {0}
 IsFirstOffer ask (Rate n) = Unit {0}
 

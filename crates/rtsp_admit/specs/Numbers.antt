@@ -7,7 +7,7 @@ use Rattle.rtsp_book.specs.declared.asks.Admitted.{Admitted}
 use Rattle.rtsp_book.specs.declared.asks.Ask.{Ask}
 use Rattle.rtsp_book.specs.declared.refusals.Refusal.{Refusal}
 use Rattle.rtsp_book.specs.declared.steps.Step.{Step}
-use Rattle.rtsp_book.specs.declared.steps.Step.TheVariants.{HoldRate, HoldPair, HoldChan, Commit}
+use Rattle.rtsp_book.specs.declared.steps.Step.TheVariants.{HoldRate, HoldPair, HoldPort, HoldChan, Commit}
 use Rattle.rtsp_lock.specs.declared.view.View.{View}
 use Rattle.rtsp_lock.specs.Entries.{Has, OnlyOf}
 use Rattle.rtsp_lock.specs.Calls.{Acted, Looked, Drew}
@@ -24,6 +24,7 @@ UsesDrawn v = (n : ℕ) → uses n v.mine ≢ [] → Has v.drawn n
 abbrev pub admission_of : Step → Option ℕ
 admission_of (HoldRate s a bits) = Some a
 admission_of (HoldPair s a from) = Some a
+admission_of (HoldPort s a from) = Some a
 admission_of (HoldChan h) = Some h.admission
 admission_of (Commit c) = Some c.admission
 admission_of step = None

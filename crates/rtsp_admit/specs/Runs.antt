@@ -1,8 +1,8 @@
 -- The run of an admission: the calls of a seat and of a binder, one after another. Between any two of them other seats may act.
-use Rattle.std.specs.Prelude.{◌≡◌, ℕ, ◌+◌, List, [], ◌∷◌, Option, Some, None, Result, Ok, Err}
+use Rattle.std.specs.Prelude.{◌≡◌, ℕ, List, [], ◌∷◌, Option, Some, None, Result, Ok, Err}
 use Rattle.rtsp_record.specs.declared.changes.Record.{Record}
 use Rattle.rtsp_record.specs.declared.holdings.Thing.{Thing}
-use Rattle.rtsp_record.specs.declared.holdings.Thing.TheVariants.{Rate, Pair, Chan}
+use Rattle.rtsp_record.specs.declared.holdings.Thing.TheVariants.{Rate}
 use Rattle.rtsp_record.specs.Records.{holds}
 use Rattle.rtsp_book.specs.declared.asks.Admitted.{Admitted}
 use Rattle.rtsp_book.specs.declared.asks.Ask.{Ask}
@@ -12,7 +12,6 @@ use Rattle.rtsp_book.specs.declared.asks.Wanted.TheVariants as wanted
 use Rattle.rtsp_book.specs.declared.refusals.Refusal.{Refusal}
 use Rattle.rtsp_book.specs.declared.steps.Step.{Step}
 use Rattle.rtsp_book.specs.declared.steps.Step.TheVariants as step
-use Rattle.rtsp_book.specs.Receipts.{freed_pairs}
 use Rattle.rtsp_lock.specs.declared.handles.BookSeat.{BookSeat}
 use Rattle.rtsp_lock.specs.declared.view.View.{View}
 use Rattle.rtsp_lock.specs.Calls.{seat_view, Acted}
@@ -21,8 +20,10 @@ use Rattle.rtsp_admit.specs.declared.failure.Attempt.TheVariants as attempt
 use Rattle.rtsp_admit.specs.declared.failure.Failure.{Failure}
 use Rattle.rtsp_admit.specs.declared.failure.Failure.TheVariants as failure
 use Rattle.rtsp_admit.specs.declared.failure.NoAddress.{NoAddress}
-use Rattle.rtsp_admit.specs.Binder.{Calls, Bound, Failed, UnboundAll, Released}
-use Rattle.rtsp_admit.specs.Steps.{open_step, rate_step, pair_step, chan_step, return_step, commit_step, chain_left, refusal_of, bound_pair, admitted}
+use Rattle.rtsp_admit.specs.declared.udp_ports.UdpPorts.{UdpPorts}
+use Rattle.rtsp_admit.specs.declared.udp_ports.UdpPorts.TheVariants as udp
+use Rattle.rtsp_admit.specs.Binder.{Calls, Bound, Failed, UnboundAll, Released, freed_addresses}
+use Rattle.rtsp_admit.specs.Steps.{open_step, rate_step, ports_from, next_above, ports_step, chan_step, return_step, commit_step, chain_left, refusal_of, bound_address, admitted}
 
 -- what a seat knows, and a binder, at one moment
 pub record State (B : Type 0) : Type 0 where
@@ -59,76 +60,80 @@ pub record Rated (ask : Ask) (v u : View) : Type 0 where
   pub opens : Opened ask ask.opening v opened
   pub holds : Held ask (rate_step ask) (Rate ask.rate) opened u
 
-module _ {B : Type 0} (calls : Calls B) (ask : Ask) where
-  -- One try for a pair of ports, of those not below `from`.
+module _ {B : Type 0} (calls : Calls B) (ask : Ask) (kind : UdpPorts) where
+  -- One try for ports, of those not below `from`.
 
-  -- it is held and bound
-  pub record PairBound (from p : ℕ) (s t : State B) : Type 0 where
-    pub held : Held ask (pair_step ask from) (Pair p) s.view t.view
-    pub bound : Bound calls ask.admission p s.binder t.binder
+  -- they are held and bound
+  pub record PortsBound (from p : ℕ) (s t : State B) : Type 0 where
+    pub held : Held ask (ports_step ask kind from) (ports_from kind p) s.view t.view
+    pub bound : Bound calls ask.admission (ports_from kind p) s.binder t.binder
 
-  -- it is held, can't be bound, and is given back
-  pub record PairReturned (from p : ℕ) (s t : State B) : Type 0 where
+  -- they are held, can't be bound, and are given back
+  pub record PortsReturned (from p : ℕ) (s t : State B) : Type 0 where
     pub between : View
-    pub held : Held ask (pair_step ask from) (Pair p) s.view between
-    pub failed : Failed calls ask.admission p s.binder t.binder
+    pub held : Held ask (ports_step ask kind from) (ports_from kind p) s.view between
+    pub failed : Failed calls ask.admission (ports_from kind p) s.binder t.binder
     pub made : List Record
-    pub returned : Acted between t.view (return_step ask p) (Ok made)
+    pub returned : Acted between t.view (return_step ask (ports_from kind p)) (Ok made)
 
-  -- it is held, can't be bound, and its Return is refused
-  pub record PairUnreturned (from p : ℕ) (refusal : Refusal) (s t : State B) : Type 0 where
+  -- they are held, can't be bound, and their Return is refused
+  pub record PortsUnreturned (from : ℕ) (refusal : Refusal) (x : Thing) (s t : State B) : Type 0 where
+    pub first : ℕ
+    pub is : x ≡ ports_from kind first
     pub between : View
-    pub held : Held ask (pair_step ask from) (Pair p) s.view between
-    pub failed : Failed calls ask.admission p s.binder t.binder
-    pub refused : Acted between t.view (return_step ask p) (Err refusal)
+    pub held : Held ask (ports_step ask kind from) x s.view between
+    pub failed : Failed calls ask.admission x s.binder t.binder
+    pub refused : Acted between t.view (return_step ask x) (Err refusal)
 
-  -- no pair is held, or one is that can't be bound and whose Return is refused
-  abbrev pub PairRefused : ℕ → Refusal → Option ℕ → State B → State B → Type 0
-  PairRefused from refusal None s t = Acted s.view t.view (pair_step ask from) (Err refusal) × (t.binder ≡ s.binder)
-  PairRefused from refusal (Some p) s t = PairUnreturned from p refusal s t
+  -- none are held, or some are that can't be bound and whose Return is refused
+  abbrev pub PortsRefused : ℕ → Refusal → Option Thing → State B → State B → Type 0
+  PortsRefused from refusal None s t = Acted s.view t.view (ports_step ask kind from) (Err refusal) × (t.binder ≡ s.binder)
+  PortsRefused from refusal (Some x) s t = PortsUnreturned from refusal x s t
 
   -- what a try comes to
   abbrev pub Attempted : ℕ → Attempt → State B → State B → Type 0
-  Attempted from (attempt.Bound p) s t = PairBound from p s t
-  Attempted from (attempt.Returned p) s t = PairReturned from p s t
-  Attempted from (attempt.Refused e) s t = PairRefused from e.refusal e.unreturned s t
+  Attempted from (attempt.Bound p) s t = PortsBound from p s t
+  Attempted from (attempt.Returned p) s t = PortsReturned from p s t
+  Attempted from (attempt.Refused e) s t = PortsRefused from e.refusal e.unreturned s t
 
-  -- one more pair is given back after those of an earlier run, and the next try is for those from two above it
+  -- some more are given back after those of an earlier run, and the next try is for those above them
   pub record OneMore (earlier : ℕ → State B → State B → Type 0) (p from : ℕ) (s t : State B) : Type 0 where
     pub start : ℕ
     pub between : State B
     pub before : earlier start s between
-    pub returned : PairReturned start p between t
-    pub next : from ≡ p + 2
+    pub returned : PortsReturned start p between t
+    pub next : from ≡ next_above kind p
 
-  -- from 0 on these pairs were given back, the last first, and the next try is for those not below `from`
+  -- from 0 on these were given back, the last first, and the next try is for those not below `from`
   abbrev pub Tried : List ℕ → ℕ → State B → State B → Type 0
   Tried [] from s t = (from ≡ 0) × (t ≡ s)
   Tried (p ∷ before) from s t = OneMore (Tried before) p from s t
 
-  -- tries until a pair is bound
-  pub record PairGranted (p : ℕ) (s t : State B) : Type 0 where
+  -- tries until some are bound
+  pub record PortsGranted (x : Thing) (s t : State B) : Type 0 where
+    pub first : ℕ
+    pub is : x ≡ ports_from kind first
     pub tried : List ℕ
     pub from : ℕ
     pub between : State B
     pub tries : Tried tried from s between
-    pub last : PairBound from p between t
+    pub last : PortsBound from first between t
 
   -- tries until one is refused
-  pub record NoPairGranted (e : NoAddress) (s t : State B) : Type 0 where
+  pub record NoPortsGranted (e : NoAddress) (s t : State B) : Type 0 where
     pub tried : List ℕ
     pub from : ℕ
     pub between : State B
     pub tries : Tried tried from s between
-    pub last : PairRefused from e.refusal e.unreturned between t
+    pub last : PortsRefused from e.refusal e.unreturned between t
 
+module _ {B : Type 0} (calls : Calls B) (ask : Ask) where
   -- The address.
 
-  -- it is held, and bound where it is a pair
+  -- it is held, and bound where it is ports
   abbrev pub Addressed : Wanted → Thing → State B → State B → Type 0
-  Addressed wanted.Pair (Pair p) s t = PairGranted p s t
-  Addressed wanted.Pair (Chan c k) s t = ⊥
-  Addressed wanted.Pair (Rate n) s t = ⊥
+  Addressed wanted.Pair x s t = PortsGranted calls ask udp.Pair x s t
+  Addressed wanted.Port x s t = PortsGranted calls ask udp.Port x s t
   Addressed (wanted.Channels conn wish) x s t = Held ask (chan_step ask conn wish) x s.view t.view × (t.binder ≡ s.binder)
 
   -- channels are refused
@@ -139,12 +144,13 @@ module _ {B : Type 0} (calls : Calls B) (ask : Ask) where
 
   -- it is refused
   abbrev pub NotAddressed : Wanted → NoAddress → State B → State B → Type 0
-  NotAddressed wanted.Pair e s t = NoPairGranted e s t
+  NotAddressed wanted.Pair e s t = NoPortsGranted calls ask udp.Pair e s t
+  NotAddressed wanted.Port e s t = NoPortsGranted calls ask udp.Port e s t
   NotAddressed (wanted.Channels conn wish) e s t = NoChannels conn wish e s t
 
   -- The whole.
 
-  -- all steps are accepted, and the pairs that the Commit freed are unbound
+  -- all steps are accepted, and the ports that the Commit freed are unbound
   pub record Completes (address : Thing) (s t : State B) : Type 0 where
     pub rated : View
     pub rates : Rated ask s.view rated
@@ -152,7 +158,7 @@ module _ {B : Type 0} (calls : Calls B) (ask : Ask) where
     pub addresses : Addressed ask.wanted address (with_view rated s) held
     pub made : List Record
     pub commits : Acted held.view t.view (commit_step ask) (Ok made)
-    pub unbound : UnboundAll calls (freed_pairs made) held.binder t.binder
+    pub unbound : UnboundAll calls (freed_addresses made) held.binder t.binder
 
   -- HoldRate is refused
   pub record RateFails (refusal : Refusal) (s t : State B) : Type 0 where
@@ -182,7 +188,7 @@ module _ {B : Type 0} (calls : Calls B) (ask : Ask) where
   Fails (failure.Address e) s t = AddressFails e s t
   Fails (failure.Commit refusal address) s t = CommitFails refusal address s t
 
-  -- at the first refusal what was accepted and not returned is unwound, and the pair that was bound is unbound
+  -- at the first refusal what was accepted and not returned is unwound, and the ports that were bound are unbound
   pub record Rejects (refusal : Refusal) (s t : State B) : Type 0 where
     pub cause : Failure
     pub broken : State B
@@ -190,7 +196,7 @@ module _ {B : Type 0} (calls : Calls B) (ask : Ask) where
     pub first : refusal ≡ refusal_of cause
     pub answer : Result (List Record) Refusal
     pub unwinds : Acted broken.view t.view (step.Unwind (chain_left ask cause)) answer
-    pub releases : Released calls ask.admission (bound_pair cause) broken.binder t.binder
+    pub releases : Released calls ask.admission (bound_address cause) broken.binder t.binder
 
   -- an admission
   abbrev pub Admits : Result Admitted Refusal → State B → State B → Type 0

@@ -1,9 +1,9 @@
 -- The steps of an admission, and what of them is unwound at a refusal.
-use Rattle.std.specs.Prelude.{ℕ, Bool, false, List, [], ◌∷◌, ◌++◌, is_some, option_map, slice_get, Option, Some, None}
+use Rattle.std.specs.Prelude.{ℕ, ◌+◌, Bool, false, List, [], ◌∷◌, ◌++◌, is_some, slice_get, Option, Some, None}
 use Rattle.rtsp_record.specs.declared.changes.Record.{Record}
 use Rattle.rtsp_record.specs.declared.changes.Record.TheVariants as change
 use Rattle.rtsp_record.specs.declared.holdings.Thing.{Thing}
-use Rattle.rtsp_record.specs.declared.holdings.Thing.TheVariants.{Rate, Pair, Chan}
+use Rattle.rtsp_record.specs.declared.holdings.Thing.TheVariants.{Rate, Pair, Port, Chan}
 use Rattle.rtsp_record.specs.Choices.{IsWish}
 use Rattle.rtsp_book.specs.declared.asks.Admitted.{Admitted}
 use Rattle.rtsp_book.specs.declared.asks.Ask.{Ask}
@@ -16,10 +16,13 @@ use Rattle.rtsp_book.specs.declared.steps.Step.{Step}
 use Rattle.rtsp_book.specs.declared.steps.Step.TheVariants as step
 use Rattle.rtsp_admit.specs.declared.failure.Failure.{Failure}
 use Rattle.rtsp_admit.specs.declared.failure.Failure.TheVariants as failure
+use Rattle.rtsp_admit.specs.declared.udp_ports.UdpPorts.{UdpPorts}
+use Rattle.rtsp_admit.specs.declared.udp_ports.UdpPorts.TheVariants as udp
 
 -- a wish for channels is even and at most 254
 abbrev pub HasWish : Wanted → Type 0
 HasWish wanted.Pair = Unit {0}
+HasWish wanted.Port = Unit {0}
 HasWish (wanted.Channels conn wish) = IsWish wish
 
 -- the session is opened
@@ -30,17 +33,28 @@ open_step ask o = step.Open (record { session = ask.session; id = o.id; conn = o
 abbrev pub rate_step : Ask → Step
 rate_step ask = step.HoldRate ask.session ask.admission ask.rate
 
--- the least free pair of ports not below `from` is reserved
-abbrev pub pair_step : Ask → ℕ → Step
-pair_step ask from = step.HoldPair ask.session ask.admission from
+-- ports by the first of them
+abbrev pub ports_from : UdpPorts → ℕ → Thing
+ports_from udp.Pair p = Pair p
+ports_from udp.Port p = Port p
+
+-- the number after the last of them
+abbrev pub next_above : UdpPorts → ℕ → ℕ
+next_above udp.Pair p = p + 2
+next_above udp.Port p = p + 1
+
+-- the least free ones not below `from` are reserved
+abbrev pub ports_step : Ask → UdpPorts → ℕ → Step
+ports_step ask udp.Pair from = step.HoldPair ask.session ask.admission from
+ports_step ask udp.Port from = step.HoldPort ask.session ask.admission from
 
 -- channels of a connection are reserved
 abbrev pub chan_step : Ask → ℕ → Option ℕ → Step
 chan_step ask conn wish = step.HoldChan (record { session = ask.session; admission = ask.admission; conn = conn; wish = wish })
 
--- a pair that could not be bound is given back
-abbrev pub return_step : Ask → ℕ → Step
-return_step ask p = step.Return ask.session ask.admission (Pair p)
+-- ports that could not be bound are given back
+abbrev pub return_step : Ask → Thing → Step
+return_step ask x = step.Return ask.session ask.admission x
 
 -- the stream is set up over what is held
 abbrev pub commit_step : Ask → Step
@@ -48,7 +62,8 @@ commit_step ask = step.Commit (record { session = ask.session; admission = ask.a
 
 -- the address as it is first asked for
 abbrev pub address_step : Ask → Wanted → Step
-address_step ask wanted.Pair = pair_step ask 0
+address_step ask wanted.Pair = ports_step ask udp.Pair 0
+address_step ask wanted.Port = ports_step ask udp.Port 0
 address_step ask (wanted.Channels conn wish) = chan_step ask conn wish
 
 -- the Open of an admission that opens its session
@@ -68,19 +83,20 @@ thing_by o = None
 abbrev pub thing_in : List Record → Option Thing
 thing_in made = thing_by (slice_get made 0)
 
--- a thing that is a pair, by its first port
-abbrev pub pair_of : Thing → Option ℕ
-pair_of (Pair p) = Some p
-pair_of (Chan c k) = None
-pair_of (Rate n) = None
+-- a thing that is ports, by the first of them
+abbrev pub first_port_of : Thing → Option ℕ
+first_port_of (Pair p) = Some p
+first_port_of (Port p) = Some p
+first_port_of (Chan c k) = None
+first_port_of (Rate n) = None
 
--- the pair that the first of some records holds
-abbrev pub pair_by : Option Record → Option ℕ
-pair_by (Some (change.Hold h)) = pair_of h.thing
-pair_by o = None
+-- the first of the ports that the first of some records holds
+abbrev pub first_port_by : Option Record → Option ℕ
+first_port_by (Some (change.Hold h)) = first_port_of h.thing
+first_port_by o = None
 
-abbrev pub pair_in : List Record → Option ℕ
-pair_in made = pair_by (slice_get made 0)
+abbrev pub first_port_in : List Record → Option ℕ
+first_port_in made = first_port_by (slice_get made 0)
 
 -- a chain of the admission
 abbrev pub chain_of : Ask → Bool → Option Thing → Option Thing → Chain
@@ -90,7 +106,7 @@ chain_of ask opened first second = record { session = ask.session; admission = a
 abbrev pub chain_left : Ask → Failure → Chain
 chain_left ask (failure.Open refusal) = chain_of ask false None None
 chain_left ask (failure.Rate refusal) = chain_of ask (is_some ask.opening) None None
-chain_left ask (failure.Address e) = chain_of ask (is_some ask.opening) (Some (Rate ask.rate)) (option_map Pair e.unreturned)
+chain_left ask (failure.Address e) = chain_of ask (is_some ask.opening) (Some (Rate ask.rate)) e.unreturned
 chain_left ask (failure.Commit refusal address) = chain_of ask (is_some ask.opening) (Some (Rate ask.rate)) (Some address)
 
 -- the refusal of the step that failed
@@ -100,12 +116,12 @@ refusal_of (failure.Rate refusal) = refusal
 refusal_of (failure.Address e) = e.refusal
 refusal_of (failure.Commit refusal address) = refusal
 
--- the pair that was bound before it
-abbrev pub bound_pair : Failure → Option ℕ
-bound_pair (failure.Open refusal) = None
-bound_pair (failure.Rate refusal) = None
-bound_pair (failure.Address e) = None
-bound_pair (failure.Commit refusal address) = pair_of address
+-- the address that was held and bound before it
+abbrev pub bound_address : Failure → Option Thing
+bound_address (failure.Open refusal) = None
+bound_address (failure.Rate refusal) = None
+bound_address (failure.Address e) = None
+bound_address (failure.Commit refusal address) = Some address
 
 -- what is granted with an address
 abbrev pub admitted : Ask → Thing → Admitted

@@ -4,28 +4,28 @@ ghost use Rattle.std.specs.Prelude.{◌≡◌, IfOk, IfErr, OnErr, Ok};
 ghost use Rattle.rtsp_record.specs.Rules.{IsAddress};
 ghost use Rattle.rtsp_book.specs.Replies.{AreDifferent};
 ghost use Rattle.rtsp_lock.specs.Calls.{seat_view, IsSeatOf, SameSeat};
-ghost use Rattle.rtsp_admit.specs.Binder.{Released};
 ghost use Rattle.rtsp_admit.specs.Steps.{HasWish, chain_left};
 ghost use Rattle.rtsp_admit.specs.Runs.{state_of, Addressed, NotAddressed, Completes, Fails, Admits};
 ghost use Rattle.rtsp_admit.specs.Refused.{LeavesNothing};
-ghost use Rattle.rtsp_admit.specs.Pairs.{KeepsPairs, GainsPair};
+ghost use Rattle.rtsp_admit.specs.Addresses.{KeepsAddresses, GainsAddress};
 ghost use Rattle.rtsp_admit.specs.Faults.{CountsFaults};
 ghost use Rattle.rtsp_admit.specs.Numbers.{KeepsDrawn, LeavesNothingUnused};
 
-use crate::binder::{Binder, unbind_all};
+use crate::binder::{Binder, release, unbind_freed};
 use crate::failure::{Failure, NoAddress};
 use crate::laws::{
-    law_admitted_keeps_drawn, law_admitted_pairs, law_faults_counted, law_refused,
-    law_refused_pairs, law_refused_unused,
+    law_admitted_address, law_admitted_keeps_drawn, law_faults_counted, law_refused,
+    law_refused_addresses, law_refused_unused,
 };
-use crate::pairs::grant_pair;
+use crate::ports::grant_ports;
 use crate::steps::{commit_step, hold_channels, hold_rate, open};
+use crate::udp_ports::UdpPorts;
 use rtsp_book::{Admitted, Ask, Receipt, Refusal, Step, Wanted};
 use rtsp_lock::{BookLock, BookSeat};
 use rtsp_record::Thing;
 use std::sync::Wait;
 
-// Holds an address, and binds it where it is a pair.
+// Holds an address, and binds it where it is ports.
 fn address<R: Wait, B: Binder>(
     rt: &R,
     seat: &mut BookSeat,
@@ -42,10 +42,8 @@ fn address<R: Wait, B: Binder>(
     ensures err { IfErr result (λ e. NotAddressed B.calls ask.now ask.now.wanted e (state_of seat.old binder.old) (state_of seat.new binder.new)) }
 {
     match ask.wanted {
-        Wanted::Pair => match grant_pair(rt, seat, lock, binder, ask, made) {
-            Ok(pair) => Ok(Thing::Pair(pair)),
-            Err(none) => Err(none),
-        },
+        Wanted::Pair => grant_ports(rt, seat, lock, binder, ask, UdpPorts::Pair, made),
+        Wanted::Port => grant_ports(rt, seat, lock, binder, ask, UdpPorts::Port, made),
         Wanted::Channels { conn, wish } => {
             match hold_channels(rt, seat, lock, ask, conn, wish, made) {
                 Ok(channels) => Ok(channels),
@@ -58,7 +56,7 @@ fn address<R: Wait, B: Binder>(
     }
 }
 
-// Does the steps up to the Commit, and unbinds the pairs that the Commit freed.
+// Does the steps up to the Commit, and unbinds the ports that the Commit freed.
 fn complete<R: Wait, B: Binder>(
     rt: &R,
     seat: &mut BookSeat,
@@ -85,21 +83,12 @@ fn complete<R: Wait, B: Binder>(
     match address(rt, seat, lock, binder, ask, made) {
         Ok(address) => match seat.act_into(rt, lock, &commit_step(ask), made) {
             Ok(()) => {
-                unbind_all(binder, made.freed_pairs().as_slice());
+                unbind_freed(binder, made);
                 Ok(address)
             }
             Err(refusal) => Err(Failure::Commit(refusal, address)),
         },
         Err(none) => Err(Failure::Address(none)),
-    }
-}
-
-// Unbinds a pair, where there is one.
-fn release<B: Binder>(binder: &mut B, admission: u64, pair: Option<u16>)
-    ensures { Released B.calls admission pair binder.old binder.new }
-{
-    if let Some(pair) = pair {
-        binder.unbind(admission, pair);
     }
 }
 
@@ -127,7 +116,7 @@ fn attempt<R: Wait, B: Binder>(
         Err(failure) => {
             let chain = failure.chain(ask);
             let _ = seat.act_into(rt, lock, &Step::Unwind { chain }, &mut made);
-            release(binder, ask.admission, failure.bound_pair());
+            release(binder, ask.admission, failure.bound_address());
             Err(failure.refusal())
         }
     }
@@ -137,10 +126,10 @@ fn attempt<R: Wait, B: Binder>(
 /// meantime. The numbers of `ask` are drawn before; a wish for channels is even and at most 254.
 ///
 /// Returns what was granted, or the refusal of the first step that was refused: Open, HoldRate,
-/// HoldPair or HoldChan, the Return of a pair that could not be bound, or Commit. `NoPair` also
-/// means that no free pair could be bound. After a refusal the steps accepted before are unwound
-/// and the pair that was bound is unbound, so nothing of the admission is left, as long as no other
-/// call used its number.
+/// HoldPair, HoldPort or HoldChan, the Return of ports that could not be bound, or Commit. `NoPair`
+/// also means that no free pair, or no free port, could be bound. After a refusal the steps accepted
+/// before are unwound and the ports that were bound are unbound, so nothing of the admission is left,
+/// as long as no other call used its number.
 pub fn admit<R: Wait, B: Binder>(
     rt: &R,
     seat: &mut BookSeat,
@@ -156,10 +145,10 @@ pub fn admit<R: Wait, B: Binder>(
     // A refusal leaves nothing of the admission, and the binder has what it had.
     ensures nothing { OnErr result (LeavesNothing ask.now (seat_view seat.old) (seat_view seat.new)) }
     ensures unused { OnErr result (LeavesNothingUnused ask.now (seat_view seat.old) (seat_view seat.new)) }
-    ensures released { OnErr result (KeepsPairs B.calls binder.old binder.new) }
+    ensures released { OnErr result (KeepsAddresses B.calls binder.old binder.new) }
 
     // What is granted is bound, and what the Commit freed is not.
-    ensures bound { IfOk result (λ granted. GainsPair B.calls ask.now granted (state_of seat.old binder.old) (state_of seat.new binder.new)) }
+    ensures bound { IfOk result (λ granted. GainsAddress B.calls ask.now granted (state_of seat.old binder.old) (state_of seat.new binder.new)) }
 
     // A bind that failed shows only where it was counted.
     ensures faults { CountsFaults B.calls ask.now result binder.old binder.new }
@@ -171,13 +160,13 @@ pub fn admit<R: Wait, B: Binder>(
     law_admitted_keeps_drawn::<B>(ask);
     match attempt(rt, seat, lock, binder, ask) {
         Ok(granted) => {
-            law_admitted_pairs::<B>(ask);
+            law_admitted_address::<B>(ask);
             Ok(granted)
         }
         Err(refusal) => {
             law_refused::<B>(ask);
             law_refused_unused::<B>(ask);
-            law_refused_pairs::<B>(ask);
+            law_refused_addresses::<B>(ask);
             Err(refusal)
         }
     }

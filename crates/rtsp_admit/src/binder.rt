@@ -1,37 +1,79 @@
-//! Who binds pairs of ports.
+//! Who binds ports.
 
 ghost use Rattle.std.specs.Prelude.{◌≡◌, ℕ, OnOk, OnErr};
-ghost use Rattle.rtsp_admit.specs.Binder.{Calls, Bound, Failed, Unbound, UnboundAll};
+ghost use Rattle.rtsp_record.specs.declared.holdings.Thing.TheVariants.{Pair, Port};
+ghost use Rattle.rtsp_admit.specs.Binder.{Calls, Bound, Failed, Unbound, UnboundAll, Released, as_pairs, as_ports, freed_addresses};
 
+use rtsp_book::Receipt;
+use rtsp_record::Thing;
 use thiserror::Error;
 
-/// A pair of ports that can't be bound.
+/// Ports that can't be bound.
 #[derive(Clone, Copy, Debug, PartialEq, Eq, Error)]
-#[error("the pair of ports can't be bound")]
+#[error("the ports can't be bound")]
 pub struct BindFault;
 
-/// Binds pairs of ports, as by opening their two sockets. A pair is named by its first port, and
-/// bound under the number of an admission.
+/// Binds pairs of ports and single ports, as by opening their sockets. A pair is named by its first
+/// port. They are bound under the number of an admission.
 pub trait Binder {
     /// What each call does to a binder, and how many binds have failed, up to the greatest `u64`.
     ghost calls: { Calls Self };
 
-    /// Binds a pair. A pair that is bound under this admission already is a fault too.
+    /// Binds a pair. A pair of which a port is bound under this admission already is a fault too.
     fn bind(&mut self, admission: u64, pair: u16) -> Result<(), BindFault>
-        ensures ok { OnOk result (Bound calls admission pair self.old self.new) }
-        ensures err { OnErr result (Failed calls admission pair self.old self.new) };
+        ensures ok { OnOk result (Bound calls admission (Pair pair) self.old self.new) }
+        ensures err { OnErr result (Failed calls admission (Pair pair) self.old self.new) };
 
     /// Unbinds the pair under this admission, where it is bound, and no pair of another one.
     fn unbind(&mut self, admission: u64, pair: u16)
-        ensures { Unbound calls admission pair self.old self.new };
+        ensures { Unbound calls admission (Pair pair) self.old self.new };
+
+    /// Binds one port. A port that is bound under this admission already, by itself or in a pair, is
+    /// a fault too.
+    fn bind_port(&mut self, admission: u64, port: u16) -> Result<(), BindFault>
+        ensures ok { OnOk result (Bound calls admission (Port port) self.old self.new) }
+        ensures err { OnErr result (Failed calls admission (Port port) self.old self.new) };
+
+    /// Unbinds the port under this admission, where it is bound by itself, and no port of another
+    /// one.
+    fn unbind_port(&mut self, admission: u64, port: u16)
+        ensures { Unbound calls admission (Port port) self.old self.new };
 }
 
-/// Unbinds pairs in this order, each with the admission that it was bound under, as
-/// `Receipt::freed_pairs` lists them.
-pub fn unbind_all<B: Binder>(binder: &mut B, pairs: &[(u64, u16)])
-    ensures { UnboundAll B.calls pairs.now binder.old binder.new }
+// Unbinds pairs in this order.
+fn unbind_pairs<B: Binder>(binder: &mut B, pairs: &[(u64, u16)])
+    ensures { UnboundAll B.calls (as_pairs pairs.now) binder.old binder.new }
 {
     for pair in pairs {
         binder.unbind(pair.0, pair.1);
+    }
+}
+
+// Unbinds single ports in this order.
+fn unbind_ports<B: Binder>(binder: &mut B, ports: &[(u64, u16)])
+    ensures { UnboundAll B.calls (as_ports ports.now) binder.old binder.new }
+{
+    for port in ports {
+        binder.unbind_port(port.0, port.1);
+    }
+}
+
+/// Unbinds what a step freed, each with the admission that it was bound under: the pairs of ports in
+/// order, and then the single ports.
+pub fn unbind_freed<B: Binder>(binder: &mut B, made: &Receipt)
+    ensures { UnboundAll B.calls (freed_addresses made.now) binder.old binder.new }
+{
+    unbind_pairs(binder, made.freed_pairs().as_slice());
+    unbind_ports(binder, made.freed_ports().as_slice());
+}
+
+// Unbinds an address, where there is one and it is ports.
+pub(crate) fn release<B: Binder>(binder: &mut B, admission: u64, address: Option<Thing>)
+    ensures { Released B.calls admission address binder.old binder.new }
+{
+    match address {
+        Some(Thing::Pair(pair)) => binder.unbind(admission, pair),
+        Some(Thing::Port(port)) => binder.unbind_port(admission, port),
+        Some(Thing::Chan(_, _) | Thing::Rate(_)) | None => {}
     }
 }

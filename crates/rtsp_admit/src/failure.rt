@@ -5,23 +5,23 @@ ghost use Rattle.std.specs.Prelude.{◌≡◌};
 use rtsp_book::{Ask, Chain, Refusal};
 use rtsp_record::Thing;
 
-// No address is granted. A pair may be left held, which could not be bound and whose Return was
+// No address is granted. Ports may be left held, which could not be bound and whose Return was
 // refused too.
 #[derive(Clone, Copy)]
 pub(crate) struct NoAddress {
     pub(crate) refusal: Refusal,
-    pub(crate) unreturned: Option<u16>,
+    pub(crate) unreturned: Option<Thing>,
 }
 
-// What a try for a pair of ports comes to.
+// What a try for ports comes to, by the first of them.
 pub(crate) enum Attempt {
     Bound(u16),
     Returned(u16),
     Refused(NoAddress),
 }
 
-// The step that was refused. At a refused Commit there is an address, which is bound where it is a
-// pair.
+// The step that was refused. At a refused Commit there is an address, which is bound where it is
+// ports.
 #[derive(Clone, Copy)]
 pub(crate) enum Failure {
     Open(Refusal),
@@ -31,7 +31,7 @@ pub(crate) enum Failure {
 }
 
 impl Failure {
-    ghost use Rattle.rtsp_admit.specs.Steps.{chain_left, refusal_of, bound_pair};
+    ghost use Rattle.rtsp_admit.specs.Steps.{chain_left, refusal_of, bound_address};
 
     pub(crate) fn refusal(&self) -> Refusal
         ensures { result ≡ refusal_of self.now }
@@ -53,7 +53,7 @@ impl Failure {
         let (opened, first, second) = match *self {
             Failure::Open(_) => (false, None, None),
             Failure::Rate(_) => (is_new, None, None),
-            Failure::Address(none) => (is_new, rate, none.unreturned.map(Thing::Pair)),
+            Failure::Address(none) => (is_new, rate, none.unreturned),
             Failure::Commit(_, address) => (is_new, rate, Some(address)),
         };
         Chain {
@@ -65,13 +65,12 @@ impl Failure {
         }
     }
 
-    // The pair that was bound before.
-    pub(crate) fn bound_pair(&self) -> Option<u16>
-        ensures { result ≡ bound_pair self.now }
+    // The address that was held and bound before.
+    pub(crate) fn bound_address(&self) -> Option<Thing>
+        ensures { result ≡ bound_address self.now }
     {
         match *self {
-            Failure::Commit(_, Thing::Pair(pair)) => Some(pair),
-            Failure::Commit(_, Thing::Chan(_, _) | Thing::Rate(_)) => None,
+            Failure::Commit(_, address) => Some(address),
             Failure::Open(_) | Failure::Rate(_) | Failure::Address(_) => None,
         }
     }

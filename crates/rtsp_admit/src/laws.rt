@@ -2,7 +2,7 @@
 
 ghost use Rattle.rtsp_admit.specs.Additions.{AdmissionsGrow};
 ghost use Rattle.rtsp_admit.specs.Refused.{RefusalsLeaveNothing};
-ghost use Rattle.rtsp_admit.specs.Pairs.{RefusalsKeepPairs, AdmissionsGainPair};
+ghost use Rattle.rtsp_admit.specs.Addresses.{RefusalsKeepAddresses, AdmissionsGainAddress};
 ghost use Rattle.rtsp_admit.specs.Faults.{AdmissionsCountFaults};
 ghost use Rattle.rtsp_admit.specs.Numbers.{ActsUseDrawn, DrawsGiveUnused, DrawnUsedAlone, AdmissionsKeepDrawn, RefusalsLeaveNothingUnused};
 
@@ -24,18 +24,18 @@ pub fn law_refused_unused<B: Binder>(ask: &Ask)
     ensures { RefusalsLeaveNothingUnused B.calls ask.now }
 {}
 
-/// After an admission that is refused a binder has the pairs that it had before.
-pub fn law_refused_pairs<B: Binder>(ask: &Ask)
-    ensures { RefusalsKeepPairs B.calls ask.now }
+/// After an admission that is refused a binder has the ports that it had before.
+pub fn law_refused_addresses<B: Binder>(ask: &Ask)
+    ensures { RefusalsKeepAddresses B.calls ask.now }
 {}
 
-/// After an admission a binder has the pairs that it had and the granted one, less those that the
+/// After an admission a binder has the ports that it had and the granted ones, less those that the
 /// Commit freed.
-pub fn law_admitted_pairs<B: Binder>(ask: &Ask)
-    ensures { AdmissionsGainPair B.calls ask.now }
+pub fn law_admitted_address<B: Binder>(ask: &Ask)
+    ensures { AdmissionsGainAddress B.calls ask.now }
 {}
 
-/// Where no failure of the binder was counted, the pair granted is the first that was held, and a
+/// Where no failure of the binder was counted, the ports granted are the first that were held, and a
 /// refusal is that of a step as it was first asked.
 pub fn law_faults_counted<B: Binder>(ask: &Ask)
     ensures { AdmissionsCountFaults B.calls ask.now }

@@ -1,14 +1,14 @@
 //! Admissions over a lock that others use at the same time.
 //!
-//! An admission is a chain of steps: Open where a session is to be opened, HoldRate, HoldPair or
-//! HoldChan, Commit. A pair of ports is bound after it is held; one that can't be bound is given
-//! back, and the next free one above it is tried. The lock is not kept between the steps, so other
+//! An admission is a chain of steps: Open where a session is to be opened, HoldRate, HoldPair,
+//! HoldPort or HoldChan, Commit. Ports are bound after they are held; those that can't be bound are
+//! given back, and the next free ones above them are tried. The lock is not kept between the steps, so other
 //! seats act between any two of them, and a bind keeps nobody waiting. At the first refusal the
 //! chain is unwound and nothing of it is left.
 //!
 //! The definitions of `specs/` read in this order: Binder (what its calls do), Steps (the steps of
 //! an admission and what is unwound of them), Runs (the calls of an admission, one after another),
-//! Refused (what a refusal leaves), Pairs (what a binder has afterwards), Faults (binds that fail
+//! Refused (what a refusal leaves), Addresses (what a binder has afterwards), Faults (binds that fail
 //! are counted), Numbers (the numbers that a seat uses), Additions (the records that it makes).
 
 #![tactic(auto)]
@@ -17,13 +17,14 @@ mod admission;
 mod binder;
 mod failure;
 mod laws;
-mod pairs;
+mod ports;
 mod steps;
+mod udp_ports;
 
 pub use admission::admit;
-pub use binder::{BindFault, Binder, unbind_all};
+pub use binder::{BindFault, Binder, unbind_freed};
 pub use laws::{
-    law_acts_use_drawn, law_admitted_grows, law_admitted_keeps_drawn, law_admitted_pairs,
-    law_drawn_is_unused, law_drawn_used_alone, law_faults_counted, law_refused, law_refused_pairs,
-    law_refused_unused,
+    law_acts_use_drawn, law_admitted_address, law_admitted_grows, law_admitted_keeps_drawn,
+    law_drawn_is_unused, law_drawn_used_alone, law_faults_counted, law_refused,
+    law_refused_addresses, law_refused_unused,
 };

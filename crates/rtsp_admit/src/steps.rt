@@ -1,4 +1,4 @@
-//! The steps of an admission before its Commit, but for pairs of ports.
+//! The steps of an admission before its Commit, but for ports.
 
 ghost use Rattle.std.specs.Prelude.{◌≡◌, IfOk, IfErr, OnOk, Err};
 ghost use Rattle.rtsp_record.specs.declared.holdings.Thing.TheVariants.{Rate};

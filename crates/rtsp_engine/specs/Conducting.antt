@@ -2,14 +2,14 @@
 use Rattle.std.specs.Prelude.{◌≡◌, ◌⊎◌, ℕ, Bool, true, false, List, [], Option, Some, None, Result, Ok, Err}
 use Rattle.rtsp_grammar.specs.declared.message.Response.{Response}
 use Rattle.rtsp_record.specs.declared.changes.Record.{Record}
+use Rattle.rtsp_record.specs.declared.holdings.Thing.{Thing}
 use Rattle.rtsp_book.specs.declared.asks.Admitted.{Admitted}
 use Rattle.rtsp_book.specs.declared.refusals.Refusal.{Refusal}
 use Rattle.rtsp_book.specs.declared.steps.Step.{Step}
 use Rattle.rtsp_book.specs.declared.steps.Step.TheVariants as step
-use Rattle.rtsp_book.specs.Receipts.{freed_pairs}
 use Rattle.rtsp_lock.specs.declared.view.View.{View}
 use Rattle.rtsp_lock.specs.Calls.{Acted}
-use Rattle.rtsp_admit.specs.Binder.{UnboundAll}
+use Rattle.rtsp_admit.specs.Binder.{UnboundAll, freed_addresses}
 use Rattle.rtsp_admit.specs.Runs.{Admits}
 use Rattle.rtsp_state.specs.declared.fault.Fault.TheVariants as faults
 use Rattle.rtsp_state.specs.declared.plan.Plan.{Plan}
@@ -34,9 +34,9 @@ abbrev pub played : Step → Option ℕ
 played (step.Play play) = Some play.session
 played other = None
 
--- the pairs that a step freed
-abbrev pub freed_by : Result (List Record) Refusal → List (ℕ × ℕ)
-freed_by (Ok made) = freed_pairs made
+-- the ports that a step freed, each under its admission
+abbrev pub freed_by : Result (List Record) Refusal → List (ℕ × Thing)
+freed_by (Ok made) = freed_addresses made
 freed_by (Err refusal) = []
 
 abbrev pub is_accepted : Result (List Record) Refusal → Bool
@@ -61,7 +61,7 @@ setup_response plan (NoNumber at) = refused (setup_start plan) (faults.Refused U
 setup_response plan (Tried n made) = setup_answer plan n.key made
 
 module _ {B W C P : Type 0} (d : Devices B W C P) where
-  -- a play is noted; the step is acted, and the pairs that it freed are unbound; the play is settled, and the outcome answered
+  -- a play is noted; the step is acted, and the ports that it freed are unbound; the play is settled, and the outcome answered
   pub record ConductsStep (uri : List ℕ) (plan : StepPlan) (response : Response) (s t : State B W C P) : Type 0 where
     pub between : P
     pub noted : Noted d.plays (played plan.step) plan.start.cseq uri s.plays between

@@ -20,7 +20,7 @@ use crate::desk::Desk;
 use crate::drawing::{GivenWords, Lacking, Numbers, Spent, draw_numbers, draw_words, opens};
 use crate::plays::Plays;
 use crate::words::Words;
-use rtsp_admit::{Binder, admit, unbind_all};
+use rtsp_admit::{Binder, admit, unbind_freed};
 use rtsp_book::{Admitted, Receipt, Refusal, Step};
 use rtsp_lock::{BookLock, BookSeat};
 use rtsp_state::{Drawn, Plan, Reply, Room, SessionKey, SetupPlan, Status, StepPlan};
@@ -72,7 +72,7 @@ fn settle<P: Plays>(plays: &mut P, step: &Step, accepted: bool)
     }
 }
 
-// Acts a step, and unbinds the pairs that it freed.
+// Acts a step, and unbinds the ports that it freed.
 fn act_step<R: Wait, B: Binder>(
     rt: &R,
     seat: &mut BookSeat,
@@ -89,7 +89,7 @@ fn act_step<R: Wait, B: Binder>(
 {
     match seat.act_into(rt, lock, step, made) {
         Ok(()) => {
-            unbind_all(binder, made.freed_pairs().as_slice());
+            unbind_freed(binder, made);
             Ok(())
         }
         Err(refusal) => Err(refusal),

@@ -1,12 +1,11 @@
--- The run of a sweep: accepted steps, each with the unbinding of the pairs that it freed. Between any two of them other seats may act.
+-- The run of a sweep: accepted steps, each with the unbinding of the ports that it freed. Between any two of them other seats may act.
 use Rattle.std.specs.Prelude.{◌≡◌, ℕ, ◌≤◌, ◌<◌, Bool, true, false, List, [], ◌∷◌, length, Ok, Err}
 use Rattle.rtsp_record.specs.declared.changes.Record.{Record}
 use Rattle.rtsp_book.specs.declared.refusals.Refusal.TheVariants.{NothingDue}
 use Rattle.rtsp_book.specs.declared.steps.Step.{Step}
 use Rattle.rtsp_book.specs.declared.steps.Step.TheVariants as step
-use Rattle.rtsp_book.specs.Receipts.{freed_pairs}
 use Rattle.rtsp_lock.specs.Calls.{Acted}
-use Rattle.rtsp_admit.specs.Binder.{Calls, UnboundAll}
+use Rattle.rtsp_admit.specs.Binder.{Calls, UnboundAll, freed_addresses}
 use Rattle.rtsp_admit.specs.Runs.{State}
 use Rattle.rtsp_expiry.specs.declared.swept.Swept.{Swept}
 
@@ -17,12 +16,12 @@ IsSweeping (step.Hangup conn) = Unit {0}
 IsSweeping other = ⊥
 
 module _ {B : Type 0} (calls : Calls B) (step : Step) where
-  -- after an earlier run the step is accepted with these records, and the pairs that they free are unbound
+  -- after an earlier run the step is accepted with these records, and the ports that they free are unbound
   pub record OneMore (earlier : State B → State B → Type 0) (made : List Record) (s t : State B) : Type 0 where
     pub between : State B
     pub before : earlier s between
     pub acted : Acted between.view t.view step (Ok made)
-    pub unbound : UnboundAll calls (freed_pairs made) between.binder t.binder
+    pub unbound : UnboundAll calls (freed_addresses made) between.binder t.binder
 
   -- the step is accepted once for each of these lists of records, the last first
   abbrev pub Accepted : List (List Record) → State B → State B → Type 0

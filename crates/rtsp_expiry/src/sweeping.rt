@@ -8,12 +8,12 @@ ghost use Rattle.rtsp_expiry.specs.Sweeps.{IsSweeping, Sweeps};
 ghost use Rattle.rtsp_expiry.specs.Endings.{EndsExpired, NoneExpired, EndsOn, NoneOn};
 
 use crate::swept::Swept;
-use rtsp_admit::{Binder, unbind_all};
+use rtsp_admit::{Binder, unbind_freed};
 use rtsp_book::{Receipt, Step};
 use rtsp_lock::{BookLock, BookSeat};
 use std::sync::Wait;
 
-// Acts the step until nothing is due, or until it was accepted so often, and unbinds the pairs that
+// Acts the step until nothing is due, or until it was accepted so often, and unbinds the ports that
 // each step freed.
 #[tactic(auto, using(crate::proofs::Finding::askable))]
 fn act_all<R: Wait, B: Binder>(
@@ -32,7 +32,7 @@ fn act_all<R: Wait, B: Binder>(
     let mut made = Receipt::new();
     for ended in 0..limit {
         match seat.act_into(rt, lock, step, &mut made) {
-            Ok(()) => unbind_all(binder, made.freed_pairs().as_slice()),
+            Ok(()) => unbind_freed(binder, &made),
             Err(_) => return Swept { ended, more: false },
         }
     }
@@ -43,8 +43,8 @@ fn act_all<R: Wait, B: Binder>(
 }
 
 /// Ends sessions whose expiry is at most `now`, in milliseconds, the least number first, and unbinds
-/// the pairs of ports that each frees. It ends at most `limit` sessions; then there may be more.
-/// Otherwise none that has expired is left in the journal last seen.
+/// the ports that each frees. It ends at most `limit` sessions; then there may be more. Otherwise
+/// none that has expired is left in the journal last seen.
 pub fn sweep<R: Wait, B: Binder>(
     rt: &R,
     seat: &mut BookSeat,
@@ -63,9 +63,9 @@ pub fn sweep<R: Wait, B: Binder>(
 }
 
 /// Takes leave of a connection that has ended: ends the sessions that hold channels of it, takes its
-/// startup numbers away from the others, the least session first, and unbinds the pairs of ports
-/// that each frees. It takes at most `limit` steps; then there may be more. Otherwise no session is
-/// on the connection in the journal last seen.
+/// startup numbers away from the others, the least session first, and unbinds the ports that each
+/// frees. It takes at most `limit` steps; then there may be more. Otherwise no session is on the
+/// connection in the journal last seen.
 pub fn hang_up<R: Wait, B: Binder>(
     rt: &R,
     seat: &mut BookSeat,

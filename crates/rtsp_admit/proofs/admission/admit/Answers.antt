@@ -4,7 +4,7 @@ use Rattle.rtsp_admit.proofs.admission.admit.Goals as goal
 
 pub returns-in-Ok-clause-bound : goal.returns-in-Ok-clause-bound
 returns-in-Ok-clause-bound g c =
-    c.law_admitted_pairs.ensures c.in-Ok.granted (state_of c.args.seat.now c.args.binder.now) (state_of c.attempt.new.seat c.attempt.new.binder) c.in-Ok.ensures.run
+    c.law_admitted_address.ensures c.in-Ok.granted (state_of c.args.seat.now c.args.binder.now) (state_of c.attempt.new.seat c.attempt.new.binder) c.in-Ok.ensures.run
 
 pub returns-in-Ok-clause-drawn : goal.returns-in-Ok-clause-drawn
 returns-in-Ok-clause-drawn g c =
@@ -12,7 +12,7 @@ returns-in-Ok-clause-drawn g c =
 
 pub returns-in-Err-clause-released : goal.returns-in-Err-clause-released
 returns-in-Err-clause-released g c =
-    c.law_refused_pairs.ensures c.in-Err.refusal (state_of c.args.seat.now c.args.binder.now) (state_of c.attempt.new.seat c.attempt.new.binder) c.in-Err.ensures.run
+    c.law_refused_addresses.ensures c.in-Err.refusal (state_of c.args.seat.now c.args.binder.now) (state_of c.attempt.new.seat c.attempt.new.binder) c.in-Err.ensures.run
 
 pub returns-in-Err-clause-drawn : goal.returns-in-Err-clause-drawn
 returns-in-Err-clause-drawn g c =

@@ -1,5 +1,6 @@
-use Rattle.std.proofs.Common.{ℕ, subst}
+use Rattle.std.proofs.Common.{subst}
 use Rattle.std.specs.Prelude.{Option}
+use Rattle.rtsp_record.specs.declared.holdings.Thing.{Thing}
 use Rattle.rtsp_book.specs.Receipts.{filled}
 use Rattle.rtsp_book.specs.declared.steps.Chain.{Chain}
 use Rattle.rtsp_book.specs.declared.steps.Step.TheVariants as step
@@ -16,5 +17,5 @@ returns-in-Err-clause-run g c = record {
   first = c.refusal.ensures;
   answer = filled c.act_into.result c.act_into.new.made;
   unwinds = subst (λ (chain : Chain). Acted (seat_view c.complete.new.seat) (seat_view c.act_into.new.self) (step.Unwind chain) (filled c.act_into.result c.act_into.new.made)) c.chain-chain.ensures c.act_into.ensures.acted;
-  releases = subst (λ (o : Option ℕ). Released g.B.Binder.calls c.args.ask.now.admission o c.complete.new.binder c.release.new.binder) c.bound_pair.ensures c.release.ensures;
+  releases = subst (λ (o : Option Thing). Released g.B.Binder.calls c.args.ask.now.admission o c.complete.new.binder c.release.new.binder) c.bound_address.ensures c.release.ensures;
 }

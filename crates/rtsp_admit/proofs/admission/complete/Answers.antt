@@ -1,7 +1,6 @@
-use Rattle.std.proofs.Common.{◌∙◌, ℕ, List, subst, Ok, Err}
+use Rattle.std.proofs.Common.{subst, Ok, Err}
 use Rattle.rtsp_book.specs.declared.steps.Step.{Step}
 use Rattle.rtsp_lock.specs.Calls.{seat_view, Acted}
-use Rattle.rtsp_admit.specs.Binder.{UnboundAll}
 use Rattle.rtsp_admit.specs.Runs.{state_of}
 use Rattle.rtsp_admit.proofs.admission.complete.Goals as goal
 
@@ -13,7 +12,7 @@ returns-in-Ok-act_into-clause-ok g c = record {
   addresses = c.in-Ok-address.ensures.ok;
   made = c.act_into.new.made;
   commits = subst (λ (s : Step). Acted (seat_view c.address.new.seat) (seat_view c.act_into.new.self) s (Ok c.act_into.new.made)) c.commit_step.ensures c.in-Ok-act_into.ensures.acted;
-  unbound = subst (λ (l : List (ℕ × ℕ)). UnboundAll g.B.Binder.calls l c.address.new.binder c.unbind_all.new.binder) (c.as_slice.ensures.value ∙ c.freed_pairs.ensures) c.unbind_all.ensures;
+  unbound = c.unbind_freed.ensures;
 }
 
 pub returns-in-Err-act_into-clause-err : goal.returns-in-Err-act_into-clause-err

@@ -1,5 +1,4 @@
-use Rattle.std.proofs.Common.{◌∙◌, ◌∷◌, ℕ, List, subst, refl, arith, Err}
-use Rattle.rtsp_admit.specs.Binder.{UnboundAll}
+use Rattle.std.proofs.Common.{◌∙◌, ◌∷◌, subst, refl, arith, Err}
 use Rattle.rtsp_admit.specs.Runs.{state_of}
 use Rattle.rtsp_book.specs.declared.refusals.Refusal.{Refusal}
 use Rattle.rtsp_lock.specs.Calls.{seat_view, Acted}
@@ -17,7 +16,7 @@ loop-ended-preserved g c =
           between = state_of c.loop-ended.seat c.loop-ended.binder;
           before = was.1.1;
           acted = c.in-Ok.ensures.acted;
-          unbound = subst (λ (l : List (ℕ × ℕ)). UnboundAll g.B.Binder.calls l c.loop-ended.binder c.unbind_all.new.binder) (c.as_slice.ensures.value ∙ c.freed_pairs.ensures) c.unbind_all.ensures;
+          unbound = c.unbind_freed.ensures;
         },
         omega (arith, was.1.2),
       ),
