@@ -1,7 +1,7 @@
 -- Sequence numbers and timestamps count modulo 2^16 and 2^32, so what was sent may be counted modulo 2^32.
-use Rattle.std.proofs.Common.{◌≡◌, ℕ, ◌+◌, ◌*◌, ◌/◌, ◌%◌, ◌^◌, List, ◌∷◌, [], ◌++◌, refl, ap, sym, ◌∙◌, arith}
+use Rattle.std.proofs.Common.{◌≡◌, ℕ, ◌+◌, ◌*◌, ◌%◌, ◌^◌, List, ◌∷◌, [], ◌++◌, refl, ap, sym, ◌∙◌, arith}
 use Rattle.std.proofs.lemmas.Nat.{mod-pow-add, mul-mod_first}
-use Rattle.std.proofs.Math.Nat.{add-mod-mod, add-mul-mod_self_right}
+use Rattle.std.proofs.Math.Nat.{add-mod-mod}
 use Rattle.std.specs.Prelude.{slice_index_or}
 use Rattle.std.specs.Int.{w16, w32, to_be_bytes}
 use Rattle.rtsp_rtp.specs.declared.source.Source.{Source}
@@ -31,9 +31,9 @@ header_wraps x n =
     ∙ ap (λ (t : ℕ). 128 ∷ x.payload_type ∷ to_be_bytes w16 (seq_after x n) ++ to_be_bytes w32 t ++ to_be_bytes w32 x.ssrc) (timestamp_wraps x n)
 
 -- the header of a source after n packets of the session, counted modulo 2^32 in two parts
-pub header_is : (x y : Source) (before n i : ℕ) (h : List ℕ) → h ≡ header_of x ((before + i) % 2 ^ 32) → x ≡ y → before ≡ n → h ≡ header_of y (n + i)
-header_is x y before n i h is same sent =
-    is ∙ (header_wraps x (before + i) ∙ (ap (λ (z : Source). header_of z (before + i)) same ∙ ap (λ (m : ℕ). header_of y (m + i)) sent))
+pub header_is : (x y : Source) (before n i : ℕ) → x ≡ y → before ≡ n → header_of x ((before + i) % 2 ^ 32) ≡ header_of y (n + i)
+header_is x y before n i same sent =
+    header_wraps x (before + i) ∙ (ap (λ (z : Source). header_of z (before + i)) same ∙ ap (λ (m : ℕ). header_of y (m + i)) sent)
 
 -- the twelve bytes, one by one
 pub bytes_of : (x : Source) (n : ℕ) (q t r : List ℕ) → q ≡ to_be_bytes w16 ((x.seq + n % 65536) % 2 ^ 16) → t ≡ to_be_bytes w32 ((x.rtptime + (n * x.ticks) % 2 ^ 32) % 2 ^ 32) → r ≡ to_be_bytes w32 x.ssrc

@@ -3,3 +3,4 @@ pub mod Counting
 pub mod Scheduling
 pub mod Turning
 pub mod Dues
+pub mod Progressing

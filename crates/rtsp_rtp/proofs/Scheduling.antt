@@ -1,9 +1,8 @@
 -- The order in which the packets of a play are sent, place by place.
-use Rattle.std.proofs.Common.{◌≡◌, ℕ, zero, suc, ◌+◌, ◌-◌, ◌*◌, ◌<◌, ◌≤◌, ◌/◌, ◌%◌, List, [], ◌∷◌, ◌++◌, length, map, drop, take, refl, ap, sym, ◌∙◌, subst, get_or, arith, length-append, Option, Some, None}
+use Rattle.std.proofs.Common.{◌≡◌, ℕ, zero, suc, ◌+◌, ◌-◌, ◌*◌, ◌<◌, ◌≤◌, List, [], ◌∷◌, ◌++◌, length, map, drop, take, refl, ap, ◌∙◌, subst, get_or, arith, length-append, Option, Some}
 use Rattle.std.specs.Prelude.{slice_get, option_map}
 use Rattle.std.proofs.lemmas.List.{length-map}
 use Rattle.std.proofs.lemmas.Option.{slice_get-map, slice_get-get_or, none-some}
-use Rattle.std.proofs.lemmas.Nat.{div_below, mod_below, div-add-mod'}
 use Rattle.std.proofs.Math.Nat.{suc-mul, mul-zero}
 use Rattle.rtsp_record.specs.declared.phases.Phase.{Phase}
 use Rattle.rtsp_rtp.specs.declared.source.Source.{Source}
@@ -58,22 +57,19 @@ pub right_pos : (d n k : ℕ) → d < n * k → 0 < k
 right_pos d n zero h = absurd (omega (arith, h, mul-zero n))
 right_pos d n (suc k) h = omega arith
 
--- the packet at a place: of the unit and the source that the place divides into
-at_place : (xs : List Source) (n p : ℕ) (d : Source) → p < n * length xs → slice_get (schedule xs 0 n) p ≡ Some (p / length xs, get_or xs (p % length xs) d)
-at_place xs n p d below =
-    let some = right_pos p n (length xs) below in
-    let unit : 0 + p / length xs ≡ p / length xs = omega arith in
-    let x = get_or xs (p % length xs) d in
-    at_unit xs 0 n (p / length xs) (p % length xs) p x (div_below p (length xs) n some below) (slice_get-get_or xs (p % length xs) d (mod_below p (length xs) some)) (sym (div-add-mod' p (length xs)))
-    ∙ ap (λ (m : ℕ). Some (m, x)) unit
-
 -- the next one of those that are left, as it is found in a list of the same sources
-pub next_at : (xs ys : List Source) (units from now : ℕ) (d : Source) → ys ≡ xs → from ≤ now → now < units * length ys → slice_get (drop from (schedule xs 0 units)) (now - from) ≡ Some (now / length ys, get_or ys (now % length ys) d)
-next_at xs ys units from now d same begun below =
-    let back : from + (now - from) ≡ now = omega (arith, begun) in
-    subst (λ (zs : List Source). now < units * length zs → slice_get (drop from (schedule xs 0 units)) (now - from) ≡ Some (now / length zs, get_or zs (now % length zs) d)) (sym same)
-    (λ here. left_at from (now - from) (schedule xs 0 units) ∙ (ap (λ (m : ℕ). slice_get (schedule xs 0 units) m) back ∙ at_place xs units now d here))
-    below
+pub next_at : (xs ys : List Source) (units from u place : ℕ) (d : Source) → ys ≡ xs → place < length ys → u < units → from ≤ u * length xs + place
+    → slice_get (drop from (schedule xs 0 units)) (u * length xs + place - from) ≡ Some (u, get_or ys place d)
+next_at xs ys units from u place d same among is begun =
+    let p = u * length xs + place in
+    let back : from + (p - from) ≡ p = omega (arith, begun) in
+    let unit : 0 + u ≡ u = omega arith in
+    let x = get_or ys place d in
+    let found : slice_get xs place ≡ Some x = subst (λ (zs : List Source). slice_get zs place ≡ Some x) same (slice_get-get_or ys place d among) in
+    left_at from (p - from) (schedule xs 0 units)
+    ∙ (ap (λ (m : ℕ). slice_get (schedule xs 0 units) m) back
+    ∙ (at_unit xs 0 units u place p x is found refl
+    ∙ ap (λ (m : ℕ). Some (m, x)) unit))
 
 module _ {S : Type 0} (calls : Calls S) (phase : Phase) where
   -- one packet more was sent

@@ -1,15 +1,15 @@
 -- What a turn comes to.
-use Rattle.std.proofs.Common.{◌≡◌, ℕ, suc, ◌+◌, ◌-◌, ◌*◌, ◌<◌, ◌≤◌, List, [], ◌∷◌, length, drop, take, refl, ap, sym, ◌∙◌, subst, arith, length-drop, ⊎_elim, Result, Ok, Err}
-use Rattle.std.specs.Prelude.{slice_get, OnErr}
+use Rattle.std.proofs.Common.{◌≡◌, ℕ, ◌-◌, ◌*◌, ◌≤◌, List, [], ◌∷◌, length, drop, take, refl, ap, ◌∙◌, subst, arith, length-drop, ⊎_elim, Result, Ok, Err}
+use Rattle.std.specs.Prelude.{OnErr}
 use Rattle.std.proofs.lemmas.Option.{slice_get_within}
+use Rattle.std.proofs.Math.Seq.{take-length}
 use Rattle.std.proofs.lemmas.Nat.{mul-le}
 use Rattle.rtsp_record.specs.declared.phases.Phase.{Phase}
-use Rattle.rtsp_record.specs.Books.{Session}
 use Rattle.rtsp_record.specs.Moments.{due}
 use Rattle.rtsp_rtp.specs.declared.source.Source.{Source}
 use Rattle.rtsp_rtp.specs.Sinks.{Calls, raised}
 use Rattle.rtsp_rtp.specs.Pacing.{Pacing, IsOfPlay, IsPacing, schedule, units_in, packets_in}
-use Rattle.rtsp_rtp.specs.Turns.{PacketSent, PacketFailed, AllSent, SendsAll, SendsSome, Went, Failing}
+use Rattle.rtsp_rtp.specs.Turns.{PacketFailed, AllSent, SendsAll, SendsSome, Went, Failing}
 use Rattle.rtsp_rtp.proofs.Scheduling.{schedule-length}
 
 -- what holds at every failure
@@ -35,6 +35,12 @@ module _ {S : Type 0} (calls : Calls S) where
   some_count phase due before after s u some =
       failed_count phase some.next.0 some.next.1 some.between u some.failed ∙ ap raised (all_count phase (take some.count due) s some.between some.sent)
 
+  -- what was sent is all that was left
+  pub sends_all : (phase : Phase) (left : List (ℕ × Source)) (before now : ℕ) (s u : S) → before ≤ now → now - before ≡ length left → AllSent calls phase (take (now - before) left) s u
+      → SendsAll calls phase left before now s u
+  sends_all phase left before now s u begun all sent =
+      record { sent = subst (λ (l : List (ℕ × Source)). AllSent calls phase l s u) (ap (λ (n : ℕ). take n left) all ∙ take-length left) sent; done = omega (arith, begun, all) }
+
   -- no more is sent than there is
   pub all_within : (phase : Phase) (xs : List Source) (units before after : ℕ) (s u : S) → units ≤ units_in phase → before ≤ units_in phase * length xs
       → SendsAll calls phase (drop before (schedule xs 0 units)) before after s u → after ≤ units_in phase * length xs
@@ -50,16 +56,16 @@ module _ {S : Type 0} (calls : Calls S) where
       omega (arith, rows, was, within, some.done, length-drop before (schedule xs 0 units), schedule-length xs 0 units)
 
   -- a turn from what was sent in it
-  pub went : (p old : Pacing) (view : ℕ × Session) (moment units done : ℕ) (s u : S) → p ≡ old → IsOfPlay old view → units ≡ due p.phase p.unit_ms moment
-      → SendsAll calls p.phase (drop p.done (schedule p.sources 0 units)) p.done done s u → Went calls old (record p { done = done }) view moment s u
-  went p old view moment units done s u is own at sends =
-      subst (λ (o : Pacing). IsOfPlay o view → Went calls o (record p { done = done }) view moment s u) is
+  pub went : (p old : Pacing) (session : ℕ) (phase : Phase) (moment units done : ℕ) (s u : S) → p ≡ old → IsOfPlay old session phase → units ≡ due p.phase p.unit_ms moment
+      → SendsAll calls p.phase (drop p.done (schedule p.sources 0 units)) p.done done s u → Went calls old (record p { done = done }) session phase moment s u
+  went p old session phase moment units done s u is own at sends =
+      subst (λ (o : Pacing). IsOfPlay o session phase → Went calls o (record p { done = done }) session phase moment s u) is
       (λ own'. record { own = own'; sends = subst (λ (n : ℕ). SendsAll calls p.phase (drop p.done (schedule p.sources 0 n)) p.done done s u) at sends; pacer = refl })
       own
 
-  pub failing : (p old : Pacing) (view : ℕ × Session) (moment units done : ℕ) (s u : S) → p ≡ old → IsOfPlay old view → units ≡ due p.phase p.unit_ms moment
-      → SendsSome calls p.phase (drop p.done (schedule p.sources 0 units)) p.done done s u → Failing calls old (record p { done = done }) view moment s u
-  failing p old view moment units done s u is own at sends =
-      subst (λ (o : Pacing). IsOfPlay o view → Failing calls o (record p { done = done }) view moment s u) is
+  pub failing : (p old : Pacing) (session : ℕ) (phase : Phase) (moment units done : ℕ) (s u : S) → p ≡ old → IsOfPlay old session phase → units ≡ due p.phase p.unit_ms moment
+      → SendsSome calls p.phase (drop p.done (schedule p.sources 0 units)) p.done done s u → Failing calls old (record p { done = done }) session phase moment s u
+  failing p old session phase moment units done s u is own at sends =
+      subst (λ (o : Pacing). IsOfPlay o session phase → Failing calls o (record p { done = done }) session phase moment s u) is
       (λ own'. record { own = own'; sends = subst (λ (n : ℕ). SendsSome calls p.phase (drop p.done (schedule p.sources 0 n)) p.done done s u) at sends; pacer = refl })
       own

@@ -2,6 +2,7 @@ pub mod Packets
 pub mod Sinks
 pub mod Buffers
 pub mod Pacing
-pub mod PacerView
 pub mod Turns
+pub mod Progress
+pub mod PacerView
 pub mod Moments

@@ -1,5 +1,5 @@
 -- When the next packet of a play is due.
-use Rattle.std.specs.Prelude.{◌≡◌, ℕ, ◌+◌, ◌*◌, ◌<◌, ◌≤◌, ◌^◌, length}
+use Rattle.std.specs.Prelude.{ℕ, ◌*◌, ◌<◌, ◌≤◌, ◌^◌, length}
 use Rattle.rtsp_record.specs.Moments.{due}
 use Rattle.rtsp_rtp.specs.Pacing.{Pacing, begun_at}
 

@@ -69,9 +69,9 @@ started v p =
     then Some (record { session = v.0; phase = v.1.phase; unit_ms = p.unit_ms; sources = sources_from v.1 0 p.tracks; done = 0 })
     else None
 
--- the view has the session and the phase that the pacer was made for
-abbrev pub IsOfPlay : Pacing → ℕ × Session → Type 0
-IsOfPlay p v = (v.0 ≡ p.session) × (v.1.phase ≡ p.phase)
+-- the session and the phase are those that the pacer was made for
+abbrev pub IsOfPlay : Pacing → ℕ → Phase → Type 0
+IsOfPlay p session phase = (session ≡ p.session) × (phase ≡ p.phase)
 
 -- how many packets the whole play has
 abbrev pub packets_in : Pacing → ℕ

@@ -2,7 +2,6 @@
 use Rattle.std.specs.Prelude.{◌≡◌, ◌⊎◌, ℕ, ◌+◌, ◌<◌, List, [], ◌∷◌, drop, take, length, slice_get, Some}
 use Rattle.rtsp_record.specs.declared.phases.Phase.{Phase}
 use Rattle.rtsp_record.specs.Moments.{due, sent_before}
-use Rattle.rtsp_record.specs.Books.{Session}
 use Rattle.rtsp_rtp.specs.declared.source.Source.{Source}
 use Rattle.rtsp_rtp.specs.declared.turn.Turn.{Turn}
 use Rattle.rtsp_rtp.specs.declared.turn.Turn.TheVariants.{More, AtEnd, OtherPlay, SinkFailed}
@@ -54,22 +53,22 @@ module _ {S : Type 0} (calls : Calls S) (phase : Phase) where
     pub sent : AllSent (take count due) s between
     pub failed : PacketFailed next.0 next.1 between u
 
--- the view is of another play, and nothing was done
-pub record IsOther {S : Type 0} (p q : Pacing) (view : ℕ × Session) (s u : S) : Type 0 where
-  pub other : ¬ (IsOfPlay p view)
+-- the session is in another play, and nothing was done
+pub record IsOther {S : Type 0} (p q : Pacing) (session : ℕ) (phase : Phase) (s u : S) : Type 0 where
+  pub other : ¬ (IsOfPlay p session phase)
   pub pacer : q ≡ p
   pub sink : u ≡ s
 
-module _ {S : Type 0} (calls : Calls S) (p q : Pacing) (view : ℕ × Session) (moment : ℕ) where
+module _ {S : Type 0} (calls : Calls S) (p q : Pacing) (session : ℕ) (phase : Phase) (moment : ℕ) where
   -- all that was due and unsent was sent
   pub record Went (s u : S) : Type 0 where
-    pub own : IsOfPlay p view
+    pub own : IsOfPlay p session phase
     pub sends : SendsAll calls p.phase (unsent_at p moment) p.done q.done s u
     pub pacer : q ≡ record p { done = q.done }
 
   -- some of it was sent, and then the sink failed
   pub record Failing (s u : S) : Type 0 where
-    pub own : IsOfPlay p view
+    pub own : IsOfPlay p session phase
     pub sends : SendsSome calls p.phase (unsent_at p moment) p.done q.done s u
     pub pacer : q ≡ record p { done = q.done }
 
@@ -77,7 +76,7 @@ module _ {S : Type 0} (calls : Calls S) (p q : Pacing) (view : ℕ × Session) (
   abbrev pub Turned : Turn → S → S → Type 0
   Turned More s u = Went s u × (q.done < packets_in q)
   Turned AtEnd s u = Went s u × (q.done ≡ packets_in q)
-  Turned OtherPlay s u = IsOther p q view s u
+  Turned OtherPlay s u = IsOther p q session phase s u
   Turned SinkFailed s u = Failing s u
 
 -- a failure of the sink was counted where the answer tells of one, and only there

@@ -1,10 +1,11 @@
 //! A packet in a buffer of fixed size.
 
-ghost use Rattle.std.specs.Prelude.{◌≡◌, ◌≤◌, ◌++◌, [], length, OnOk, OnErr};
+ghost use Rattle.std.specs.Prelude.{◌≡◌, ◌≤◌, [], length, OnOk, OnErr};
 ghost use Rattle.rtsp_grammar.specs.Frame.{frame_text};
 ghost use Rattle.rtsp_content.specs.Limits.{max_octets};
 ghost use Rattle.rtsp_rtp.specs.Buffers.{framed, Filled};
 ghost use Rattle.rtsp_rtp.specs.Sinks.{Failed};
+ghost use Rattle.rtsp_rtp.specs.Packets.{packet_of};
 
 use crate::sink::{Sink, SinkFault};
 use crate::source::Source;
@@ -63,32 +64,32 @@ impl Packet {
         &self.buffer[..4 + self.len]
     }
 
-    // Puts a packet of this header and payload in place of what is there.
-    pub(crate) fn put(&mut self, header: &[u8; 12], payload: &[u8])
+    // Puts the packet after so many of a source in place of what is there, with this payload.
+    pub(crate) fn put(&mut self, source: &Source, sent: u32, payload: &[u8])
         requires { length payload.now ≤ max_octets }
-        ensures { self.new ≡ header.now ++ payload.now }
+        ensures { self.new ≡ packet_of source.now sent payload.now }
     {
-        self.buffer[4..16].copy_from_slice(header);
+        source.put_header(sent, &mut self.buffer);
         self.buffer[16..16 + payload.len()].copy_from_slice(payload);
         self.len = 12 + payload.len();
     }
 
-    // Puts a packet of this header in place of what is there, with the octets of a unit that the
-    // sink gives.
+    // Puts the packet after so many of a source in place of what is there, with the octets of a
+    // unit that the sink gives.
     pub(crate) fn fill<S: Sink>(
         &mut self,
-        header: &[u8; 12],
         source: &Source,
+        sent: u32,
         unit: u32,
         sink: &mut S,
     ) -> Result<(), SinkFault>
         requires { source.now.octets ≤ max_octets }
-        ensures ok { OnOk result (Filled S.calls source.now unit header.now self.new sink.old sink.new) }
+        ensures ok { OnOk result (Filled S.calls source.now sent unit self.new sink.old sink.new) }
         ensures err { OnErr result (Failed S.calls sink.old sink.new) }
     {
         let octets = usize::from(source.octets);
         self.len = 12 + octets;
-        self.buffer[4..16].copy_from_slice(header);
+        source.put_header(sent, &mut self.buffer);
         sink.octets(source.track, unit, &mut self.buffer[16..16 + octets])
     }
 }

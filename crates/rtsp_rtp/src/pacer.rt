@@ -1,11 +1,12 @@
 //! The pace of one play.
 
 ghost use Rattle.std.specs.Prelude.{◌≡◌, ◌↔◌, IsTrue, IfSome, IfNone};
-ghost use Rattle.rtsp_rtp.specs.Pacing.{IsOfPlay, started};
+ghost use Rattle.rtsp_rtp.specs.Pacing.{IsOfPlay, packets_in, started};
 ghost use Rattle.rtsp_rtp.specs.Turns.{Turned, CountsFault};
 ghost use Rattle.rtsp_rtp.specs.Moments.{IsNextDue, IsNeverDue};
 
-use crate::play::Play;
+use crate::buffer::Packet;
+use crate::play::{Play, Progress};
 use crate::sink::{Sink, SinkFault};
 use crate::sources::Sources;
 use crate::turn::Turn;
@@ -19,19 +20,19 @@ use std::marker::Model;
 #[derive(Drop)]
 pub struct Pacer {
     play: Play,
-    done: u64,
+    next: Progress,
 }
 
 impl Model for Pacer {
-    ghost use Rattle.rtsp_rtp.specs.Pacing.{Pacing, IsPacing};
+    ghost use Rattle.rtsp_rtp.specs.Pacing.{Pacing};
 
     ghost Value = { Pacing };
 
-    ghost use Rattle.rtsp_rtp.specs.PacerView.{pacing_view};
+    ghost use Rattle.rtsp_rtp.specs.PacerView.{pacing_view, IsInside};
 
     ghost view = { pacing_view };
 
-    ghost invariant = { λ p. IsPacing (pacing_view p) };
+    ghost invariant = { IsInside };
 }
 
 impl Pacer {
@@ -48,7 +49,7 @@ impl Pacer {
                     unit_ms: presentation.unit_ms().ms(),
                     sources: Sources::of(view, presentation),
                 },
-                done: 0,
+                next: Progress { unit: 0, place: 0 },
             }),
             Phase::Ready { .. } | Phase::Ended { .. } => None,
         }
@@ -61,30 +62,46 @@ impl Pacer {
         self.play.session
     }
 
-    /// Whether the view shows the session in the play that the pacer was made for.
-    pub fn is_of(&self, view: &SessionView) -> bool
-        ensures { IsTrue result ↔ IsOfPlay self.now view.now }
+    /// Whether a session of this number and in this phase is in the play that the pacer was made
+    /// for.
+    pub fn is_of(&self, session: u64, phase: Phase) -> bool
+        ensures { IsTrue result ↔ IsOfPlay self.now session phase }
     {
-        view.session() == self.play.session && view.phase() == self.play.phase
+        session == self.play.session && phase == self.play.phase
     }
 
     /// Sends what is due at a moment, in milliseconds, and unsent: by unit, and then in the order of
-    /// the presentation's tracks. What was sent is never sent again.
-    pub fn turn<S: Sink>(&mut self, view: &SessionView, moment: u64, sink: &mut S) -> Turn
-        ensures turned { Turned S.calls self.old self.new view.now moment result sink.old sink.new }
+    /// the presentation's tracks. What was sent is never sent again. The session's phase is that at
+    /// the moment. `packet` is room to make packets in: what it holds counts for nothing, and a
+    /// caller that keeps it from turn to turn saves clearing it.
+    pub fn turn<S: Sink>(
+        &mut self,
+        session: u64,
+        phase: Phase,
+        moment: u64,
+        packet: &mut Packet,
+        sink: &mut S,
+    ) -> Turn
+        ensures turned { Turned S.calls self.old self.new session phase moment result sink.old sink.new }
         ensures counted { CountsFault S.calls result sink.old sink.new }
     {
-        if !self.is_of(view) {
+        if !self.is_of(session, phase) {
             return Turn::OtherPlay;
         }
-        let units = self.play.phase.due(self.play.unit_ms, moment);
-        if let Err(SinkFault) = self.play.send_due(&mut self.done, units, sink) {
+        if let Err(SinkFault) = self.play.send_due(&mut self.next, moment, packet, sink) {
             return Turn::SinkFailed;
         }
-        if self.done == self.play.packets() {
+        if self.is_at_end() {
             return Turn::AtEnd;
         }
         Turn::More
+    }
+
+    // Whether no packet is left.
+    fn is_at_end(&self) -> bool
+        ensures { IsTrue result ↔ (self.now.done ≡ packets_in self.now) }
+    {
+        self.play.sources.as_slice().is_empty() || self.next.unit == self.play.units()
     }
 
     /// The moment, in milliseconds, at which the next unsent packet is due. It counts from the
@@ -94,11 +111,10 @@ impl Pacer {
         ensures some { IfSome result (IsNextDue self.now) }
         ensures none { IfNone result (IsNeverDue self.now) }
     {
-        let sources = self.play.sources.as_slice().len() as u64;
-        if self.done == u64::from(self.play.units()) * sources {
+        if self.is_at_end() {
             return None;
         }
-        let passed = self.done / sources * u64::from(self.play.unit_ms);
+        let passed = u64::from(self.next.unit) * u64::from(self.play.unit_ms);
         self.play.begun_at().checked_add(passed)
     }
 }

@@ -1,10 +1,11 @@
 //! One play of one session, and the sending of its packets.
 
-ghost use Rattle.std.specs.Prelude.{◌≡◌, ◌<◌, ◌≤◌, ◌+◌, ◌*◌, drop, length, OnOk, OnErr};
-ghost use Rattle.rtsp_record.specs.Moments.{sent_before};
-ghost use Rattle.rtsp_content.specs.Limits.{max_octets};
-ghost use Rattle.rtsp_rtp.specs.Pacing.{begun_at, first_unit, units_in, schedule};
-ghost use Rattle.rtsp_rtp.specs.Turns.{PacketSent, PacketFailed, SendsAll, SendsSome};
+ghost use Rattle.std.specs.Prelude.{◌≡◌, ◌↔◌, ◌<◌, ◌≤◌, ◌+◌, IsTrue, length, OnOk, OnErr};
+ghost use Rattle.rtsp_record.specs.Moments.{due, sent_before};
+ghost use Rattle.rtsp_content.specs.Limits.{max_octets, max_unit_ms};
+ghost use Rattle.rtsp_rtp.specs.Pacing.{begun_at, first_unit, units_in};
+ghost use Rattle.rtsp_rtp.specs.Turns.{PacketSent, PacketFailed};
+ghost use Rattle.rtsp_rtp.specs.Progress.{sent_at, IsPlaced, SendsDue, SendsDuePart};
 
 use crate::buffer::Packet;
 use crate::sink::{Sink, SinkFault};
@@ -18,6 +19,31 @@ pub(crate) fn sent_before(phase: &Phase) -> u32
 {
     match *phase {
         Phase::Ready { sent, .. } | Phase::Playing { sent, .. } | Phase::Ended { sent, .. } => sent,
+    }
+}
+
+// How far a play is: the unit of the play, and the place of the source, of its next packet.
+#[derive(Clone, Copy)]
+pub(crate) struct Progress {
+    pub(crate) unit: u32,
+    pub(crate) place: usize,
+}
+
+impl Progress {
+    // Goes on to the next packet, where each unit has so many.
+    fn step(&mut self, count: usize)
+        requires place { self.old.place < count }
+        requires unit { self.old.unit < u32.MAX }
+        ensures next { sent_at count self.new ≡ sent_at count self.old + 1 }
+        ensures placed { IsPlaced count self.new }
+    {
+        let next = self.place + 1;
+        if next < count {
+            self.place = next;
+        } else {
+            self.place = 0;
+            self.unit += 1;
+        }
     }
 }
 
@@ -66,11 +92,15 @@ impl Play {
         }
     }
 
-    // How many packets the whole play has.
-    pub(crate) fn packets(&self) -> u64
-        ensures { result ≡ units_in self.now.phase * length self.now.sources }
+    // Whether a unit of the play is due at a moment.
+    fn is_due(&self, unit: u32, moment: u64) -> bool
+        requires some { 0 < self.now.unit_ms }
+        requires most { self.now.unit_ms ≤ max_unit_ms }
+        ensures due { IsTrue result ↔ (unit < due self.now.phase self.now.unit_ms moment) }
+        ensures not_last { IsTrue result → unit < u32.MAX }
     {
-        u64::from(self.units()) * self.sources.as_slice().len() as u64
+        let passed = moment.saturating_sub(self.begun_at());
+        unit < self.units() && u64::from(unit) * u64::from(self.unit_ms) <= passed
     }
 
     // Makes the packet of a unit of the play and a source, and sends it.
@@ -86,31 +116,33 @@ impl Play {
         ensures ok { OnOk result (PacketSent S.calls self.now.phase unit source.now sink.old sink.new) }
         ensures err { OnErr result (PacketFailed S.calls self.now.phase unit source.now sink.old sink.new) }
     {
-        let header = source.header(sent_before(&self.phase).wrapping_add(unit));
-        packet.fill(&header, source, self.unit(unit), sink)?;
+        let sent = sent_before(&self.phase).wrapping_add(unit);
+        packet.fill(source, sent, self.unit(unit), sink)?;
         sink.send(source.track, packet)
     }
 
-    // Sends the packets of the first so many units of the play, but for those already done.
+    // Sends the packets that are due at a moment and unsent.
     pub(crate) fn send_due<S: Sink>(
         &self,
-        done: &mut u64,
-        units: u32,
+        at: &mut Progress,
+        moment: u64,
+        packet: &mut Packet,
         sink: &mut S,
     ) -> Result<(), SinkFault>
-        requires units { units ≤ units_in self.now.phase }
-        ensures ok { OnOk result (SendsAll S.calls self.now.phase (drop done.old (schedule self.now.sources 0 units)) done.old done.new sink.old sink.new) }
-        ensures err { OnErr result (SendsSome S.calls self.now.phase (drop done.old (schedule self.now.sources 0 units)) done.old done.new sink.old sink.new) }
+        requires some { 0 < self.now.unit_ms }
+        requires most { self.now.unit_ms ≤ max_unit_ms }
+        requires placed { IsPlaced (length self.now.sources) at.old }
+        ensures ok { OnOk result (SendsDue S.calls self.now moment at.old at.new sink.old sink.new) }
+        ensures err { OnErr result (SendsDuePart S.calls self.now moment at.old at.new sink.old sink.new) }
+        ensures placed { IsPlaced (length self.now.sources) at.new }
     {
         let sources = self.sources.as_slice();
-        let count = sources.len() as u64;
-        let end = u64::from(units) * count;
-        let mut packet = Packet::new();
-        while *done < end {
-            let unit = (*done / count) as u32;
-            let place = (*done % count) as usize;
-            self.send(unit, &sources[place], &mut packet, sink)?;
-            *done += 1;
+        if sources.is_empty() {
+            return Ok(());
+        }
+        while self.is_due(at.unit, moment) {
+            self.send(at.unit, &sources[at.place], packet, sink)?;
+            at.step(sources.len());
         }
         Ok(())
     }

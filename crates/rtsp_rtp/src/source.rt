@@ -1,6 +1,6 @@
 //! Where the packets of a stream come from.
 
-ghost use Rattle.std.specs.Prelude.{◌≡◌, ◌≤◌};
+ghost use Rattle.std.specs.Prelude.{◌≡◌, ◌≤◌, ◌++◌, take, drop};
 ghost use Rattle.rtsp_content.specs.Limits.{max_octets};
 ghost use Rattle.rtsp_rtp.specs.Packets.{source_of, header_of};
 
@@ -41,28 +41,28 @@ impl Source {
         }
     }
 
-    // The header of the packet after so many of the session, modulo 2^32.
-    pub(crate) fn header(&self, sent: u32) -> [u8; 12]
-        ensures { result ≡ header_of self.now sent }
+    // Puts the header of the packet after so many of the session, modulo 2^32, where a packet has
+    // it. It does so byte by byte: of these the compiler makes words, and it can't of an array that
+    // is copied.
+    pub(crate) fn put_header(&self, sent: u32, buffer: &mut [u8; 1416])
+        ensures { buffer.new ≡ take 4 buffer.old ++ (header_of self.now sent ++ drop 16 buffer.old) }
     {
+        buffer[4] = 0x80;
+        buffer[5] = self.payload_type;
         let seq = self.seq.wrapping_add((sent % 65_536) as u16);
-        let timestamp = self.rtptime.wrapping_add(sent.wrapping_mul(self.ticks));
         let [q0, q1] = seq.to_be_bytes();
+        buffer[6] = q0;
+        buffer[7] = q1;
+        let timestamp = self.rtptime.wrapping_add(sent.wrapping_mul(self.ticks));
         let [t0, t1, t2, t3] = timestamp.to_be_bytes();
+        buffer[8] = t0;
+        buffer[9] = t1;
+        buffer[10] = t2;
+        buffer[11] = t3;
         let [s0, s1, s2, s3] = self.ssrc.to_be_bytes();
-        [
-            0x80,
-            self.payload_type,
-            q0,
-            q1,
-            t0,
-            t1,
-            t2,
-            t3,
-            s0,
-            s1,
-            s2,
-            s3,
-        ]
+        buffer[12] = s0;
+        buffer[13] = s1;
+        buffer[14] = s2;
+        buffer[15] = s3;
     }
 }

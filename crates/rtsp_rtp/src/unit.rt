@@ -17,8 +17,8 @@ pub fn packet(track: &Track, stream: &Stream, phase: &Phase, i: u32, payload: &[
     requires { length payload.now ≤ max_octets }
     ensures { result ≡ packet_of (source_of track.now stream.now) (sent_before phase.now + i) payload.now }
 {
-    let header = Source::of(track, stream).header(sent_before(phase).wrapping_add(i));
+    let source = Source::of(track, stream);
     let mut packet = Packet::new();
-    packet.put(&header, payload);
+    packet.put(&source, sent_before(phase).wrapping_add(i), payload);
     packet
 }

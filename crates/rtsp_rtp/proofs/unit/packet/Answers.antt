@@ -6,5 +6,5 @@ use Rattle.rtsp_rtp.proofs.unit.packet.Goals as goal
 
 pub returns : goal.returns
 returns c =
-    let header = header_is c.of.result (source_of c.args.track.now c.args.stream.now) c.sent_before.result (sent_before c.args.phase.now) c.args.i c.header-header.result c.header-header.ensures c.of.ensures.value c.sent_before.ensures in
+    let header = header_is c.of-source.result (source_of c.args.track.now c.args.stream.now) c.sent_before.result (sent_before c.args.phase.now) c.args.i c.of-source.ensures.value c.sent_before.ensures in
     c.put.ensures ∙ ap (λ (h : List ℕ). h ++ c.args.payload.now) header

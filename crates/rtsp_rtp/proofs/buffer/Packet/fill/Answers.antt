@@ -1,24 +1,23 @@
-use Rattle.std.proofs.Common.{◌≡◌, ◌∙◌, ◌++◌, ap, sym, List, ℕ, arith, ◌-◌, ◌+◌, ◌≤◌, length, subst}
+use Rattle.std.proofs.Common.{◌≡◌, ◌∙◌, refl, arith, ◌-◌, ◌+◌, ◌≤◌, length}
 use Rattle.std.proofs.lemmas.Result.{on_ok_weaker}
 use Rattle.rtsp_content.specs.Limits.{max_octets}
-use Rattle.rtsp_rtp.proofs.Placing.{placed, payload_room}
+use Rattle.rtsp_rtp.specs.Packets.{header_of}
+use Rattle.rtsp_rtp.proofs.Placing.{placed, payload_room, wide}
 use Rattle.rtsp_rtp.proofs.buffer.Packet.fill.Goals as goal
 
 pub returns-clause-ok : goal.returns-clause-ok
 returns-clause-ok g c =
-    let header = c.copy_from_slice.ensures.after in
+    let header = header_of c.args.source.now c.args.sent in
+    let y = c.put_header.new.buffer in
     let fits : c.from-octets.result ≤ max_octets = omega (arith, c.requires, c.from-octets.ensures) in
-    let twelve = ap (λ (l : List ℕ). length l) header ∙ c.told-header in
     let full : length c.octets.new.out ≡ c.from-octets.result =
-    c.octets.auto.out ∙ payload_room c.self.inside.buffer c.copy_from_slice.new.self c.from-octets.result c.self.told twelve fits
+    c.octets.auto.out ∙ payload_room y c.from-octets.result (wide c.self.inside.buffer header y c.self.told refl c.put_header.ensures) fits
     in
     on_ok_weaker c.octets.result
     (λ took. record {
       payload = c.octets.new.out;
       full = full ∙ c.from-octets.ensures;
       took = took;
-      packet =
-          placed c.self.inside.buffer c.copy_from_slice.new.self c.octets.new.out (16 + c.from-octets.result - 16) c.from-octets.result c.self.told twelve full fits
-          ∙ ap (λ (l : List ℕ). l ++ c.octets.new.out) header;
+      packet = placed c.self.inside.buffer header y c.octets.new.out (16 + c.from-octets.result - 16) c.from-octets.result c.self.told refl c.put_header.ensures full fits;
     })
     c.octets.ensures.ok

@@ -1,4 +1,4 @@
-use Rattle.std.proofs.Common.{◌∙◌, ◌++◌, ◌+◌, ap, sym, List, ℕ, subst, refl}
+use Rattle.std.proofs.Common.{◌∙◌, ◌++◌, ap, List, ℕ, subst, refl}
 use Rattle.std.proofs.lemmas.Result.{on_ok_weaker}
 use Rattle.rtsp_record.specs.Moments.{sent_before}
 use Rattle.rtsp_rtp.specs.Sinks.{Took, Sent}
@@ -10,7 +10,7 @@ returns-clause-ok g c =
     let calls = g.S.Sink.calls in
     let x = c.args.source.now in
     let filled = c.in_ok-fill.ensures.ok in
-    let header = header_is x x c.sent_before.result (sent_before c.args.self.now.phase) c.args.unit c.header-header.result c.header-header.ensures refl c.sent_before.ensures in
+    let header = header_is x x c.sent_before.result (sent_before c.args.self.now.phase) c.args.unit refl c.sent_before.ensures in
     on_ok_weaker c.send.result
     (λ sent. record {
       payload = filled.payload;

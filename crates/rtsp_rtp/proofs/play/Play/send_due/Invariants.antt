@@ -1,14 +1,21 @@
-use Rattle.std.proofs.Common.{◌≤◌, ◌+◌, ◌-◌, ◌*◌, max, take, drop, length}
-use Rattle.rtsp_rtp.specs.Pacing.{schedule}
-use Rattle.rtsp_rtp.specs.Turns.{AllSent}
+use Rattle.std.proofs.Common.{◌≤◌, ◌-◌, ◌*◌, max, take, length}
+use Rattle.rtsp_record.specs.Moments.{due}
+use Rattle.rtsp_rtp.specs.Turns.{unsent_at, AllSent}
+use Rattle.rtsp_rtp.specs.Progress.{sent_at, IsPlaced, pacing_of}
 use Rattle.rtsp_rtp.proofs.play.Play.send_due.Given as goal
 
 -- what was sent so far
-abbrev pub invariant-loop-done : goal.invariant-loop-done
-invariant-loop-done g l =
-    (l.fn.done ≤ l.done)
-    × (l.done ≤ max l.fn.done (l.units * length l.self.sources))
-    × AllSent g.S.Sink.calls l.self.phase (take (l.done - l.fn.done) (drop l.fn.done (schedule l.self.sources 0 l.units))) l.fn.sink l.sink
+abbrev pub invariant-loop-sources : goal.invariant-loop-sources
+invariant-loop-sources g l =
+    let n = length l.self.sources in
+    let from = sent_at n l.fn.at in
+    let now = sent_at n l.at in
+    record {
+      placed : IsPlaced n l.at;
+      begun : from ≤ now;
+      within : now ≤ max from (due l.self.phase l.self.unit_ms l.moment * n);
+      sent : AllSent g.S.Sink.calls l.self.phase (take (now - from) (unsent_at (pacing_of l.self l.fn.at) l.moment)) l.fn.sink l.sink;
+    }
 
-abbrev pub decreases-loop-done : goal.decreases-loop-done
-decreases-loop-done g l = l.units * length l.self.sources - l.done
+abbrev pub decreases-loop-sources : goal.decreases-loop-sources
+decreases-loop-sources g l = due l.self.phase l.self.unit_ms l.moment * length l.self.sources - sent_at (length l.self.sources) l.at
