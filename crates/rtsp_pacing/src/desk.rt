@@ -9,7 +9,8 @@ use rtsp_content::Table;
 use rtsp_lock::{BookLock, BookSeat, Name};
 use rtsp_npt::UnitLength;
 use rtsp_record::Phase;
-use rtsp_sockets::{Media, Outlets, PairTable, RunningClock};
+use rtsp_rtp::Packet;
+use rtsp_sockets::{Media, Outlets, PortTable, RunningClock};
 use std::rt::Clock;
 use std::sync::Wait;
 use std::time::Instant;
@@ -19,7 +20,7 @@ use std::time::Instant;
 pub struct PacerParts<'a> {
     pub lock: &'a BookLock,
     pub table: &'a Table,
-    pub pairs: &'a PairTable,
+    pub ports: &'a PortTable,
     pub outlets: &'a Outlets,
     pub media: &'a Media,
     pub bell: &'a Bell,
@@ -49,6 +50,8 @@ pub(crate) struct PacerDesk<'a, R> {
     pub(crate) parts: PacerParts<'a>,
     pub(crate) clock: RunningClock<'a, R>,
     pub(crate) paced: Paced,
+    // Where packets are made, one after another.
+    pub(crate) packet: Packet,
     seat: BookSeat,
     ghost ours: { IsSeatOf seat parts.lock.now },
 }
@@ -73,6 +76,7 @@ impl<'a, R> PacerDesk<'a, R> {
                 failures: 0,
                 reported: 0,
             },
+            packet: Packet::new(),
             seat,
         }
     }

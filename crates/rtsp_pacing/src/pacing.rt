@@ -63,7 +63,7 @@ impl<R: Wait + Clock> Pacing<'_, R> {
             linked.play.ask_again(asked);
             return;
         }
-        let Some((play, due)) = PacedPlay::begin(&mut self.desk, asked, view) else {
+        let Some((play, due)) = PacedPlay::begin(&mut self.desk, asked, &view) else {
             return;
         };
         let Ok(key) = self.plays.insert(Linked { play, before: None }) else {

@@ -31,8 +31,6 @@ enum Stage {
 #[derive(Drop)]
 pub(crate) struct PacedPlay {
     asked: NewPlay,
-    // The session as it was when the play was taken over. It is in the play while its phase is this.
-    begun: SessionView,
     // The place of its presentation.
     presentation: u16,
     ways: Ways,
@@ -87,16 +85,15 @@ impl PacedPlay {
     pub(crate) fn begin<R: Wait>(
         desk: &mut PacerDesk<'_, R>,
         asked: NewPlay,
-        begun: SessionView,
+        view: &SessionView,
     ) -> Option<(PacedPlay, u64)> {
-        let presentation = presentation_of(&begun)?;
-        let pacer = Pacer::start(&begun, desk.parts.table.presentation(presentation)?)?;
+        let presentation = presentation_of(view)?;
+        let pacer = Pacer::start(view, desk.parts.table.presentation(presentation)?)?;
         let due = pacer.next_due()?;
         let play = PacedPlay {
             asked,
             presentation,
-            ways: Ways::of(desk.rt, &desk.parts, &begun),
-            begun,
+            ways: Ways::of(desk.rt, &desk.parts, view),
             stage: Stage::Sending(pacer),
         };
         Some((play, due))
@@ -111,7 +108,7 @@ impl PacedPlay {
     // that one which is told of the end.
     pub(crate) fn is_of(&self, view: &SessionView) -> bool {
         match &self.stage {
-            Stage::Sending(pacer) => pacer.is_of(view),
+            Stage::Sending(pacer) => pacer.is_of(view.session(), view.phase()),
             Stage::Finished => false,
         }
     }
@@ -160,12 +157,10 @@ impl PacedPlay {
         phase: Phase,
         moment: u64,
     ) -> Option<(Turn, Option<u64>)> {
+        let session = self.session();
         let Stage::Sending(pacer) = &mut self.stage else {
             return None;
         };
-        if phase != self.begun.phase() {
-            return Some((Turn::OtherPlay, None));
-        }
         let mut sink = PacketSink {
             rt: desk.rt,
             media: desk.parts.media,
@@ -176,7 +171,7 @@ impl PacedPlay {
             lost: 0,
             failed: 0,
         };
-        let turn = pacer.turn(&self.begun, moment, &mut sink);
+        let turn = pacer.turn(session, phase, moment, &mut desk.packet, &mut sink);
         let (packets, lost, failed) = (sink.packets, sink.lost, sink.failed);
         desk.paced.count(packets, lost, failed);
         Some((turn, pacer.next_due()))

@@ -4,7 +4,7 @@ use crate::desk::PacerParts;
 use rtsp_book::SessionView;
 use rtsp_record::{Admission, Stream, Thing};
 use rtsp_rtp::Packet;
-use rtsp_sockets::{Message, Outlet, PairSockets, Put};
+use rtsp_sockets::{Message, Outlet, PortSockets, Put};
 use std::net::{Ipv4Addr, SocketAddrV4};
 use std::sync::{Arc, Wait};
 
@@ -17,7 +17,7 @@ pub(crate) enum Way {
     // They are lost: there is no stream, or its address is given up.
     Nowhere,
     // As datagrams from a socket that is connected to the player's.
-    Datagrams(Arc<PairSockets>),
+    Datagrams(Arc<PortSockets>),
     // As frames of a channel of a connection.
     Frames(Arc<Outlet>, u8),
 }
@@ -26,6 +26,14 @@ pub(crate) enum Way {
 #[derive(Drop)]
 pub(crate) struct Ways {
     ways: [Way; TRACKS],
+}
+
+// The way of datagrams to a stream's player, where its address is still bound.
+fn datagrams(sockets: Option<Arc<PortSockets>>, stream: &Stream) -> Way {
+    match sockets {
+        Some(sockets) if connect(&sockets, stream) => Way::Datagrams(sockets),
+        _ => Way::Nowhere,
+    }
 }
 
 // The way of a stream under an admission.
@@ -37,14 +45,8 @@ fn way_of<R: Wait>(
     stream: &Stream,
 ) -> Way {
     match admission.address {
-        Some(Thing::Pair(pair)) => {
-            if let Some(sockets) = parts.pairs.sockets(rt, number, pair)
-                && connect(&sockets, stream)
-            {
-                return Way::Datagrams(sockets);
-            }
-            Way::Nowhere
-        }
+        Some(Thing::Pair(pair)) => datagrams(parts.ports.pair_sockets(rt, number, pair), stream),
+        Some(Thing::Port(port)) => datagrams(parts.ports.port_socket(rt, number, port), stream),
         Some(Thing::Chan(conn, channel)) => match parts.outlets.get(rt, conn) {
             Some(outlet) => Way::Frames(outlet, channel),
             None => Way::Nowhere,
@@ -54,7 +56,7 @@ fn way_of<R: Wait>(
 }
 
 // Connects the socket of RTP to the player's.
-fn connect(sockets: &Arc<PairSockets>, stream: &Stream) -> bool {
+fn connect(sockets: &Arc<PortSockets>, stream: &Stream) -> bool {
     let player = SocketAddrV4::new(Ipv4Addr::from_bits(stream.peer), stream.rtp_port);
     sockets.rtp.connect(player).is_ok()
 }

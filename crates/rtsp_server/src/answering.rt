@@ -8,7 +8,7 @@ use rtsp_content::Table;
 use rtsp_engine::{Asker, Binder, Clock, Connection, Desk, Plays, Words};
 use rtsp_grammar::MessageFault;
 use rtsp_lock::{BookLock, BookSeat};
-use rtsp_sockets::{PairBinder, RunningClock};
+use rtsp_sockets::{PortBinder, PieceClock};
 use rtsp_state::Room;
 use std::alloc::Global;
 use std::net::Net;
@@ -50,7 +50,7 @@ fn push_lent<'a, R: Wait, B: Binder, W: Words, C: Clock, P: Plays>(
 
 impl BookHandle {
     /// Takes a piece of a connection's input, as `Desk::push` does, over the server's sockets and
-    /// its clock.
+    /// its clock, which is read once at most.
     pub(crate) fn push<R: Wait + Net + rt::Clock, W: Words, P: Plays>(
         &mut self,
         service: &Service<'_, R>,
@@ -61,8 +61,8 @@ impl BookHandle {
         piece: &[u8],
         room: &mut Room,
     ) -> Result<(), MessageFault> {
-        let mut binder = PairBinder::new(service.rt, &service.shared.pairs);
-        let mut clock = RunningClock::new(service.rt, service.shared.begun);
+        let mut binder = PortBinder::new(service.rt, &service.shared.ports);
+        let mut clock = PieceClock::new(service.rt, service.shared.begun);
         push_lent(
             service.rt,
             service.alloc,

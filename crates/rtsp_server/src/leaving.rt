@@ -5,7 +5,7 @@ use crate::limits::SWEEP_SESSIONS;
 use crate::shared::Shared;
 use rtsp_engine::Binder;
 use rtsp_expiry::{hang_up, sweep};
-use rtsp_sockets::PairBinder;
+use rtsp_sockets::PortBinder;
 use std::net::Net;
 use std::sync::Wait;
 
@@ -22,7 +22,7 @@ impl BookHandle {
 
     /// Takes leave of a connection that has ended: the sessions that hold channels of it are ended.
     pub(crate) fn hang_up<R: Wait + Net>(&mut self, rt: &R, shared: &Shared, conn: u64) {
-        let mut binder = PairBinder::new(rt, &shared.pairs);
+        let mut binder = PortBinder::new(rt, &shared.ports);
         for _ in rt.forever() {
             if !self.hang_up_some(rt, &mut binder, conn) {
                 break;
@@ -32,7 +32,7 @@ impl BookHandle {
 
     /// Ends all sessions that have expired at this moment.
     pub(crate) fn sweep<R: Wait + Net>(&mut self, rt: &R, shared: &Shared, now: u64) {
-        let mut binder = PairBinder::new(rt, &shared.pairs);
+        let mut binder = PortBinder::new(rt, &shared.ports);
         for _ in rt.forever() {
             if !self.sweep_some(rt, &mut binder, now) {
                 break;

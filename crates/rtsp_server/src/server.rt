@@ -15,7 +15,7 @@ use rtsp_content::Table;
 use rtsp_lock::{BookLock, BookSeat, open};
 use rtsp_pacing::{Bell, Bells, PacerParts, pace};
 use rtsp_record::Whole;
-use rtsp_sockets::{Media, MediaFault, PairTable};
+use rtsp_sockets::{Media, MediaFault, PortTable};
 use std::alloc::{AllocError, Global};
 use std::fs::File;
 use std::io::ErrorKind;
@@ -140,7 +140,7 @@ fn pace_lent<'a, R: Wait + rt::Clock>(
     let parts = PacerParts {
         lock,
         table,
-        pairs: &shared.pairs,
+        ports: &shared.ports,
         outlets: &shared.outlets,
         media,
         bell,
@@ -256,7 +256,7 @@ fn share<R: Net + rt::Clock>(
         alloc,
         TcpListener::from_std(listener),
         Gate::new(connections),
-        PairTable::open(alloc, numbers.first_port, numbers.pairs)?,
+        PortTable::open(alloc, numbers.first_port, numbers.pairs)?,
         Bells::new(alloc, pacers, numbers.sessions)?,
         Instant::now(rt)?,
     );

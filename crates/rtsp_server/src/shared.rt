@@ -5,7 +5,7 @@ use crate::stop_bell::StopBell;
 use mio::Waker;
 use mio::net::TcpListener;
 use rtsp_pacing::Bells;
-use rtsp_sockets::{Outlets, PairTable};
+use rtsp_sockets::{Outlets, PortTable};
 use std::alloc::{AllocError, Global};
 use std::rt;
 use std::sync::{Mutex, Wait};
@@ -17,7 +17,7 @@ pub(crate) struct Shared {
     pub(crate) listener: TcpListener,
     pub(crate) gate: Gate,
     pub(crate) outlets: Outlets,
-    pub(crate) pairs: PairTable,
+    pub(crate) ports: PortTable,
     /// The pacers', by which they learn of plays.
     pub(crate) bells: Bells,
     /// The sweeper's.
@@ -32,7 +32,7 @@ impl Shared {
         alloc: Global,
         listener: TcpListener,
         gate: Gate,
-        pairs: PairTable,
+        ports: PortTable,
         bells: Bells,
         begun: Instant,
     ) -> Shared {
@@ -40,7 +40,7 @@ impl Shared {
             listener,
             gate,
             outlets: Outlets::new(alloc),
-            pairs,
+            ports,
             bells,
             stop_bell: StopBell::new(),
             begun,

@@ -46,3 +46,42 @@ impl<R: rt::Clock> Clock for RunningClock<'_, R> {
         self.last
     }
 }
+
+/// A clock that is read once, at the first question, and tells that moment from then on. A piece of
+/// input has one: its requests came together, so one reading does for all.
+#[derive(Drop)]
+pub struct PieceClock<'a, R> {
+    clock: RunningClock<'a, R>,
+    moment: Option<u64>,
+}
+
+impl<'a, R: rt::Clock> PieceClock<'a, R> {
+    ghost use Rattle.std.specs.Prelude.{◌≡◌, None};
+
+    /// A clock that counts from this instant, and wasn't read yet.
+    pub fn new(rt: &'a R, begun: Instant) -> PieceClock<'a, R>
+        ensures { result.moment ≡ None }
+    {
+        PieceClock {
+            clock: RunningClock::new(rt, begun),
+            moment: None,
+        }
+    }
+}
+
+impl<R: rt::Clock> Clock for PieceClock<'_, R> {
+    ghost use Rattle.std.specs.Prelude.{◌≡◌, ℕ, Some};
+
+    ghost tells = { λ b moment c. (c.moment ≡ Some moment) × ((m : ℕ) → b.moment ≡ Some m → moment ≡ m) };
+
+    fn now(&mut self) -> u64 {
+        match self.moment {
+            Some(moment) => moment,
+            None => {
+                let moment = self.clock.now();
+                self.moment = Some(moment);
+                moment
+            }
+        }
+    }
+}

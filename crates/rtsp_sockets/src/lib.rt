@@ -2,7 +2,7 @@
 //! waits but for a lock.
 //!
 //! `outlet` is the writing side of a connection, over `pending`, the bytes that wait to be written;
-//! `outlets` are those of all connections. `pairs` are the sockets of pairs of ports. `words` and
+//! `outlets` are those of all connections. `ports` are the sockets of ports that are bound. `words` and
 //! `clock` are the system's words and moments, `media` the files of the tracks.
 
 #![tactic(auto)]
@@ -14,21 +14,21 @@ mod message;
 mod options;
 mod outlet;
 mod outlets;
-mod pair_binder;
-mod pairs;
 mod pending;
+mod port_binder;
+mod ports;
 mod put;
 mod slots;
 mod unit;
 mod words;
 
-pub use clock::RunningClock;
+pub use clock::{PieceClock, RunningClock};
 pub use media::{HELD_LIMIT, Media, MediaFault};
 pub use message::{ALL_ROOM, FRAME_ROOM, Message};
 pub use options::{SEND_BUFFER, prepare};
 pub use outlet::{Outlet, STALL_LIMIT};
 pub use outlets::Outlets;
-pub use pair_binder::PairBinder;
-pub use pairs::{PairSockets, PairTable};
+pub use port_binder::PortBinder;
+pub use ports::{PortSockets, PortTable};
 pub use put::Put;
 pub use words::RandomWords;

@@ -1,58 +1,77 @@
-//! Which pairs of ports are bound, each under an admission.
+//! Which ports are bound, each pair or single one under an admission.
 
 ghost use Rattle.std.specs.Prelude.{◌≡◌, ◌≢◌, Some, None, IfOk, IfSome, IfNone, replicate};
 ghost use Rattle.rtsp_sockets.specs.Slots.{place_of, slot, IsBoundUnder, IsNotUnder, Puts, Takes, Stays};
 
-use crate::pairs::PairSockets;
+use crate::ports::PortSockets;
 use std::alloc::{AllocError, Global};
 use std::sync::Arc;
 
-// A pair that is bound: under which admission, and its sockets.
-#[derive(Drop)]
-pub(crate) struct BoundPair {
-    pub(crate) admission: u64,
-    pub(crate) sockets: Arc<PairSockets>,
+// How many ports an address is: two, the first of which names it, or one.
+#[derive(Clone, Copy)]
+pub(crate) enum Width {
+    Pair,
+    Port,
 }
 
-// What is bound of a range of pairs.
+// An address that is bound: under which admission, and its sockets.
+#[derive(Drop)]
+pub(crate) struct Bound {
+    pub(crate) admission: u64,
+    pub(crate) sockets: Arc<PortSockets>,
+}
+
+// What is bound of a range of ports, of addresses of one width.
 #[derive(Drop)]
 pub(crate) struct Slots {
     first_port: u16,
-    // What is bound of each pair, in the order of the ports.
-    pairs: Vec<Option<BoundPair>>,
+    width: Width,
+    // What is bound of each address, in the order of the ports.
+    slots: Vec<Option<Bound>>,
 }
 
-// The place of a pair, by its first port and that of all.
-fn place_of(first: u16, pair: u16) -> usize
-    ensures { result ≡ place_of first pair }
+// The place of an address, by its first port and that of all.
+fn place_of(first: u16, width: Width, port: u16) -> usize
+    ensures { result ≡ place_of first width port }
 {
-    (pair.saturating_sub(first) / 2) as usize
+    let past = usize::from(port.saturating_sub(first));
+    match width {
+        Width::Pair => past / 2,
+        Width::Port => past,
+    }
 }
 
 impl Slots {
-    pub(crate) fn open(alloc: Global, first_port: u16, pairs: u16) -> Result<Slots, AllocError>
+    pub(crate) fn open(
+        alloc: Global,
+        first_port: u16,
+        width: Width,
+        count: usize,
+    ) -> Result<Slots, AllocError>
         ensures first { IfOk result (λ s. s.first_port ≡ first_port) }
-        ensures pairs { IfOk result (λ s. s.pairs.items ≡ replicate pairs None) }
+        ensures width { IfOk result (λ s. s.width ≡ width) }
+        ensures slots { IfOk result (λ s. s.slots.items ≡ replicate count None) }
     {
-        let mut slots = Vec::with_capacity(alloc, usize::from(pairs))?;
-        for _count in 0..pairs {
+        let mut slots = Vec::with_capacity(alloc, count)?;
+        for _count in 0..count {
             slots.push(None)?;
         }
         Ok(Slots {
             first_port,
-            pairs: slots,
+            width,
+            slots,
         })
     }
 
-    // Puts a pair where none is bound. It is given back where one is, or outside the range.
-    pub(crate) fn put(&mut self, pair: u16, bound: BoundPair) -> Option<BoundPair>
-        ensures put { IfNone result (Puts self.old pair bound self.new) }
-        ensures taken { IfSome result (λ b. slot self.old pair ≢ Some None) }
+    // Puts an address where none is bound. It is given back where one is, or outside the range.
+    pub(crate) fn put(&mut self, port: u16, bound: Bound) -> Option<Bound>
+        ensures put { IfNone result (Puts self.old port bound self.new) }
+        ensures taken { IfSome result (λ b. slot self.old port ≢ Some None) }
         ensures given { IfSome result (λ b. b ≡ bound) }
         ensures stays { IfSome result (λ b. Stays self.old self.new) }
     {
-        let place = place_of(self.first_port, pair);
-        match self.pairs.get_mut(place) {
+        let place = place_of(self.first_port, self.width, port);
+        match self.slots.get_mut(place) {
             Some(slot) if slot.is_none() => {
                 *slot = Some(bound);
                 None
@@ -61,25 +80,30 @@ impl Slots {
         }
     }
 
-    // Takes the pair out that is bound under this admission.
-    pub(crate) fn take(&mut self, admission: u64, pair: u16) -> Option<BoundPair>
-        ensures takes { IfSome result (λ b. Takes self.old admission pair b self.new) }
-        ensures none { IfNone result (IsNotUnder self.old admission pair) }
+    // Takes the address out that is bound under this admission.
+    pub(crate) fn take(&mut self, admission: u64, port: u16) -> Option<Bound>
+        ensures takes { IfSome result (λ b. Takes self.old admission port b self.new) }
+        ensures none { IfNone result (IsNotUnder self.old admission port) }
         ensures stays { IfNone result (Stays self.old self.new) }
     {
-        let slot = self.pairs.get_mut(place_of(self.first_port, pair))?;
+        let slot = self
+            .slots
+            .get_mut(place_of(self.first_port, self.width, port))?;
         match slot {
             Some(bound) if bound.admission == admission => slot.take(),
             _ => None,
         }
     }
 
-    // The sockets of the pair that is bound under this admission.
-    pub(crate) fn get(&self, admission: u64, pair: u16) -> Option<&Arc<PairSockets>>
-        ensures found { IfSome result (λ s. (b : BoundPair) × IsBoundUnder self.now admission pair b × s.now ≡ b.sockets) }
-        ensures none { IfNone result (IsNotUnder self.now admission pair) }
+    // The sockets of the address that is bound under this admission.
+    pub(crate) fn get(&self, admission: u64, port: u16) -> Option<&Arc<PortSockets>>
+        ensures found { IfSome result (λ s. (b : Bound) × IsBoundUnder self.now admission port b × s.now ≡ b.sockets) }
+        ensures none { IfNone result (IsNotUnder self.now admission port) }
     {
-        match self.pairs.get(place_of(self.first_port, pair))? {
+        match self
+            .slots
+            .get(place_of(self.first_port, self.width, port))?
+        {
             Some(bound) if bound.admission == admission => Some(&bound.sockets),
             _ => None,
         }

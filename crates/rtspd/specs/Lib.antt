@@ -1,4 +1,4 @@
 pub mod CountedWords
-pub mod PairSet
+pub mod PortSet
 pub mod CommandLine
 pub mod Exits

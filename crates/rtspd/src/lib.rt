@@ -13,7 +13,7 @@ mod devices;
 mod example;
 mod exit;
 mod one_connection;
-mod pair_set;
+mod port_set;
 mod running;
 mod serving;
 
@@ -22,7 +22,7 @@ pub use counted_words::CountedWords;
 pub use devices::{NoPlays, StandingClock};
 pub use example::EXAMPLE;
 pub use exit::Exit;
-pub use pair_set::PairSet;
+pub use port_set::PortSet;
 pub use running::{run_program, run_words};
 
 #[cfg(test)]

@@ -5,7 +5,7 @@ ghost use Rattle.rtsp_lock.specs.Calls.{IsSeatOf};
 use crate::counted_words::CountedWords;
 use crate::devices::{NoPlays, StandingClock};
 use crate::exit::Exit;
-use crate::pair_set::PairSet;
+use crate::port_set::PortSet;
 use rtsp_book::Kept;
 use rtsp_content::Table;
 use rtsp_engine::{Asker, ByteIn, ByteOut, Desk, ServeEnd};
@@ -22,7 +22,7 @@ const PEER: u32 = 0x7f00_0001;
 pub(crate) struct OneConnection {
     lock: BookLock,
     seat: BookSeat,
-    binder: PairSet,
+    binder: PortSet,
     words: CountedWords,
     table: Table,
     asker: Asker,
@@ -40,7 +40,7 @@ impl OneConnection {
         let Ok((lock, mut seat)) = open(alloc, &whole) else {
             return Err(Exit::OutOfMemory);
         };
-        let Ok(binder) = PairSet::open(alloc, whole.first_port, whole.pairs) else {
+        let Ok(binder) = PortSet::open(alloc, whole.first_port, whole.pairs) else {
             return Err(Exit::OutOfMemory);
         };
         let Ok(conn) = seat.draw(rt, &lock) else {
