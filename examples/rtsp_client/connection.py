@@ -59,6 +59,28 @@ class UdpPair:
         self.rtp.close()
         self.rtcp.close()
 
+    @property
+    def address(self) -> str:
+        """What a Transport header says of it."""
+        return f'dest_addr=":{self.port}"/":{self.port + 1}"'
+
+
+class UdpPort:
+    """One socket, for RTP and RTCP both (RFC 5761)."""
+
+    def __init__(self, host: str) -> None:
+        self.rtp = socket.socket(socket.AF_INET, socket.SOCK_DGRAM)
+        self.rtp.bind((host, 0))
+        self.port = self.rtp.getsockname()[1]
+
+    def close(self) -> None:
+        self.rtp.close()
+
+    @property
+    def address(self) -> str:
+        """What a Transport header says of it."""
+        return f'dest_addr=":{self.port}";RTCP-mux'
+
 
 class Connection:
     """One TCP connection. Whatever comes is taken by `wait`, and by `ask` while it waits for its answer."""

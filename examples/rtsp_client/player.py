@@ -1,9 +1,10 @@
 """A player: a presentation is described, its tracks are set up, played, paused and torn down (RFC 7826 section 13)."""
+import enum
 import re
 import time
-from typing import Callable, List, NamedTuple, Optional, Tuple
+from typing import Callable, List, NamedTuple, Optional, Tuple, Union
 
-from .connection import Connection, Refused, UdpPair, address_of
+from .connection import Connection, Refused, UdpPair, UdpPort, address_of
 from .messages import Message
 from .rtp import Reception
 
@@ -42,10 +43,24 @@ def read_description(text: str, base: str) -> List[Track]:
     return tracks
 
 
+class Way(enum.Enum):
+    """What the packets come over."""
+
+    UDP = "UDP"
+    ONE_PORT = "one UDP port"
+    TCP = "TCP"
+
+    def open(self, host: str) -> Optional[Union[UdpPair, UdpPort]]:
+        """The sockets that a stream needs beside the connection."""
+        return {Way.UDP: UdpPair, Way.ONE_PORT: UdpPort, Way.TCP: lambda host: None}[self](host)
+
+
 class Stream:
     """A track that was set up."""
 
-    def __init__(self, track: Track, transport: str, channel: Optional[int], ports: Optional[UdpPair]) -> None:
+    def __init__(
+        self, track: Track, transport: str, channel: Optional[int], ports: Optional[Union[UdpPair, UdpPort]]
+    ) -> None:
         found = re.search(r"ssrc=([0-9a-fA-F]{8})", transport)
         if not found:
             raise Refused(f"the server names no SSRC: {transport!r}")
@@ -59,9 +74,9 @@ class Stream:
 class Player:
     """One session on one connection."""
 
-    def __init__(self, uri: str, over_tcp: bool, receive_buffer: Optional[int] = None) -> None:
+    def __init__(self, uri: str, way: Way, receive_buffer: Optional[int] = None) -> None:
         self.uri = uri
-        self.over_tcp = over_tcp
+        self.way = way
         self.connection = Connection(*address_of(uri), receive_buffer)
         self.streams: List[Stream] = []
         self.session: Optional[str] = None
@@ -85,9 +100,9 @@ class Player:
 
     def set_up(self, track: Track) -> Stream:
         """Sets up one track, in the session of the tracks before it."""
-        ports = None if self.over_tcp else UdpPair(self.connection.socket.getsockname()[0])
+        ports = self.way.open(self.connection.socket.getsockname()[0])
         if ports:
-            wanted = f'RTP/AVP;unicast;dest_addr=":{ports.port}"/":{ports.port + 1}"'
+            wanted = f"RTP/AVP;unicast;{ports.address}"
         else:
             wanted = f"RTP/AVP/TCP;unicast;interleaved={2 * len(self.streams)}-{2 * len(self.streams) + 1}"
         try:
@@ -103,14 +118,15 @@ class Player:
         self.streams.append(stream)
         if ports:
             self.connection.datagrams[ports.rtp] = stream.reception.take
-            self.connection.datagrams[ports.rtcp] = lambda datagram, at: None
+            if isinstance(ports, UdpPair):
+                self.connection.datagrams[ports.rtcp] = lambda datagram, at: None
         else:
             self.connection.channels[stream.channel] = stream.reception.take
         return stream
 
     def _channel_of(self, answer: Message) -> Optional[int]:
         found = re.search(r"interleaved=(\d+)-", answer.header("Transport") or "")
-        if self.over_tcp and not found:
+        if self.way is Way.TCP and not found:
             raise Refused("the server names no channel")
         return int(found[1]) if found else None
 

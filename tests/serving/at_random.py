@@ -22,6 +22,7 @@ STATUSES = {200, 400, 404, 451, 453, 454, 455, 456, 457, 459, 460, 461, 463, 501
 RANGES = (None, "npt=0-", "npt=0.5-1.5", "npt=1.9-", "npt=-1", "npt=9-", "smpte=0-", "npt=x")
 TRANSPORTS = (
     'RTP/AVP;unicast;dest_addr=":{port}"/":{port}"',
+    'RTP/AVP;unicast;dest_addr=":{port}";RTCP-mux',
     "RTP/AVP/TCP;unicast;interleaved=0-1",
     "RTP/AVP/TCP;unicast;interleaved=x",
     'RTP/AVP;unicast;dest_addr="192.0.2.9:8000"/"192.0.2.9:8001"',
@@ -90,7 +91,7 @@ class Client:
         if self.session and self.draw.random() < 0.9:
             headers.append(("Session", self.session))
         if method == "SETUP":
-            headers.append(("Transport", self.draw.choices(TRANSPORTS, (6, 6, 2, 1, 1))[0].format(port=self.port)))
+            headers.append(("Transport", self.draw.choices(TRANSPORTS, (4, 4, 6, 2, 1, 1))[0].format(port=self.port)))
         wanted = self.draw.choice(RANGES)
         if method == "PLAY" and wanted:
             headers.append(("Range", wanted))

@@ -3,6 +3,7 @@ import pathlib
 import subprocess
 
 from checks import Checks
+from rtsp_client.player import Way
 
 from .runner import serving_test
 from .server import HERE, TONE, TRIED, Server, configuration, lease
@@ -34,7 +35,7 @@ def three_messages(checks: Checks) -> None:
 def ends_after_so_many_connections(checks: Checks) -> None:
     """Three connections, two of them at once; a session over UDP and a play are there still, and all threads end."""
     with Server(checks, words=("--connections", "3")) as server:
-        first, player = server.connect(), server.player(over_tcp=False)
+        first, player = server.connect(), server.player(Way.UDP)
         checks.that("a session over UDP", lease(first, f"{server.uri}/a") is not None)
         for track in player.describe():
             player.set_up(track)

@@ -3,6 +3,7 @@ import socket
 import time
 
 from checks import Checks
+from rtsp_client.player import Way
 
 from .runner import serving_test
 from .server import Presentation, Server, is_alive, is_free, lease, leases
@@ -23,7 +24,7 @@ def a_silent_session_expires(checks: Checks) -> None:
     settings = {"pairs": count, "sessions": count, "uplink": count * rate, "timeout": TIMEOUT, "renewal_step": STEP}
     with Server(checks, ONE_TRACK, **settings) as server:
         before = server.descriptors_at_rest()
-        player = server.player(over_tcp=False)
+        player = server.player(Way.UDP)
         player.set_up(player.describe()[0])
         player.play()
         last = time.monotonic()

@@ -9,6 +9,7 @@ from typing import Dict, Iterator, List, NamedTuple, Optional, Tuple
 from checks import Checks
 from rtsp_client.connection import Connection, Refused
 from rtsp_client.messages import Message
+from rtsp_client.player import Way
 
 from .faults import Faults
 from .plays import runs
@@ -16,6 +17,7 @@ from .runner import serving_test
 from .server import TONE, Server, is_alive, is_free, lease, leases
 
 OVER_UDP = ("Transport", 'RTP/AVP;unicast;dest_addr=":9"/":9"')
+OVER_ONE_PORT = ("Transport", 'RTP/AVP;unicast;dest_addr=":9";RTCP-mux')
 OVER_TCP = ("Transport", "RTP/AVP/TCP;unicast;interleaved=0-1")
 # A startup number, in place of a session's id (RFC 7826 section 18.33).
 SEVEN, EIGHT = ("Pipelined-Requests", "7"), ("Pipelined-Requests", "8")
@@ -35,6 +37,7 @@ class Request(NamedTuple):
 
 
 SETUP_UDP = Request("SETUP", "/a", (OVER_UDP,))
+SETUP_ONE_PORT = Request("SETUP", "/a", (OVER_ONE_PORT,))
 SETUP_TCP = Request("SETUP", "/a", (OVER_TCP,))
 CONVERSATIONS: Dict[str, List[Request]] = {
     "three messages": [Request("OPTIONS"), SETUP_TCP, Request("TEARDOWN", session=0)],
@@ -52,6 +55,7 @@ CONVERSATIONS: Dict[str, List[Request]] = {
         Request("PLAY", headers=(EIGHT,)),
         Request("PLAY", headers=(SEVEN,)),
     ],
+    "from one port to two": [SETUP_ONE_PORT, SETUP_UDP._replace(session=0), Request("TEARDOWN", session=0)],
     "from UDP to channels": [SETUP_UDP, SETUP_TCP._replace(session=0), Request("TEARDOWN", session=0)],
     "a play over UDP": [
         Request("DESCRIBE"),
@@ -224,7 +228,7 @@ def sessions_end_without_memory(checks: Checks) -> None:
         mixed = lease(leaving, f"{server.uri}/a")
         named = [("Session", mixed.session)]
         checks.same("a stream over the connection", 200, leaving.ask("SETUP", f"{server.uri}/b", [*named, OVER_TCP]).status)
-        player = server.player(over_tcp=True)
+        player = server.player(Way.TCP)
         for track in player.describe():
             player.set_up(track)
         player.play()
@@ -251,7 +255,7 @@ def sessions_end_without_memory(checks: Checks) -> None:
 def the_end_of_a_play_without_memory(checks: Checks) -> None:
     """PLAY_NOTIFY isn't lost where there is no memory for it: it comes once there is."""
     with failing_server(checks, uplink=2 * TONE.whole_rate) as (server, faults, _):
-        player = server.player(over_tcp=False)
+        player = server.player(Way.UDP)
         player.set_up(player.describe()[0])
         player.play(9.0)
         came = player.streams[0].reception.packets
@@ -338,7 +342,7 @@ def ports_words_and_connections_that_fail(checks: Checks) -> None:
 def packets_that_the_system_refuses(checks: Checks) -> None:
     """One refusal loses nothing, since it may be that of an earlier packet; a second one at once loses the packet."""
     with failing_server(checks) as (server, faults, _):
-        player = server.player(over_tcp=False)
+        player = server.player(Way.UDP)
         player.set_up(player.describe()[0])
         player.play()
         came = player.streams[0].reception

@@ -13,7 +13,8 @@ import wave
 from typing import Callable, Dict, List
 
 from checks import EXAMPLES, Checks
-from rtsp_client.player import Player, Stream
+from rtsp_client.connection import Connection
+from rtsp_client.player import Player, Stream, Way
 from rtsp_client.rtp import Reception
 from rtsp_client.sound import SAMPLES
 
@@ -70,10 +71,10 @@ def notice_fits(checks: Checks, where: str, player: Player, cseq: int) -> None:
     checks.same(f"{where}: its headers", wanted, notice.headers)
 
 
-def play_with_a_pause(checks: Checks, server: Server, over_tcp: bool) -> None:
+def play_with_a_pause(checks: Checks, server: Server, way: Way) -> None:
     """Ten seconds of tone with a pause in them."""
-    where = "TCP" if over_tcp else "UDP"
-    player = server.player(over_tcp)
+    where = way.value
+    player = server.player(way)
     streams = set_up_all(player)
     player.play(0.0)
     player.listen(8.0, lambda: all(len(stream.reception.packets) >= 200 for stream in streams))
@@ -122,10 +123,10 @@ def side_by_side(checks: Checks, *parts: Callable[[], None]) -> None:
 
 
 @serving_test(limit=40, is_timed=True)
-def two_players_at_once(checks: Checks) -> None:
-    """One over UDP and one over its connection, each with ten seconds of tone and a pause in them."""
+def players_at_once(checks: Checks) -> None:
+    """One over UDP, one over one port and one over its connection, each with ten seconds of tone and a pause in them."""
     with Server(checks) as server:
-        tasks = [lambda over=over: play_with_a_pause(checks, server, over) for over in (False, True)]
+        tasks = [lambda way=way: play_with_a_pause(checks, server, way) for way in Way]
         side_by_side(checks, *tasks)
 
 
@@ -144,7 +145,7 @@ def the_player_of_the_examples(checks: Checks) -> None:
     with Server(checks) as server:
 
         def heard(*words: str) -> None:
-            out = server.path / f"{len(words)}.wav"
+            out = server.path / f"heard{''.join(words)}.wav"
             command = [EXAMPLES / "play", server.uri, "--from", "8.5", "--out", out, *words]
             done = subprocess.run(command, capture_output=True, text=True, timeout=20)
             where = f"play {' '.join(words)}"
@@ -158,11 +159,15 @@ def the_player_of_the_examples(checks: Checks) -> None:
                 wanted.append([SAMPLES[track.encoding][octet] for octet in octets])
             checks.that(f"{where}: the samples are the file's", samples_of(out) == wanted)
 
-        side_by_side(checks, heard, lambda: heard("--tcp"), lambda: stopped(checks, server))
+        side_by_side(checks, heard, lambda: heard("--mux"), lambda: heard("--tcp"), lambda: stopped(checks, server))
         done = subprocess.run([EXAMPLES / "play", f"{server.uri}x"], capture_output=True, text=True, timeout=20)
         came = done.returncode, done.stderr
         checks.same("play of what isn't there", (1, "play: DESCRIBE was answered 404 Not Found\n"), came)
-        for words in (), ("x",), (server.uri, "--from", "x"), (server.uri, "--none"), (server.uri, server.uri):
+        for words in (), ("x",), (server.uri, "--from", "x"), (server.uri, "--none"), (server.uri, server.uri), (
+            server.uri,
+            "--mux",
+            "--tcp",
+        ):
             done = subprocess.run([EXAMPLES / "play", *words], capture_output=True, text=True, timeout=20)
             came = done.returncode, done.stdout, done.stderr.count("\n")
             checks.same(f"play {' '.join(words)}: status 2 and one line", (2, "", 1), came)
@@ -181,6 +186,41 @@ def stopped(checks: Checks, server: Server) -> None:
         checks.same("play, after ^C: it has counted", 2, len(re.findall(r"(?m)^track [ab]: .* 0 repeats", said)))
 
 
+ONE_PORT = ("Transport", 'RTP/AVP;unicast;dest_addr=":9";RTCP-mux')
+
+
+def granted_port(talk: Connection, uri: str) -> Optional[int]:
+    """Sets up a track with RTP and RTCP on one port; the server's port, or None where it is refused."""
+    answer = talk.ask("SETUP", uri, [ONE_PORT])
+    port = re.search(r'src_addr=":(\d+)";RTCP-mux', answer.header("Transport") or "")
+    return int(port[1]) if port else None
+
+
+@serving_test(limit=20, is_timed=True)
+def one_port_for_both(checks: Checks) -> None:
+    """With RTP and RTCP on one port the server binds one, and sends from it; the next one is another session's."""
+    with Server(checks, pairs=2) as server:
+        player = server.player(Way.ONE_PORT)
+        stream = player.set_up(player.describe()[0])
+        first = server.first_port
+        checks.that("the granted port", f'src_addr=":{first}";RTCP-mux;' in stream.transport, stream.transport)
+        checks.same("who is bound", [False, True], [is_free(socket.SOCK_DGRAM, first + it) for it in (0, 1)])
+        came_from = set()
+        player.connection.datagrams[stream.ports.rtp] = lambda datagram, at: None
+        player.play(0.0)
+        for _ in range(20):
+            stream.ports.rtp.settimeout(1)
+            came_from.add(stream.ports.rtp.recvfrom(2048)[1])
+        checks.same("where packets come from", {(HERE, first)}, came_from)
+        talk = server.connect()
+        ports = [granted_port(talk, f"{server.uri}/a") for _ in range(4)]
+        checks.same("the other ports", [first + 1, first + 2, first + 3, None], ports)
+        player.tear_down()
+        checks.same("no pair is free beside a held port", None, lease(talk, f"{server.uri}/a"))
+        checks.same("the port that was given back", first, granted_port(talk, f"{server.uri}/a"))
+        talk.close()
+
+
 @serving_test(limit=20)
 def pairs_that_others_hold(checks: Checks) -> None:
     """A pair one port of which another process has is passed over; where all are taken, it is 503."""
@@ -196,6 +236,19 @@ def pairs_that_others_hold(checks: Checks) -> None:
             checks.same("no pair is left", None, lease(talk, f"{server.uri}/a"))
         ports = [granted.port if granted else None for granted in (lease(talk, f"{server.uri}/a") for _ in range(2))]
         checks.same("the others, once they are free", [server.first_port, server.first_port + 4], ports)
+        talk.close()
+
+
+@serving_test(limit=20)
+def ports_that_others_hold(checks: Checks) -> None:
+    """A port that another process has is passed over; where all are taken, it is 503."""
+    with Server(checks, pairs=1) as server:
+        talk = server.connect()
+        with socket.socket(socket.AF_INET, socket.SOCK_DGRAM) as other:
+            other.bind(("0.0.0.0", server.first_port))
+            checks.same("the port that is free", server.first_port + 1, granted_port(talk, f"{server.uri}/a"))
+            checks.same("no port is left", None, granted_port(talk, f"{server.uri}/a"))
+        checks.same("the other, once it is free", server.first_port, granted_port(talk, f"{server.uri}/a"))
         talk.close()
 
 
@@ -241,7 +294,7 @@ def a_file_that_is_cut_short(checks: Checks) -> None:
         file.write(first)
         file.truncate(LONG.units * track.octets)
     with server:
-        player = server.player(over_tcp=True)
+        player = server.player(Way.TCP)
         stream = set_up_all(player)[0]
         player.play(0.0)
         came = stream.reception.packets
@@ -283,7 +336,7 @@ def busy_threads(server: Server, seconds: float, wakes: int) -> int:
 def plays_of_two_pacers(checks: Checks) -> None:
     """Sessions with even and with odd numbers play at once: each packet once; each pacer has its share."""
     with Server(checks) as server:
-        players = [server.player(over_tcp=False) for _ in range(4)]
+        players = [server.player(Way.UDP) for _ in range(4)]
         # A track more makes the number of the next session odd where this one's is even.
         for place, player in enumerate(players):
             for track in player.describe()[: 2 - place % 2]:

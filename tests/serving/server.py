@@ -12,7 +12,7 @@ from typing import Dict, List, NamedTuple, Optional, Sequence, Tuple
 
 from checks import PROGRAM, Checks, Failed
 from rtsp_client.connection import Connection
-from rtsp_client.player import Player
+from rtsp_client.player import Player, Way
 
 HERE = "127.0.0.1"
 # Another program than the built one may be tried.
@@ -169,8 +169,8 @@ class Server:
     def connect(self, receive_buffer: Optional[int] = None) -> Connection:
         return Connection(HERE, self.port, receive_buffer)
 
-    def player(self, over_tcp: bool, receive_buffer: Optional[int] = None) -> Player:
-        return Player(self.uri, over_tcp, receive_buffer)
+    def player(self, way: Way, receive_buffer: Optional[int] = None) -> Player:
+        return Player(self.uri, way, receive_buffer)
 
     def socket(self) -> socket.socket:
         made = socket.create_connection((HERE, self.port), timeout=10)

@@ -8,7 +8,7 @@ from typing import List
 from checks import Checks
 from rtsp_client.connection import Refused
 from rtsp_client.messages import Message, Reader, written
-from rtsp_client.player import Player
+from rtsp_client.player import Player, Way
 
 from .runner import serving_test
 from .server import Presentation, Server, Track, is_alive
@@ -24,7 +24,7 @@ MEGABYTES = 1 << 20
 
 def played(server: Server, receive_buffer: int) -> Player:
     """A player over its connection that has just begun to play."""
-    player = server.player(over_tcp=True, receive_buffer=receive_buffer)
+    player = server.player(Way.TCP, receive_buffer=receive_buffer)
     for track in player.describe():
         player.set_up(track)
     player.play(0.0)

@@ -4,7 +4,9 @@ ghost use Rattle.std.specs.Prelude.{◌<◌, IfOk};
 
 use rtsp_content::Table;
 use rtsp_engine::{Binder, Clock, Words};
-use rtsp_sockets::{Media, MediaFault, PairBinder, PairTable, RandomWords, RunningClock};
+use rtsp_sockets::{
+    Media, MediaFault, PortBinder, PortTable, PieceClock, RandomWords, RunningClock,
+};
 use std::io::ErrorKind;
 use std::net::{Net, UdpSocket};
 use std::test::Fail;
@@ -27,21 +29,49 @@ pub fn free_port<R: Net>(rt: &R) -> io::Result<u16>
 #[test]
 fn a_pair_is_bound_under_its_admission(rt: HostRuntime) -> Result<(), Fail> {
     let first = free_port(&rt)?;
-    let table = PairTable::open(rt.alloc(), first, 1)?;
-    let mut binder = PairBinder::new(&rt, &table);
+    let table = PortTable::open(rt.alloc(), first, 1)?;
+    let mut binder = PortBinder::new(&rt, &table);
     assert!(rt; binder.bind(7, first).is_ok() && binder.bind(8, first).is_err());
-    let Some(sockets) = table.sockets(&rt, 7, first) else {
+    let Some(sockets) = table.pair_sockets(&rt, 7, first) else {
         panic!(rt; "it is bound")
     };
     assert!(rt; sockets.rtp.local_addr()?.port() == first);
-    assert!(rt; sockets.rtcp.local_addr()?.port() == first.saturating_add(1));
-    assert!(rt; table.sockets(&rt, 8, first).is_none());
+    let Some(rtcp) = &sockets.rtcp else {
+        panic!(rt; "a pair has two sockets")
+    };
+    assert!(rt; rtcp.local_addr()?.port() == first.saturating_add(1));
+    assert!(rt; table.pair_sockets(&rt, 8, first).is_none());
     drop(sockets);
     binder.unbind(8, first);
-    assert!(rt; table.sockets(&rt, 7, first).is_some());
+    assert!(rt; table.pair_sockets(&rt, 7, first).is_some());
     binder.unbind(7, first);
-    assert!(rt; table.sockets(&rt, 7, first).is_none() && binder.bind(8, first).is_ok());
+    assert!(rt; table.pair_sockets(&rt, 7, first).is_none() && binder.bind(8, first).is_ok());
     assert!(rt; binder.bind(9, first.saturating_add(2)).is_err());
+    Ok(())
+}
+
+#[test]
+fn a_port_is_bound_alone(rt: HostRuntime) -> Result<(), Fail> {
+    let first = free_port(&rt)?;
+    let second = first.saturating_add(1);
+    let table = PortTable::open(rt.alloc(), first, 1)?;
+    let mut binder = PortBinder::new(&rt, &table);
+    assert!(rt; binder.bind_port(7, second).is_ok());
+    assert!(rt; binder.bind_port(8, second).is_err() && binder.bind(8, first).is_err());
+    let Some(sockets) = table.port_socket(&rt, 7, second) else {
+        panic!(rt; "it is bound")
+    };
+    assert!(rt; sockets.rtp.local_addr()?.port() == second && sockets.rtcp.is_none());
+    assert!(rt; table.port_socket(&rt, 8, second).is_none());
+    assert!(rt; table.pair_sockets(&rt, 7, first).is_none());
+    drop(sockets);
+    binder.unbind_port(8, second);
+    binder.unbind(7, first);
+    assert!(rt; binder.bind_port(8, first).is_ok() && table.port_socket(&rt, 7, second).is_some());
+    binder.unbind_port(8, first);
+    binder.unbind_port(7, second);
+    assert!(rt; table.port_socket(&rt, 7, second).is_none() && binder.bind(8, first).is_ok());
+    assert!(rt; binder.bind_port(9, first.saturating_add(2)).is_err());
     Ok(())
 }
 
@@ -57,6 +87,9 @@ fn words_and_moments(rt: HostRuntime) -> Result<(), Fail> {
     let early = clock.now();
     assert!(rt; clock.now() >= early && clock.until(early).is_zero());
     assert!(rt; clock.until(60_000) > Duration::from_secs(50));
+    let mut once = PieceClock::new(&rt, Instant::now(&rt)?);
+    let moment = once.now();
+    assert!(rt; moment < 1_000 && once.now() == moment);
     Ok(())
 }
 

@@ -12,7 +12,7 @@ use rtsp_engine::{Binder, Plays};
 use rtsp_lock::{BookLock, BookSeat, open};
 use rtsp_pacing::{Bells, NotedPlays, Paced, PacerParts, pace};
 use rtsp_record::{Id, Stream, Whole};
-use rtsp_sockets::{Media, Outlets, PairBinder, PairTable};
+use rtsp_sockets::{Media, Outlets, PortBinder, PortTable};
 use std::io::Read;
 use std::net::{TcpStream, UdpSocket};
 use std::rt::Clock;
@@ -183,8 +183,8 @@ fn a_play_is_sent_and_reported(rt: HostRuntime) -> Result<(), Fail> {
         journal: 1_000,
     };
     let (lock, mut seat) = open(rt.alloc(), &whole)?;
-    let pairs = PairTable::open(rt.alloc(), pair, 1)?;
-    assert!(rt; PairBinder::new(&rt, &pairs).bind(3, pair).is_ok());
+    let ports = PortTable::open(rt.alloc(), pair, 1)?;
+    assert!(rt; PortBinder::new(&rt, &ports).bind(3, pair).is_ok());
     let media = UdpSocket::bind(&rt, "127.0.0.1:0")?;
     media.set_read_timeout(Some(Duration::from_secs(5)))?;
     let begun = Instant::now(&rt)?;
@@ -204,7 +204,7 @@ fn a_play_is_sent_and_reported(rt: HostRuntime) -> Result<(), Fail> {
     let parts = PacerParts {
         lock: &lock,
         table: &table,
-        pairs: &pairs,
+        ports: &ports,
         outlets: &outlets,
         media: &files,
         bell,

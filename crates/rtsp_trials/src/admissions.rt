@@ -15,7 +15,8 @@ use std::thread;
 use std::thread::Threads;
 use std::time::{Clock, Duration};
 
-const SMALL: Whole = Whole {
+/// Two pairs of ports.
+pub const SMALL: Whole = Whole {
     first_port: 5000,
     pairs: 2,
     uplink: 400_000,
@@ -31,12 +32,12 @@ const ONE_PAIR: Whole = Whole {
     journal: 1_000,
 };
 
-// Binds the pairs from one on, and remembers the last one that it unbound.
+/// Binds the pairs and ports from one on, and remembers the last one that it unbound.
 #[derive(Drop)]
-struct BindsFrom {
+pub struct BindsFrom {
     least: u16,
     failures: u64,
-    unbound: Option<(u64, u16)>,
+    pub unbound: Option<(u64, u16)>,
 }
 
 impl Binder for BindsFrom {
@@ -55,9 +56,17 @@ impl Binder for BindsFrom {
     fn unbind(&mut self, admission: u64, pair: u16) {
         self.unbound = Some((admission, pair));
     }
+
+    fn bind_port(&mut self, admission: u64, port: u16) -> Result<(), BindFault> {
+        self.bind(admission, port)
+    }
+
+    fn unbind_port(&mut self, admission: u64, port: u16) {
+        self.unbind(admission, port)
+    }
 }
 
-fn binds_from(least: u16) -> BindsFrom {
+pub fn binds_from(least: u16) -> BindsFrom {
     BindsFrom {
         least,
         failures: 0,
@@ -65,8 +74,8 @@ fn binds_from(least: u16) -> BindsFrom {
     }
 }
 
-// Asks for a pair in a new session of a number and an id.
-fn asked(session: u64, admission: u64) -> Ask
+/// Asks for a pair in a new session of a number and an id.
+pub fn asked(session: u64, admission: u64) -> Ask
     ensures { HasWish result.wanted }
 {
     Ask {
@@ -153,6 +162,14 @@ impl<R: Wait> Binder for Expires<'_, '_, R> {
 
     fn unbind(&mut self, admission: u64, pair: u16) {
         self.unbound = Some((admission, pair));
+    }
+
+    fn bind_port(&mut self, admission: u64, port: u16) -> Result<(), BindFault> {
+        self.bind(admission, port)
+    }
+
+    fn unbind_port(&mut self, admission: u64, port: u16) {
+        self.unbind(admission, port)
     }
 }
 
@@ -291,6 +308,14 @@ impl<R: Clock> Binder for Waits<'_, '_, R> {
     }
 
     fn unbind(&mut self, _admission: u64, _pair: u16) {}
+
+    fn bind_port(&mut self, admission: u64, port: u16) -> Result<(), BindFault> {
+        self.bind(admission, port)
+    }
+
+    fn unbind_port(&mut self, admission: u64, port: u16) {
+        self.unbind(admission, port)
+    }
 }
 
 fn admit_waiting<R: Wait + Clock>(
@@ -357,29 +382,5 @@ fn a_bind_keeps_nobody_waiting(rt: HostRuntime) -> Result<(), Fail> {
     assert!(rt; one.is_ok() && two.is_ok());
     let kept = first.finish(&rt, lock);
     assert!(rt; kept.book().living() == 2 && kept.book().least_pair(0).is_none());
-    Ok(())
-}
-
-#[test]
-fn the_pair_of_a_replaced_stream_is_unbound(rt: HostRuntime) -> Result<(), Fail> {
-    let (lock, mut seat) = rtsp_lock::open(rt.alloc(), &SMALL)?;
-    let mut binder = binds_from(0);
-    assert!(rt; admit(&rt, &mut seat, &lock, &mut binder, &asked(2, 3)).is_ok());
-    let ask = Ask {
-        opening: None,
-        wanted: Wanted::Channels {
-            conn: 1,
-            wish: None,
-        },
-        ..asked(2, 4)
-    };
-    let granted = admit(&rt, &mut seat, &lock, &mut binder, &ask);
-    assert!(rt; granted.is_ok() && binder.unbound == Some((3, 5000)));
-    unbind_all(&mut binder, &[(4, 5002)]);
-    assert!(rt; binder.unbound == Some((4, 5002)));
-    law_admitted_grows::<BindsFrom>(&ask);
-    law_acts_use_drawn();
-    law_drawn_is_unused();
-    law_drawn_used_alone();
     Ok(())
 }

@@ -20,12 +20,28 @@ pub enum Asked {
     Open(u64, u128),
     Rate(u64, u64),
     Pair(u64, u64),
+    Port(u64, u64, u32),
     Channels(u64, u64),
+    Return(u64, u64, Thing),
     Commit(u64, u64, Stream),
     Touch(u64, u64),
     Expire(u64),
     Unwind(u64, u64),
+    UnwindPort(u64, u64, u16),
+    DropTrack(u64, u16),
     End(u64),
+}
+
+// An admission that held a rate, and perhaps an address.
+fn unwind(session: u64, admission: u64, second: Option<Thing>) -> Step {
+    let chain = Chain {
+        session,
+        admission,
+        opened: false,
+        first: Some(Thing::Rate(80_000)),
+        second,
+    };
+    Step::Unwind { chain }
 }
 
 /// The step that is asked for.
@@ -49,12 +65,22 @@ pub fn step(asked: Asked) -> Step
             admission,
             from: 0,
         },
+        Asked::Port(session, admission, from) => Step::HoldPort {
+            session,
+            admission,
+            from,
+        },
         Asked::Channels(session, admission) => Step::HoldChan(ChannelHold {
             session,
             admission,
             conn: 1,
             wish: Some(0),
         }),
+        Asked::Return(session, admission, thing) => Step::Return {
+            session,
+            admission,
+            thing,
+        },
         Asked::Commit(session, admission, stream) => Step::Commit(Commit {
             session,
             admission,
@@ -63,15 +89,11 @@ pub fn step(asked: Asked) -> Step
         }),
         Asked::Touch(session, until) => Step::Touch { session, until },
         Asked::Expire(now) => Step::Expire { now },
-        Asked::Unwind(session, admission) => Step::Unwind {
-            chain: Chain {
-                session,
-                admission,
-                opened: false,
-                first: Some(Thing::Rate(80_000)),
-                second: None,
-            },
-        },
+        Asked::Unwind(session, admission) => unwind(session, admission, None),
+        Asked::UnwindPort(session, admission, port) => {
+            unwind(session, admission, Some(Thing::Port(port)))
+        }
+        Asked::DropTrack(session, track) => Step::DropTrack { session, track },
         Asked::End(session) => Step::End { session },
     }
 }
@@ -94,7 +116,7 @@ fn with_stream(alloc: Global, whole: &Whole) -> Result<Kept<PlainBook>, Fail>
     Ok(kept)
 }
 
-// A refusal, or a line for each record and for each pair that is free again.
+// A refusal, or a line for each record, and for each pair and each port that is free again.
 fn write_answer(
     out: &mut Vec<u8>,
     alloc: Global,
@@ -113,11 +135,15 @@ fn write_answer(
         let line = format!(in alloc; "freed {} {}\n", freed.0, freed.1)?;
         out.extend_from_slice(line.as_str().as_bytes())?;
     }
+    for freed in made.freed_ports().as_slice().iter() {
+        let line = format!(in alloc; "freed port {} {}\n", freed.0, freed.1)?;
+        out.extend_from_slice(line.as_str().as_bytes())?;
+    }
     Ok(())
 }
 
-// What steps are answered, all into one receipt, and the book that they leave.
-fn compare(
+/// What steps are answered, all into one receipt, and the book that they leave.
+pub fn compare(
     rt: &impl Abort,
     alloc: Global,
     kept: Kept<PlainBook>,

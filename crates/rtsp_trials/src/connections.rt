@@ -133,6 +133,14 @@ impl Binder for Device {
     }
 
     fn unbind(&mut self, _admission: u64, _pair: u16) {}
+
+    fn bind_port(&mut self, admission: u64, port: u16) -> Result<(), BindFault> {
+        self.bind(admission, port)
+    }
+
+    fn unbind_port(&mut self, admission: u64, port: u16) {
+        self.unbind(admission, port)
+    }
 }
 
 // What is answered to a SETUP and a PLAY by such devices, how the pushing ends, and what was

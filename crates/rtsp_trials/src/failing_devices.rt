@@ -137,6 +137,14 @@ impl Binder for Ports {
     }
 
     fn unbind(&mut self, _admission: u64, _pair: u16) {}
+
+    fn bind_port(&mut self, admission: u64, port: u16) -> Result<(), BindFault> {
+        self.bind(admission, port)
+    }
+
+    fn unbind_port(&mut self, admission: u64, port: u16) {
+        self.unbind(admission, port)
+    }
 }
 
 /// Ids and SSRCs that are counted from 1, but for one call.

@@ -2,12 +2,14 @@ use rtsp_transport::{
     ChannelPair, Granted, Pick, TextFault, is_known, pick, read_cseq, read_session, read_startup,
     read_tags, read_transports, session_id, write_session_id, write_ssrc, write_transport,
 };
+use std::alloc::Global;
+use std::process::Abort;
 use std::test::Fail;
 
 const LOCALHOST: u32 = 0x7f00_0001;
 
-fn picked(rt: &HostRuntime, text: &[u8]) -> Result<Pick, TextFault> {
-    Ok(pick(&read_transports(rt.alloc(), text)?, LOCALHOST))
+fn picked(alloc: Global, text: &[u8]) -> Result<Pick, TextFault> {
+    Ok(pick(&read_transports(alloc, text)?, LOCALHOST))
 }
 
 const UDP: Pick = Pick::Udp {
@@ -38,9 +40,58 @@ fn first_usable_transport(rt: HostRuntime) -> Result<(), Fail> {
         ),
     ];
     for (text, expected) in cases.iter() {
-        assert_eq!(rt; picked(&rt, text)?, *expected);
+        assert_eq!(rt; picked(rt.alloc(), text)?, *expected);
     }
     Ok(())
+}
+
+// What goes to one port, for RTP and RTCP both.
+const ON_ONE_PORT: [&str; 4] = [
+    "RTP/AVP;unicast;dest_addr=\":8000\";RTCP-mux",
+    "rtp/avp/udp;rtcp-MUX;dest_addr=\"127.0.0.1:8000\"",
+    "RTP/AVP;RTCP-mux;dest_addr=\":8000\";RTCP-mux;interleaved=0-1",
+    "RTP/AVP;dest_addr=\":8000\"/\":8001\";RTCP-mux, RTP/AVP;dest_addr=\":8000\";RTCP-mux",
+];
+
+// The first of them can't be served, the second can.
+const ON_TWO_PORTS: [&str; 3] = [
+    "RTP/AVP/TCP;interleaved=0-1;RTCP-mux, RTP/AVP;dest_addr=\":8000\"/\":8001\"",
+    "RTP/AVP;dest_addr=\"192.0.2.9:8000\";RTCP-mux, RTP/AVP;dest_addr=\":8000\"/\":8001\"",
+    "RTP/AVP;dest_addr=\":8000\", RTP/AVP;dest_addr=\":8000\"/\":8001\"",
+];
+
+// One port that isn't one, or that is for something else.
+const NO_ONE_PORT: [&str; 13] = [
+    "RTP/AVP;dest_addr=\":8000\"/\":8001\";RTCP-mux",
+    "RTP/AVP;dest_addr=\":8000\"/\":8000\";RTCP-mux",
+    "RTP/AVP;dest_addr=\":8000\"/;RTCP-mux",
+    "RTP/AVP;dest_addr=:8000;RTCP-mux",
+    "RTP/AVP;dest_addr=\":0\";RTCP-mux",
+    "RTP/AVP;dest_addr=\":65536\";RTCP-mux",
+    "RTP/AVP;dest_addr=\"[::1]:8000\";RTCP-mux",
+    "RTP/AVP;dest_addr=\":8000\";RTCP-mux=1",
+    "RTP/AVP;dest_addr=\":8000\";RTCP-mux;mode=RECORD",
+    "RTP/AVP;RTCP-mux",
+    "RTP/AVP;dest_addr=\":8000\"",
+    "RTP/AVP;dest_addr=\"192.0.2.9:8000\"",
+    "RTP/AVP/TCP;interleaved=0-1;RTCP-mux",
+];
+
+fn come_to(rt: &impl Abort, alloc: Global, texts: &[&str], expected: Pick) -> Result<(), Fail> {
+    for text in texts {
+        assert_eq!(rt; picked(alloc, text.as_bytes())?, expected, "{text}");
+    }
+    Ok(())
+}
+
+#[test]
+fn transports_on_one_port(rt: HostRuntime) -> Result<(), Fail> {
+    let alloc = rt.alloc();
+    come_to(&rt, alloc, &ON_ONE_PORT, Pick::Mux { port: 8000 })?;
+    come_to(&rt, alloc, &ON_TWO_PORTS, UDP)?;
+    come_to(&rt, alloc, &NO_ONE_PORT, Pick::Unsupported)?;
+    let foreign = ["RTP/AVP;dest_addr=\"192.0.2.9:8000\";RTCP-mux"];
+    come_to(&rt, alloc, &foreign, Pick::Prohibited)
 }
 
 #[test]
@@ -70,6 +121,12 @@ const OVER_UDP: Granted = Granted::Udp {
     ssrc: 3,
 };
 
+const OVER_ONE_PORT: Granted = Granted::Mux {
+    client: 8000,
+    server: 5000,
+    ssrc: 1,
+};
+
 const OVER_CHANNELS: Granted = Granted::Inter {
     channel: 0,
     ssrc: 1,
@@ -80,11 +137,14 @@ fn transports_of_answers(rt: HostRuntime) -> Result<(), Fail> {
     let mut out = Vec::new(rt.alloc());
     write_transport(&mut out, &OVER_UDP)?;
     out.push(b'\n')?;
+    write_transport(&mut out, &OVER_ONE_PORT)?;
+    out.push(b'\n')?;
     write_transport(&mut out, &OVER_CHANNELS)?;
     out.push(b'\n')?;
     write_ssrc(&mut out, 0xab)?;
     let expected =
         b"RTP/AVP;unicast;dest_addr=\":8000\"/\":8001\";src_addr=\":5000\"/\":5001\";ssrc=00000003
+RTP/AVP;unicast;dest_addr=\":8000\";src_addr=\":5000\";RTCP-mux;ssrc=00000001
 RTP/AVP/TCP;unicast;interleaved=0-1;ssrc=00000001
 000000ab";
     assert!(rt; out.as_slice() == expected.as_slice());
@@ -124,6 +184,7 @@ fn tags(rt: HostRuntime) -> Result<(), Fail> {
     assert!(rt; tags.len() == 3 && tags[1].as_bytes() == b"x.y".as_slice());
     assert!(rt; is_known(tags[0].as_bytes()) && !is_known(tags[1].as_bytes()));
     assert!(rt; !is_known(b"Play.basic"));
+    assert!(rt; is_known(b"setup.rtp.rtcp.mux") && !is_known(b"setup.rtp.rtcp"));
     let cut = read_tags(rt.alloc(), b"play.basic,");
     assert!(rt; matches!(cut, Err(TextFault::Malformed)));
     Ok(())

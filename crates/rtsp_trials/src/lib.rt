@@ -36,11 +36,17 @@ mod packets;
 #[cfg(test)]
 mod pools;
 #[cfg(test)]
+mod port_admissions;
+#[cfg(test)]
 mod records;
 #[cfg(test)]
 mod responses;
 #[cfg(test)]
 mod servers;
+#[cfg(test)]
+mod setups;
+#[cfg(test)]
+mod single_ports;
 #[cfg(test)]
 mod state_table;
 #[cfg(test)]

@@ -148,6 +148,17 @@ fn a_packet_and_its_frame(rt: HostRuntime) -> Result<(), Fail> {
     Ok(())
 }
 
+// A turn where the session is as it is seen.
+fn turn(pacer: &mut Pacer, view: &SessionView, moment: u64, sink: &mut Keeps) -> Turn {
+    pacer.turn(
+        view.session(),
+        view.phase(),
+        moment,
+        &mut Packet::new(),
+        sink,
+    )
+}
+
 #[test]
 fn a_turn_sends_what_is_due(rt: HostRuntime) -> Result<(), Fail> {
     let table = Table::read(rt.alloc(), EXAMPLE.as_bytes())?;
@@ -159,16 +170,16 @@ fn a_turn_sends_what_is_due(rt: HostRuntime) -> Result<(), Fail> {
     };
     let mut sink = failing_at(2);
     assert!(rt; pacer.session() == 2 && pacer.next_due() == Some(0));
-    assert!(rt; pacer.turn(&view, 0, &mut sink) == Turn::More && sink.sent == 1);
+    assert!(rt; turn(&mut pacer, &view, 0, &mut sink) == Turn::More && sink.sent == 1);
     assert!(rt; pacer.next_due() == Some(20));
-    assert!(rt; pacer.turn(&view, 19, &mut sink) == Turn::More && sink.sent == 1);
-    assert!(rt; pacer.turn(&view, 40, &mut sink) == Turn::SinkFailed && sink.sent == 2);
+    assert!(rt; turn(&mut pacer, &view, 19, &mut sink) == Turn::More && sink.sent == 1);
+    assert!(rt; turn(&mut pacer, &view, 40, &mut sink) == Turn::SinkFailed && sink.sent == 2);
     assert!(rt; sink.failures == 1 && pacer.next_due() == Some(40));
-    assert!(rt; pacer.turn(&view, 40, &mut sink) == Turn::More && sink.sent == 3);
+    assert!(rt; turn(&mut pacer, &view, 40, &mut sink) == Turn::More && sink.sent == 3);
     assert!(rt; sink.heads[0] == [0x80, 0, 0xff, 0xff, 0xff, 0xff, 0xff, 0xa0, 0, 0, 0, 1]);
     assert!(rt; sink.heads[2] == [0x80, 0, 0, 1, 0, 0, 0, 0xe0, 0, 0, 0, 1]);
-    assert!(rt; pacer.turn(&view, 9_979, &mut sink) == Turn::More && sink.sent == 499);
-    assert!(rt; pacer.turn(&view, 9_980, &mut sink) == Turn::AtEnd && sink.sent == 500);
+    assert!(rt; turn(&mut pacer, &view, 9_979, &mut sink) == Turn::More && sink.sent == 499);
+    assert!(rt; turn(&mut pacer, &view, 9_980, &mut sink) == Turn::AtEnd && sink.sent == 500);
     assert!(rt; pacer.next_due().is_none() && sink.last_unit == 499);
     Ok(())
 }
@@ -193,13 +204,16 @@ fn a_turn_of_two_tracks_and_of_another_play(rt: HostRuntime) -> Result<(), Fail>
     let Some(other) = session(rt.alloc(), &[1, 0], PLAYING)? else {
         panic!(rt; "it is open")
     };
-    assert!(rt; !pacer.is_of(&other) && pacer.turn(&other, 1_000, &mut sink) == Turn::OtherPlay);
+    assert!(rt;
+        !pacer.is_of(other.session(), other.phase())
+            && turn(&mut pacer, &other, 1_000, &mut sink) == Turn::OtherPlay
+    );
     assert!(rt; sink.sent == 0 && pacer.next_due() == Some(1_000));
-    assert!(rt; pacer.turn(&view, 1_019, &mut sink) == Turn::More && sink.sent == 2);
+    assert!(rt; turn(&mut pacer, &view, 1_019, &mut sink) == Turn::More && sink.sent == 2);
     assert!(rt; sink.heads[0] == [0x80, 0, 0, 0, 0, 0, 0, 0x40, 0, 0, 0, 1]);
     assert!(rt; sink.heads[1] == [0x80, 8, 0, 0, 0, 0, 0, 0x40, 0, 0, 0, 2]);
-    assert!(rt; pacer.turn(&view, 5_000, &mut sink) == Turn::AtEnd && sink.sent == 4);
-    assert!(rt; sink.last_unit == 8 && pacer.turn(&view, 5_000, &mut sink) == Turn::AtEnd);
+    assert!(rt; turn(&mut pacer, &view, 5_000, &mut sink) == Turn::AtEnd && sink.sent == 4);
+    assert!(rt; sink.last_unit == 8 && turn(&mut pacer, &view, 5_000, &mut sink) == Turn::AtEnd);
     let Some(ready) = session(rt.alloc(), &[0], OPENING)? else {
         panic!(rt; "it is open")
     };

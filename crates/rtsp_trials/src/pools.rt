@@ -52,6 +52,14 @@ impl<R: Clock> Binder for WaitingBinder<'_, R> {
     }
 
     fn unbind(&mut self, _admission: u64, _pair: u16) {}
+
+    fn bind_port(&mut self, admission: u64, port: u16) -> Result<(), BindFault> {
+        self.bind(admission, port)
+    }
+
+    fn unbind_port(&mut self, admission: u64, port: u16) {
+        self.unbind(admission, port)
+    }
 }
 
 // A lane of one connection, on which one SETUP comes.

@@ -139,16 +139,34 @@ fn a_journal_is_read_and_written_back(rt: HostRuntime) -> Result<(), Fail> {
 }
 
 #[test]
+fn one_port_is_read_and_written_back(rt: HostRuntime) -> Result<(), Fail> {
+    let port = Holding {
+        session: 2,
+        admission: 3,
+        thing: Thing::Port(5000),
+    };
+    let entries = [by_server(Record::Hold(port)), by_server(Record::Free(port))];
+    let lines = b"0 hold 2 3 port 5000\n0 free 2 3 port 5000\n".as_slice();
+    let read = read_journal(rt.alloc(), lines)?;
+    assert_eq!(rt; read.as_slice(), entries.as_slice());
+    let mut text = Vec::new(rt.alloc());
+    write_journal(&mut text, &entries)?;
+    assert_eq!(rt; text.as_slice(), lines);
+    Ok(())
+}
+
+#[test]
 fn the_first_bad_line_is_named(rt: HostRuntime) {
     let cut = &TEXT[..TEXT.len() - 1];
     assert_eq!(rt;
         read_journal(rt.alloc(), cut).err(),
         Some(JournalFault::NotARecord(11))
     );
-    let lines: [&[u8]; 13] = [
+    let lines: [&[u8]; 14] = [
         b"18446744073709551616 touch 2 1 1\n",
         b"0 bind 2 1 4294967296\n",
         b"0 hold 2 3 pair 65536\n",
+        b"0 hold 2 3 port 65536\n",
         b"0 hold 2 3 chan 1 256\n",
         b"0 open 2 100000000000000000000000000000001 1 60000\n",
         b"0 add 2 3 0 0 100000001 0 0 7f000001 0 0\n",

@@ -41,6 +41,14 @@ impl Binder for Counts {
         self.unbound = self.unbound.saturating_add(1);
         self.last = Some((admission, pair));
     }
+
+    fn bind_port(&mut self, admission: u64, port: u16) -> Result<(), BindFault> {
+        self.bind(admission, port)
+    }
+
+    fn unbind_port(&mut self, admission: u64, port: u16) {
+        self.unbind(admission, port)
+    }
 }
 
 fn binder() -> Counts {

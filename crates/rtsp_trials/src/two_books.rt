@@ -54,6 +54,7 @@ impl TwoBooks {
         one == two
             && made.records() == too.records()
             && made.freed_pairs().as_slice() == too.freed_pairs().as_slice()
+            && made.freed_ports().as_slice() == too.freed_ports().as_slice()
     }
 
     // Whether both take the same entry back.
@@ -155,6 +156,30 @@ fn wished_hold(drawn: Draw) -> Step
     }
 }
 
+// A pair of ports, or one port.
+fn udp_hold(kind: u32, drawn: Draw) -> Step
+    ensures { IsAskable result }
+{
+    let Draw {
+        session,
+        admission,
+        ..
+    } = drawn;
+    let from = 4_996 + drawn.few % 16;
+    match kind {
+        28..=30 => Step::HoldPair {
+            session,
+            admission,
+            from,
+        },
+        _ => Step::HoldPort {
+            session,
+            admission,
+            from,
+        },
+    }
+}
+
 fn commit(drawn: Draw) -> Step
     ensures { IsAskable result }
 {
@@ -172,6 +197,15 @@ fn commit(drawn: Draw) -> Step
             None
         },
     })
+}
+
+// What is given back: the rate, a port, or a pair, where it is held.
+fn returned(drawn: Draw) -> Thing {
+    match drawn.few {
+        0..=7 => Thing::Rate(80_000),
+        8..=11 => Thing::Port(5_000 + (drawn.moment / 1_000 % 16) as u16),
+        _ => Thing::Pair(5_000 + 2 * (drawn.moment / 1_000 % 8) as u16),
+    }
 }
 
 fn unwind(drawn: Draw) -> Step
@@ -211,11 +245,7 @@ fn growing(kind: u32, drawn: Draw) -> Step
             admission,
             bits: 80_000,
         },
-        28..=33 => Step::HoldPair {
-            session,
-            admission,
-            from: 4_996 + drawn.few % 16,
-        },
+        28..=33 => udp_hold(kind, drawn),
         34..=41 => wished_hold(drawn),
         42..=49 => commit(drawn),
         _ => Step::Touch {
@@ -272,7 +302,7 @@ fn step_of(kind: u32, drawn: Draw) -> Step
         57 => Step::Return {
             session,
             admission,
-            thing: Thing::Rate(80_000),
+            thing: returned(drawn),
         },
         58 => unwind(drawn),
         59..=60 => Step::DropTrack {

@@ -5,6 +5,7 @@ use rtsp_index::IndexedBook;
 use rtsp_record::{Binding, Holding, Id, Life, Record, Renewal, Setup, Stream, Thing, Whole};
 use rtsp_sessions::{BookRep, PlainBook};
 use std::alloc::AllocError;
+use std::process::Abort;
 use std::test::Fail;
 
 const WHOLE: Whole = Whole {
@@ -36,6 +37,8 @@ fn say_the_same<A: BookRep, B: BookRep>(one: &A, two: &B, few: u8) -> bool {
         && one.get(number).is_some() == two.get(number).is_some();
     let choices = one.least_pair(small) == two.least_pair(small)
         && one.least_pair(5_000 + small) == two.least_pair(5_000 + small)
+        && one.least_port(small) == two.least_port(small)
+        && one.least_port(5_000 + small) == two.least_port(5_000 + small)
         && one.least_chan(number, None) == two.least_chan(number, None)
         && one.least_chan(number, Some(few)) == two.least_chan(number, Some(few));
     looks
@@ -61,9 +64,10 @@ fn record_of(seed: u32) -> Record {
         conn: 1,
         expires: 5,
     };
-    let thing = match (seed >> 14) % 3 {
+    let thing = match (seed >> 14) % 4 {
         0 => Thing::Pair(5_000 + 2 * ((seed >> 16) % 4) as u16),
-        1 => Thing::Chan(conn, 2 * ((seed >> 16) % 4) as u8),
+        1 => Thing::Port(5_000 + ((seed >> 16) % 8) as u16),
+        2 => Thing::Chan(conn, 2 * ((seed >> 16) % 4) as u8),
         _ => Thing::Rate(u64::from((seed >> 16) % 4) * 50_000),
     };
     let holding = Holding {
@@ -110,6 +114,44 @@ fn record_of(seed: u32) -> Record {
             }
         }
     }
+}
+
+fn hold(admission: u64, thing: Thing) -> Record {
+    Record::Hold(Holding {
+        session: 1,
+        admission,
+        thing,
+    })
+}
+
+// A pair is free where nothing covers either of its ports, and a port where nothing covers it.
+fn take_a_port_out_of_its_pair<B: BookRep>(
+    rt: &impl Abort,
+    book: &mut B,
+) -> Result<(), AllocError> {
+    let life = Life {
+        session: 1,
+        id: Id::new(1),
+        conn: 1,
+        expires: 5,
+    };
+    let port = hold(2, Thing::Port(5_000));
+    let pair = hold(3, Thing::Pair(5_002));
+    assert!(rt; make(book, &Record::Open(life))? && make(book, &port)?);
+    assert!(rt; book.least_pair(0) == Some(5_002) && book.least_port(0) == Some(5_001));
+    assert!(rt; make(book, &pair)? && book.least_port(5_002) == Some(5_004));
+    assert!(rt; book.least_port(5_005) == Some(5_005) && book.least_port(5_006).is_none());
+    assert!(rt; !book.allowed(&hold(4, Thing::Pair(5_000))));
+    assert!(rt; !book.allowed(&hold(4, Thing::Port(5_003))));
+    assert!(rt; !book.allowed(&hold(4, Thing::Port(5_006))));
+    assert!(rt; make(book, &port.inverse())? && book.least_pair(0) == Some(5_000));
+    Ok(())
+}
+
+#[test]
+fn a_port_is_taken_out_of_its_pair(rt: HostRuntime) -> Result<(), AllocError> {
+    take_a_port_out_of_its_pair(&rt, &mut PlainBook::open(rt.alloc(), &WHOLE)?)?;
+    take_a_port_out_of_its_pair(&rt, &mut IndexedBook::open(rt.alloc(), &WHOLE)?)
 }
 
 // The same records to both books: each allows what the other does, and both say the same after it.
