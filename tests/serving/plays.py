@@ -10,7 +10,7 @@ import sys
 import threading
 import time
 import wave
-from typing import Callable, Dict, List
+from typing import Callable, Dict, List, Optional
 
 from checks import EXAMPLES, Checks
 from rtsp_client.connection import Connection

@@ -5,7 +5,7 @@ ghost use Rattle.std.specs.Prelude.{◌<◌, IfOk};
 use rtsp_content::Table;
 use rtsp_engine::{Binder, Clock, Words};
 use rtsp_sockets::{
-    Media, MediaFault, PortBinder, PortTable, PieceClock, RandomWords, RunningClock,
+    Media, MediaFault, PieceClock, PortBinder, PortTable, RandomWords, RunningClock,
 };
 use std::io::ErrorKind;
 use std::net::{Net, UdpSocket};

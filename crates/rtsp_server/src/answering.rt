@@ -8,7 +8,7 @@ use rtsp_content::Table;
 use rtsp_engine::{Asker, Binder, Clock, Connection, Desk, Plays, Words};
 use rtsp_grammar::MessageFault;
 use rtsp_lock::{BookLock, BookSeat};
-use rtsp_sockets::{PortBinder, PieceClock};
+use rtsp_sockets::{PieceClock, PortBinder};
 use rtsp_state::Room;
 use std::alloc::Global;
 use std::net::Net;

@@ -100,10 +100,7 @@ impl Slots {
         ensures found { IfSome result (λ s. (b : Bound) × IsBoundUnder self.now admission port b × s.now ≡ b.sockets) }
         ensures none { IfNone result (IsNotUnder self.now admission port) }
     {
-        match self
-            .slots
-            .get(place_of(self.first_port, self.width, port))?
-        {
+        match self.slots.get(place_of(self.first_port, self.width, port))? {
             Some(bound) if bound.admission == admission => Some(&bound.sockets),
             _ => None,
         }
