@@ -19,8 +19,8 @@ use std::marker::Model;
 /// takes no memory.
 #[derive(Drop)]
 pub struct Pacer {
-    play: Play,
     next: Progress,
+    play: Play,
 }
 
 impl Model for Pacer {
@@ -42,14 +42,22 @@ impl Pacer {
         ensures { result ≡ started view.now presentation.now }
     {
         match view.phase() {
-            Phase::Playing { .. } => Some(Pacer {
+            Phase::Playing {
+                from,
+                stop,
+                sent,
+                since,
+            } => Some(Pacer {
+                next: Progress { unit: 0, place: 0 },
                 play: Play {
                     session: view.session(),
-                    phase: view.phase(),
+                    from,
+                    stop,
+                    sent,
+                    since,
                     unit_ms: presentation.unit_ms().ms(),
                     sources: Sources::of(view, presentation),
                 },
-                next: Progress { unit: 0, place: 0 },
             }),
             Phase::Ready { .. } | Phase::Ended { .. } => None,
         }
@@ -67,7 +75,7 @@ impl Pacer {
     pub fn is_of(&self, session: u64, phase: Phase) -> bool
         ensures { IsTrue result ↔ IsOfPlay self.now session phase }
     {
-        session == self.play.session && phase == self.play.phase
+        session == self.play.session && phase == self.play.phase()
     }
 
     /// Sends what is due at a moment, in milliseconds, and unsent: by unit, and then in the order of
@@ -114,7 +122,7 @@ impl Pacer {
         if self.is_at_end() {
             return None;
         }
-        let passed = u64::from(self.next.unit) * u64::from(self.play.unit_ms);
-        self.play.begun_at().checked_add(passed)
+        let Play { since, unit_ms, .. } = &self.play;
+        since.checked_add(u64::from(self.next.unit) * u64::from(*unit_ms))
     }
 }

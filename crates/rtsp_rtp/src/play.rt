@@ -3,9 +3,9 @@
 ghost use Rattle.std.specs.Prelude.{◌≡◌, ◌↔◌, ◌<◌, ◌≤◌, ◌+◌, IsTrue, length, OnOk, OnErr};
 ghost use Rattle.rtsp_record.specs.Moments.{due, sent_before};
 ghost use Rattle.rtsp_content.specs.Limits.{max_octets, max_unit_ms};
-ghost use Rattle.rtsp_rtp.specs.Pacing.{begun_at, first_unit, units_in};
+ghost use Rattle.rtsp_rtp.specs.Pacing.{units_in};
 ghost use Rattle.rtsp_rtp.specs.Turns.{PacketSent, PacketFailed};
-ghost use Rattle.rtsp_rtp.specs.Progress.{sent_at, IsPlaced, SendsDue, SendsDuePart};
+ghost use Rattle.rtsp_rtp.specs.Progress.{phase_of, sent_at, IsPlaced, SendsDue, SendsDuePart};
 
 use crate::buffer::Packet;
 use crate::sink::{Sink, SinkFault};
@@ -47,59 +47,46 @@ impl Progress {
     }
 }
 
-// What a pacer was made for.
+// What a pacer was made for: the play of a session, as its phase tells it.
 #[derive(Drop)]
 pub(crate) struct Play {
     pub(crate) session: u64,
-    pub(crate) phase: Phase,
+    pub(crate) from: u32,
+    pub(crate) stop: u32,
+    pub(crate) sent: u32,
+    pub(crate) since: u64,
     pub(crate) unit_ms: u32,
     pub(crate) sources: Sources,
 }
 
 impl Play {
-    // The moment at which the play began.
-    pub(crate) fn begun_at(&self) -> u64
-        ensures { result ≡ begun_at self.now.phase }
+    // The phase of the session in the play.
+    pub(crate) fn phase(&self) -> Phase
+        ensures { result ≡ phase_of self.now }
     {
-        match self.phase {
-            Phase::Playing { since, .. } => since,
-            Phase::Ready { .. } | Phase::Ended { .. } => 0,
-        }
-    }
-
-    // The unit of the media that is the unit i of the play.
-    fn unit(&self, i: u32) -> u32
-        requires { i < units_in self.now.phase }
-        ensures { result ≡ first_unit self.now.phase + i }
-    {
-        match self.phase {
-            Phase::Playing {
-                from,
-                stop: _stop,
-                ..
-            } => from + i,
-            Phase::Ready { .. } | Phase::Ended { .. } => i,
+        Phase::Playing {
+            from: self.from,
+            stop: self.stop,
+            sent: self.sent,
+            since: self.since,
         }
     }
 
     // How many units the play has.
     pub(crate) fn units(&self) -> u32
-        ensures { result ≡ units_in self.now.phase }
+        ensures { result ≡ units_in (phase_of self.now) }
     {
-        match self.phase {
-            Phase::Playing { from, stop, .. } => stop.saturating_sub(from),
-            Phase::Ready { .. } | Phase::Ended { .. } => 0,
-        }
+        self.stop.saturating_sub(self.from)
     }
 
     // Whether a unit of the play is due at a moment.
     fn is_due(&self, unit: u32, moment: u64) -> bool
         requires some { 0 < self.now.unit_ms }
         requires most { self.now.unit_ms ≤ max_unit_ms }
-        ensures due { IsTrue result ↔ (unit < due self.now.phase self.now.unit_ms moment) }
+        ensures due { IsTrue result ↔ (unit < due (phase_of self.now) self.now.unit_ms moment) }
         ensures not_last { IsTrue result → unit < u32.MAX }
     {
-        let passed = moment.saturating_sub(self.begun_at());
+        let passed = moment.saturating_sub(self.since);
         unit < self.units() && u64::from(unit) * u64::from(self.unit_ms) <= passed
     }
 
@@ -111,13 +98,13 @@ impl Play {
         packet: &mut Packet,
         sink: &mut S,
     ) -> Result<(), SinkFault>
-        requires unit { unit < units_in self.now.phase }
+        requires unit { unit < units_in (phase_of self.now) }
         requires short { source.now.octets ≤ max_octets }
-        ensures ok { OnOk result (PacketSent S.calls self.now.phase unit source.now sink.old sink.new) }
-        ensures err { OnErr result (PacketFailed S.calls self.now.phase unit source.now sink.old sink.new) }
+        ensures ok { OnOk result (PacketSent S.calls (phase_of self.now) unit source.now sink.old sink.new) }
+        ensures err { OnErr result (PacketFailed S.calls (phase_of self.now) unit source.now sink.old sink.new) }
     {
-        let sent = sent_before(&self.phase).wrapping_add(unit);
-        packet.fill(source, sent, self.unit(unit), sink)?;
+        let sent = self.sent.wrapping_add(unit);
+        packet.fill(source, sent, self.from + unit, sink)?;
         sink.send(source.track, packet)
     }
 

@@ -12,10 +12,11 @@ use rtsp_sessions::SessionView;
 use std::marker::Model;
 
 /// The sources of a play, at most 8, in the order of the presentation's tracks. It is of fixed size.
+/// The count stands beside the first of them, since each turn looks at both.
 #[derive(Drop)]
 pub struct Sources {
-    rows: [Source; 8],
     len: usize,
+    rows: [Source; 8],
 }
 
 impl Model for Sources {
@@ -44,8 +45,8 @@ impl Sources {
             rtptime: 0,
         };
         Sources {
-            rows: [blank; 8],
             len: 0,
+            rows: [blank; 8],
         }
     }
 

@@ -1,4 +1,4 @@
-use Rattle.std.proofs.Common.{◌≡◌, ℕ, ◌+◌, ◌*◌, ◌/◌, ◌^◌, ◌<◌, length, sym, ◌∙◌, subst, arith}
+use Rattle.std.proofs.Common.{◌≡◌, ◌+◌, ◌*◌, ◌/◌, ◌^◌, ◌<◌, length, sym, ◌∙◌, subst, arith}
 use Rattle.std.specs.Prelude.{IfSome, IfNone, SomeIff}
 use Rattle.std.proofs.lemmas.Bool.{false≢true}
 use Rattle.rtsp_rtp.specs.Pacing.{Pacing, begun_at, packets_in}
@@ -18,7 +18,7 @@ returns-clause-some c =
     let passed = c.from.result * c.from-2.result in
     let at_unit : passed ≡ p.done / length p.sources * p.unit_ms = moment_of n at.unit at.place p.unit_ms c.from.result c.from-2.result left.some is.placed c.from.ensures c.from-2.ensures in
     let o = c.checked_add.result in
-    let found : SomeIff o (begun_at p.phase + passed < 2 ^ 64) (begun_at p.phase + passed) = subst (λ (m : ℕ). SomeIff o (m + passed < 2 ^ 64) (m + passed)) c.begun_at.ensures c.checked_add.ensures in
+    let found : SomeIff o (begun_at p.phase + passed < 2 ^ 64) (begun_at p.phase + passed) = c.checked_add.ensures in
     subst (λ (q : Pacing). IfSome o (IsNextDue q)) c.self.view_is (next_is p o passed left at_unit found)
 
 pub returns-clause-none : goal.returns-clause-none
@@ -31,6 +31,6 @@ returns-clause-none c =
     let passed = c.from.result * c.from-2.result in
     let at_unit : passed ≡ p.done / length p.sources * p.unit_ms = moment_of n at.unit at.place p.unit_ms c.from.result c.from-2.result left.some is.placed c.from.ensures c.from-2.ensures in
     let o = c.checked_add.result in
-    let found : SomeIff o (begun_at p.phase + passed < 2 ^ 64) (begun_at p.phase + passed) = subst (λ (m : ℕ). SomeIff o (m + passed < 2 ^ 64) (m + passed)) c.begun_at.ensures c.checked_add.ensures in
-    let began : begun_at p.phase < 2 ^ 64 = subst (λ (m : ℕ). m < 2 ^ 64) c.begun_at.ensures (omega (arith, c.begun_at.type_inv)) in
+    let found : SomeIff o (begun_at p.phase + passed < 2 ^ 64) (begun_at p.phase + passed) = c.checked_add.ensures in
+    let began : begun_at p.phase < 2 ^ 64 = omega arith in
     subst (λ (q : Pacing). IfNone o (IsNeverDue q)) c.self.view_is (never_is p o passed left began at_unit found)

@@ -4,7 +4,7 @@ use Rattle.rtsp_record.specs.Moments.{due}
 use Rattle.rtsp_rtp.specs.declared.source.Source.{Source}
 use Rattle.rtsp_rtp.specs.Pacing.{schedule}
 use Rattle.rtsp_rtp.specs.Turns.{AllSent}
-use Rattle.rtsp_rtp.specs.Progress.{sent_at, IsPlaced}
+use Rattle.rtsp_rtp.specs.Progress.{phase_of, sent_at, IsPlaced}
 use Rattle.rtsp_rtp.proofs.Scheduling.{next_at, sent_next, schedule-length}
 use Rattle.rtsp_rtp.proofs.Progressing.{before_due, past_due}
 use Rattle.rtsp_rtp.proofs.Turning.{on_err, sends_all}
@@ -23,14 +23,14 @@ returns-then-is_empty-clause-ok g c =
     let y = c.args.self.now in
     let n = length y.sources in
     let from = sent_at n c.args.at.now in
-    let units = due y.phase y.unit_ms c.args.moment in
+    let units = due (phase_of y) y.unit_ms c.args.moment in
     let left = drop from (schedule y.sources 0 units) in
     let none : n ≡ 0 = sym (ap (λ (l : List Source). length l) c.as_slice-sources.ensures.value) ∙ eqb-true (length c.as_slice-sources.result.now) 0 (sym c.is_empty.ensures ∙ c.if-is_empty.true) in
     let no_units : units * n ≡ units * 0 = ap (λ (m : ℕ). units * m) none in
     let start : from - from ≡ 0 = omega arith in
-    sends_all calls y.phase left from from c.args.sink.now c.args.sink.now (omega arith)
+    sends_all calls (phase_of y) left from from c.args.sink.now c.args.sink.now (omega arith)
     (omega (arith, no_units, start, length-drop from (schedule y.sources 0 units), schedule-length y.sources 0 units))
-    (subst (λ (m : ℕ). AllSent calls y.phase (take m left) c.args.sink.now c.args.sink.now) (sym start) refl)
+    (subst (λ (m : ℕ). AllSent calls (phase_of y) (take m left) c.args.sink.now c.args.sink.now) (sym start) refl)
 
 pub returns-in_err-send-clause-err : goal.returns-in_err-send-clause-err
 returns-in_err-send-clause-err g c =
@@ -39,7 +39,7 @@ returns-in_err-send-clause-err g c =
     let n = length y.sources in
     let at = c.loop-sources.at in
     let from = sent_at n c.args.at.now in
-    let units = due y.phase y.unit_ms c.args.moment in
+    let units = due (phase_of y) y.unit_ms c.args.moment in
     let was = c.loop-sources.invariant in
     let same = c.as_slice-sources.ensures.value in
     let among : at.place < length ys = among_them ys y.sources at.place same (eqb-false (length ys) 0 (sym c.is_empty.ensures ∙ c.if-is_empty.false)) was.placed in
@@ -61,7 +61,7 @@ loop-sources-smaller g c =
     let ys = c.as_slice-sources.result.now in
     let n = length y.sources in
     let at = c.loop-sources.at in
-    let units = due y.phase y.unit_ms c.args.moment in
+    let units = due (phase_of y) y.unit_ms c.args.moment in
     let same = c.as_slice-sources.ensures.value in
     let among : at.place < n = subst (λ (l : List Source). at.place < length l) same (among_them ys y.sources at.place same (eqb-false (length ys) 0 (sym c.is_empty.ensures ∙ c.if-is_empty.false)) c.loop-sources.invariant.placed) in
     let below : sent_at n at < units * n = before_due n at.unit at.place units among (c.is_due.ensures.due.0 c.loop-sources-test.true) in
@@ -78,7 +78,7 @@ loop-sources-preserved g c =
     let from = sent_at n c.args.at.now in
     let now = sent_at n at in
     let new = sent_at n c.step.new.self in
-    let units = due y.phase y.unit_ms c.args.moment in
+    let units = due (phase_of y) y.unit_ms c.args.moment in
     let left = drop from (schedule y.sources 0 units) in
     let was = c.loop-sources.invariant in
     let same = c.as_slice-sources.ensures.value in
@@ -89,12 +89,12 @@ loop-sources-preserved g c =
     let count : suc (now - from) ≡ new - from = omega (arith, was.begun, more) in
     let d : Source = record { track = 0; payload_type = 0; octets = 0; ticks = 0; ssrc = 0; seq = 0; rtptime = 0 } in
     let x : ℕ × Source = (at.unit, get_or ys at.place d) in
-    let sent = sent_next calls y.phase left (now - from) x c.args.sink.now c.loop-sources.sink c.send.new.sink was.sent (next_at y.sources ys units from at.unit at.place d same among is was.begun) c.in_ok-send.ensures.ok in
+    let sent = sent_next calls (phase_of y) left (now - from) x c.args.sink.now c.loop-sources.sink c.send.new.sink was.sent (next_at y.sources ys units from at.unit at.place d same among is was.begun) c.in_ok-send.ensures.ok in
     record {
       placed = subst (λ (l : List Source). IsPlaced (length l) c.step.new.self) same c.step.ensures.placed;
       begun = omega (arith, was.begun, more);
       within = omega (arith, was.begun, below, more);
-      sent = subst (λ (m : ℕ). AllSent calls y.phase (take m left) c.args.sink.now c.send.new.sink) count sent;
+      sent = subst (λ (m : ℕ). AllSent calls (phase_of y) (take m left) c.args.sink.now c.send.new.sink) count sent;
     }
 
 pub returns-clause-ok : goal.returns-clause-ok
@@ -105,10 +105,10 @@ returns-clause-ok g c =
     let at = c.loop-sources.at in
     let from = sent_at n c.args.at.now in
     let now = sent_at n at in
-    let units = due y.phase y.unit_ms c.args.moment in
+    let units = due (phase_of y) y.unit_ms c.args.moment in
     let left = drop from (schedule y.sources 0 units) in
     let was = c.loop-sources.invariant in
     let past : units * n ≤ now = past_due n at.unit at.place units (λ is. false≢true (sym c.loop-sources-test.false ∙ c.is_due.ensures.due.1 is)) in
-    sends_all calls y.phase left from now c.args.sink.now c.loop-sources.sink was.begun
+    sends_all calls (phase_of y) left from now c.args.sink.now c.loop-sources.sink was.begun
     (omega (arith, was.begun, was.within, past, length-drop from (schedule y.sources 0 units), schedule-length y.sources 0 units))
     was.sent

@@ -1,7 +1,7 @@
 use Rattle.std.proofs.Common.{◌≤◌, ◌-◌, ◌*◌, max, take, length}
 use Rattle.rtsp_record.specs.Moments.{due}
 use Rattle.rtsp_rtp.specs.Turns.{unsent_at, AllSent}
-use Rattle.rtsp_rtp.specs.Progress.{sent_at, IsPlaced, pacing_of}
+use Rattle.rtsp_rtp.specs.Progress.{phase_of, sent_at, IsPlaced, pacing_of}
 use Rattle.rtsp_rtp.proofs.play.Play.send_due.Given as goal
 
 -- what was sent so far
@@ -13,9 +13,9 @@ invariant-loop-sources g l =
     record {
       placed : IsPlaced n l.at;
       begun : from ≤ now;
-      within : now ≤ max from (due l.self.phase l.self.unit_ms l.moment * n);
-      sent : AllSent g.S.Sink.calls l.self.phase (take (now - from) (unsent_at (pacing_of l.self l.fn.at) l.moment)) l.fn.sink l.sink;
+      within : now ≤ max from (due (phase_of l.self) l.self.unit_ms l.moment * n);
+      sent : AllSent g.S.Sink.calls (phase_of l.self) (take (now - from) (unsent_at (pacing_of l.self l.fn.at) l.moment)) l.fn.sink l.sink;
     }
 
 abbrev pub decreases-loop-sources : goal.decreases-loop-sources
-decreases-loop-sources g l = due l.self.phase l.self.unit_ms l.moment * length l.self.sources - sent_at (length l.self.sources) l.at
+decreases-loop-sources g l = due (phase_of l.self) l.self.unit_ms l.moment * length l.self.sources - sent_at (length l.self.sources) l.at
