@@ -18,7 +18,7 @@ from .server import Presentation, Server, Track
 ID = re.compile(r"\b[0-9a-f]{32}\b")
 SSRC = re.compile(r"\bssrc=[0-9a-f]{8}\b")
 NUMBERS = re.compile(r"\bseq=\d+;rtptime=\d+")
-PORTS = re.compile(r'src_addr=":(\d+)"/":(\d+)"')
+PORTS = re.compile(r'(?<=src_addr=)":\d+"(?:/":\d+")?')
 POINT = re.compile(r"(?m)^(Range: npt=|position: )(\d+\.\d{3})")
 LENGTH = re.compile(rb"(?im)^content-length: *(\d{1,5})\r$")
 STORED_FIRST_PORT = 5000
@@ -128,7 +128,7 @@ def as_stored(came: str, stored: str, shift: int, passed: float) -> str:
     for pattern in ID, SSRC, NUMBERS:
         values = iter(pattern.findall(stored))
         came = pattern.sub(lambda found: next(values, found[0]), came)
-    came = PORTS.sub(lambda it: f'src_addr=":{int(it[1]) - shift}"/":{int(it[2]) - shift}"', came)
+    came = PORTS.sub(lambda ports: re.sub(r"\d+", lambda port: str(int(port[0]) - shift), ports[0]), came)
     points = iter(POINT.findall(stored))
 
     def point(found: "re.Match[str]") -> str:

@@ -19,7 +19,7 @@ from rtsp_client.rtp import Reception
 from rtsp_client.sound import SAMPLES
 
 from .runner import serving_test
-from .server import HERE, TONE, Presentation, Server, Track, is_alive, lease
+from .server import HERE, TONE, Presentation, Server, Track, is_alive, is_free, lease
 
 AT_MOST_LATE = 40.0
 # A packet that is sent before the PAUSE is answered may come after that answer, in seconds.
@@ -216,6 +216,8 @@ def one_port_for_both(checks: Checks) -> None:
         ports = [granted_port(talk, f"{server.uri}/a") for _ in range(4)]
         checks.same("the other ports", [first + 1, first + 2, first + 3, None], ports)
         player.tear_down()
+        # The pacer lets go of the socket once it has seen the end of the play.
+        time.sleep(UNDER_WAY)
         checks.same("no pair is free beside a held port", None, lease(talk, f"{server.uri}/a"))
         checks.same("the port that was given back", first, granted_port(talk, f"{server.uri}/a"))
         talk.close()

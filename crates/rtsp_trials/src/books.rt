@@ -32,14 +32,16 @@ pub enum Asked {
     End(u64),
 }
 
-// An admission that held a rate, and perhaps an address.
-fn unwind(session: u64, admission: u64, second: Option<Thing>) -> Step {
+// An admission that held one thing.
+fn unwind(session: u64, admission: u64, held: Thing) -> Step
+    ensures { IsAskable result }
+{
     let chain = Chain {
         session,
         admission,
         opened: false,
-        first: Some(Thing::Rate(80_000)),
-        second,
+        first: Some(held),
+        second: None,
     };
     Step::Unwind { chain }
 }
@@ -89,9 +91,9 @@ pub fn step(asked: Asked) -> Step
         }),
         Asked::Touch(session, until) => Step::Touch { session, until },
         Asked::Expire(now) => Step::Expire { now },
-        Asked::Unwind(session, admission) => unwind(session, admission, None),
+        Asked::Unwind(session, admission) => unwind(session, admission, Thing::Rate(80_000)),
         Asked::UnwindPort(session, admission, port) => {
-            unwind(session, admission, Some(Thing::Port(port)))
+            unwind(session, admission, Thing::Port(port))
         }
         Asked::DropTrack(session, track) => Step::DropTrack { session, track },
         Asked::End(session) => Step::End { session },
