@@ -2,3 +2,4 @@ pub mod Rooms
 pub mod Passing
 pub mod Slots
 pub mod RandomWords
+pub mod Clocks

@@ -1,6 +1,6 @@
 //! The clock of a server.
 
-ghost use Rattle.std.specs.Prelude.{◌≡◌, ◌≤◌};
+ghost use Rattle.std.specs.Prelude.{◌≡◌};
 
 use rtsp_engine::Clock;
 use std::rt;
@@ -34,9 +34,9 @@ impl<'a, R: rt::Clock> RunningClock<'a, R> {
 }
 
 impl<R: rt::Clock> Clock for RunningClock<'_, R> {
-    ghost use Rattle.std.specs.Prelude.{◌≡◌, ◌≤◌};
+    ghost use Rattle.rtsp_sockets.specs.Clocks.{GoesOn};
 
-    ghost tells = { λ b moment c. (b.last ≤ moment) × (c.last ≡ moment) };
+    ghost tells = { λ b moment c. GoesOn b.last moment c.last };
 
     fn now(&mut self) -> u64 {
         if let Ok(elapsed) = self.begun.elapsed(self.rt) {
@@ -60,7 +60,8 @@ impl<'a, R: rt::Clock> PieceClock<'a, R> {
 
     /// A clock that counts from this instant, and wasn't read yet.
     pub fn new(rt: &'a R, begun: Instant) -> PieceClock<'a, R>
-        ensures { result.moment ≡ None }
+        ensures clock { result.clock.last ≡ 0 }
+        ensures unread { result.moment ≡ None }
     {
         PieceClock {
             clock: RunningClock::new(rt, begun),
@@ -70,9 +71,10 @@ impl<'a, R: rt::Clock> PieceClock<'a, R> {
 }
 
 impl<R: rt::Clock> Clock for PieceClock<'_, R> {
-    ghost use Rattle.std.specs.Prelude.{◌≡◌, ℕ, Some};
+    ghost use Rattle.std.specs.Prelude.{◌≡◌, Some};
+    ghost use Rattle.rtsp_sockets.specs.Clocks.{TellsOnce};
 
-    ghost tells = { λ b moment c. (c.moment ≡ Some moment) × ((m : ℕ) → b.moment ≡ Some m → moment ≡ m) };
+    ghost tells = { λ b moment c. (c.moment ≡ Some moment) × TellsOnce b.moment b.clock.last moment c.clock.last };
 
     fn now(&mut self) -> u64 {
         match self.moment {
