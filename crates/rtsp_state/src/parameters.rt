@@ -15,6 +15,9 @@ use std::alloc::{AllocError, Global};
 /// The most names in a body.
 const NAME_LIMIT: usize = 64;
 
+// More than the line of a parameter takes: its name, a time, and CR LF.
+const LINE_ROOM: usize = 40;
+
 /// A parameter of a session or of its media.
 #[derive(Clone, Copy, Debug, PartialEq, Eq)]
 pub enum Parameter {
@@ -108,6 +111,7 @@ pub fn parameters_body(
     ensures { IfOk result (λ v. v.items ≡ parameters_body timing at names.now) }
 {
     let mut body = Vec::new(alloc);
+    body.reserve(LINE_ROOM.saturating_mul(names.len()))?;
     for name in names {
         put_parameter(&mut body, &timing, at, *name)?;
     }
