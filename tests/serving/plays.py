@@ -223,6 +223,34 @@ def one_port_for_both(checks: Checks) -> None:
         talk.close()
 
 
+# A datagram takes some 2,300 bytes of the system's memory, and one may come above the least that can be set.
+KEPT_AT_MOST = 8192
+
+
+def bytes_that_wait(port: int) -> Optional[int]:
+    """How many bytes the system keeps of what came to a UDP port and wasn't read."""
+    for line in pathlib.Path("/proc/net/udp").read_text().splitlines()[1:]:
+        _, local, _, _, queues, *_ = line.split()
+        if int(local.rpartition(":")[2], 16) == port:
+            return int(queues.partition(":")[2], 16)
+    return None
+
+
+@serving_test(limit=20)
+def reports_that_nobody_reads(checks: Checks) -> None:
+    """What players send to the ports of media is dropped by the system, and doesn't fill its memory."""
+    with Server(checks, pairs=2) as server, socket.socket(socket.AF_INET, socket.SOCK_DGRAM) as reporter:
+        talk = server.connect()
+        checks.that("the pair", lease(talk, f"{server.uri}/a") is not None)
+        checks.same("the port", server.first_port + 2, granted_port(talk, f"{server.uri}/a"))
+        for port in range(server.first_port, server.first_port + 3):
+            for _ in range(300):
+                reporter.sendto(bytes(1000), (HERE, port))
+            waiting = bytes_that_wait(port)
+            checks.that(f"port {port}", waiting is not None and waiting <= KEPT_AT_MOST, f"{waiting} bytes wait")
+        talk.close()
+
+
 @serving_test(limit=20)
 def pairs_that_others_hold(checks: Checks) -> None:
     """A pair one port of which another process has is passed over; where all are taken, it is 503."""

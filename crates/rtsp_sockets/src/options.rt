@@ -1,4 +1,4 @@
-//! The options of an accepted connection.
+//! The options of sockets.
 
 use crate::outlet::STALL_LIMIT;
 use libc::net;
@@ -7,6 +7,9 @@ use std::os::fd::RawFd;
 /// How many bytes of a connection the system keeps: 64 KiB. Left to itself it grows to 4 MB for
 /// a player that doesn't read.
 pub const SEND_BUFFER: u32 = 64 * 1024;
+
+// As few bytes as the system allows, which is 2,304 on Linux.
+const LEAST_BUFFER: u32 = 1;
 
 // A number as the system takes the value of an option.
 fn option_value(number: u32) -> [u8; 16] {
@@ -27,4 +30,13 @@ pub fn prepare(fd: RawFd) -> bool {
         net::setsockopt(fd, net::IPPROTO_TCP, net::TCP_USER_TIMEOUT, &limit, 4)
     };
     buffered == 0 && limited == 0
+}
+
+/// Has the system keep as little as it can of what comes to a socket that nobody reads: a packet or
+/// two in place of 200 kB. Whether that could be set.
+pub(crate) fn drop_input(fd: RawFd) -> bool {
+    let buffer = option_value(LEAST_BUFFER);
+    // SAFETY: it is an option of a number, of which 4 bytes are passed.
+    let limited = unsafe { net::setsockopt(fd, net::SOL_SOCKET, net::SO_RCVBUF, &buffer, 4) };
+    limited == 0
 }

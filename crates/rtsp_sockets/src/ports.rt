@@ -1,9 +1,10 @@
 //! The sockets of the ports that are bound.
 
+use crate::options::drop_input;
 use crate::slots::{Bound, Slots, Width};
 use std::alloc::{AllocError, Global};
-use std::io;
 use std::net::{Ipv4Addr, Net, SocketAddrV4, UdpSocket};
+use std::os::fd::AsRawFd;
 use std::sync::{Arc, Mutex, Wait};
 
 /// The sockets of a pair of ports, or of the one port that RTP and RTCP share. None blocks.
@@ -85,7 +86,7 @@ impl PortTable {
         width: Width,
         port: u16,
     ) -> bool {
-        let Ok(sockets) = open_sockets(rt, width, port) else {
+        let Some(sockets) = open_sockets(rt, width, port) else {
             return false;
         };
         let Ok(sockets) = Arc::new(self.alloc, sockets) else {
@@ -104,18 +105,23 @@ impl PortTable {
     }
 }
 
-// A socket of this port, on all of the host's addresses.
-fn open_socket<R: Net>(rt: &R, port: u16) -> io::Result<UdpSocket> {
-    let socket = UdpSocket::bind(rt, SocketAddrV4::new(Ipv4Addr::UNSPECIFIED, port))?;
-    socket.set_nonblocking(true)?;
-    Ok(socket)
+// A socket of this port, on all of the host's addresses. Reports of players come to it, and are
+// never read.
+fn open_socket<R: Net>(rt: &R, port: u16) -> Option<UdpSocket> {
+    let socket = UdpSocket::bind(rt, SocketAddrV4::new(Ipv4Addr::UNSPECIFIED, port)).ok()?;
+    socket.set_nonblocking(true).ok()?;
+    if drop_input(socket.as_raw_fd()) {
+        Some(socket)
+    } else {
+        None
+    }
 }
 
-fn open_sockets<R: Net>(rt: &R, width: Width, port: u16) -> io::Result<PortSockets> {
+fn open_sockets<R: Net>(rt: &R, width: Width, port: u16) -> Option<PortSockets> {
     let rtp = open_socket(rt, port)?;
     let rtcp = match width {
         Width::Pair => Some(open_socket(rt, port.saturating_add(1))?),
         Width::Port => None,
     };
-    Ok(PortSockets { rtp, rtcp })
+    Some(PortSockets { rtp, rtcp })
 }
