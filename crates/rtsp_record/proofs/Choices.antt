@@ -88,12 +88,6 @@ least_step step takes p i n lt =
     ∙ least_next step takes (p + step * i) (n - (i + 1))
     ∙ (λ t. cond (takes (p + step * i)) (Some (p + step * i)) (least_of step takes (one_on step p i t) (n - (i + 1))))
 
-pub port_step : (takes : ℕ → Bool) (p i n : ℕ) → i < n → least_of 1 takes (p + i) (n - i) ≡ cond (takes (p + i)) (Some (p + i)) (least_of 1 takes (p + (i + 1)) (n - (i + 1)))
-port_step takes p i n lt =
-    let same : (i : ℕ) → p + 1 * i ≡ p + i = λ i. omega (arith, one-mul i) in
-    subst (λ x. least_of 1 takes x (n - i) ≡ cond (takes x) (Some x) (least_of 1 takes (p + (i + 1)) (n - (i + 1)))) (same i)
-    (least_step 1 takes p i n lt ∙ ap (λ y. cond (takes (p + 1 * i)) (Some (p + 1 * i)) (least_of 1 takes y (n - (i + 1)))) (same (i + 1)))
-
 pub chan_step : (takes : ℕ → Bool) (i n : ℕ) → i < n → least_of 2 takes (2 * i) (n - i) ≡ cond (takes (2 * i)) (Some (2 * i)) (least_of 2 takes (2 * (i + 1)) (n - (i + 1)))
 chan_step takes i n lt =
     let here : 0 + 2 * i ≡ 2 * i = omega arith in
@@ -104,19 +98,10 @@ chan_step takes i n lt =
 pub least_end : (step : ℕ) (takes : ℕ → Bool) (p n : ℕ) → n ≡ 0 → least_of step takes p n ≡ None
 least_end step takes p n none = ap (least_of step takes p) none ∙ least_none step takes p
 
-pub pair_start : (takes : ℕ → Bool) (w : Whole) (from : ℕ) → least_of 2 (from_on from takes) (w.first_port + 0) (w.pairs - 0) ≡ least_pair_by takes w from
-unfolding least_pair_by
-pair_start takes w from =
-    let begin : w.first_port + 0 ≡ w.first_port = omega arith in
-    let all : w.pairs - 0 ≡ w.pairs = omega arith in
-    λ t. least_of 2 (from_on from takes) (begin t) (all t)
-
-pub port_start : (takes : ℕ → Bool) (w : Whole) (from : ℕ) → least_of 1 (from_on from takes) (w.first_port + 0) (2 * w.pairs - 0) ≡ least_port_by takes w from
-unfolding least_port_by
-port_start takes w from =
-    let begin : w.first_port + 0 ≡ w.first_port = omega arith in
-    let all : 2 * w.pairs - 0 ≡ 2 * w.pairs = omega arith in
-    λ t. least_of 1 (from_on from takes) (begin t) (all t)
+pub least_start : (step : ℕ) (takes : ℕ → Bool) (p n : ℕ) → least_of step takes (p + step * 0) (n - 0) ≡ least_of step takes p n
+least_start step takes p n =
+    let all : n - 0 ≡ n = omega arith in
+    λ t. least_of step takes (at_first step p t) (all t)
 
 pub chan_start : (takes : ℕ → Bool) → least_of 2 takes 0 128 ≡ least_chan_by takes
 unfolding least_chan_by

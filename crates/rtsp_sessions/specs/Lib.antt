@@ -3,3 +3,4 @@ pub mod Lookups
 pub mod Tallies
 pub mod Codes
 pub mod Plain
+pub mod Ports
