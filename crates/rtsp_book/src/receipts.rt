@@ -141,8 +141,9 @@ fn freed_as(kind: Kind, change: &Record) -> Option<(u64, u16)>
         return None;
     };
     match (kind, holding.thing) {
-        (Kind::Pair, Thing::Pair(port)) => Some((holding.admission, port)),
-        (Kind::Port, Thing::Port(port)) => Some((holding.admission, port)),
+        (Kind::Pair, Thing::Pair(port)) | (Kind::Port, Thing::Port(port)) => {
+            Some((holding.admission, port))
+        }
         _ => None,
     }
 }

@@ -106,10 +106,8 @@ impl<'a, B: BookRep> Case<'a, B> {
         ensures { filled result made.new ≡ answer self.now.whole self.now.entries self.now.book (Step.HoldPair session admission from) }
     {
         let view = self.living(session)?;
-        match self.least_pair(from) {
-            Some(port) => self.hold(view, admission, Thing::Pair(port), made),
-            None => Err(Refusal::NoPair),
-        }
+        let port = self.least_pair(from).ok_or(Refusal::NoPair)?;
+        self.hold(view, admission, Thing::Pair(port), made)
     }
 
     pub(super) fn hold_port(
@@ -123,10 +121,8 @@ impl<'a, B: BookRep> Case<'a, B> {
         ensures { filled result made.new ≡ answer self.now.whole self.now.entries self.now.book (Step.HoldPort session admission from) }
     {
         let view = self.living(session)?;
-        match self.least_port(from) {
-            Some(port) => self.hold(view, admission, Thing::Port(port), made),
-            None => Err(Refusal::NoPair),
-        }
+        let port = self.least_port(from).ok_or(Refusal::NoPair)?;
+        self.hold(view, admission, Thing::Port(port), made)
     }
 
     pub(super) fn hold_chan(&self, hold: ChannelHold, made: &mut Receipt) -> Result<(), Refusal>
@@ -135,12 +131,10 @@ impl<'a, B: BookRep> Case<'a, B> {
         ensures { filled result made.new ≡ answer self.now.whole self.now.entries self.now.book (Step.HoldChan hold) }
     {
         let view = self.living(hold.session)?;
-        match self.least_chan(hold.conn, hold.wish) {
-            Some(channel) => {
-                self.hold(view, hold.admission, Thing::Chan(hold.conn, channel), made)
-            }
-            None => Err(Refusal::NoChannel),
-        }
+        let channel = self
+            .least_chan(hold.conn, hold.wish)
+            .ok_or(Refusal::NoChannel)?;
+        self.hold(view, hold.admission, Thing::Chan(hold.conn, channel), made)
     }
 
     pub(super) fn return_thing(
