@@ -1,11 +1,11 @@
 -- Which ports a binder has before and after an admission.
-use Rattle.std.proofs.Common.{◌≡◌, ◌==◌, ℕ, Bool, true, false, ◌&&◌, ◌||◌, not, List, [], ◌∷◌, ◌++◌, refl, sym, ◌∙◌, ap, subst, arith}
+use Rattle.std.proofs.Common.{◌≡◌, ◌==◌, ℕ, Bool, true, false, ◌&&◌, ◌||◌, not, List, [], ◌∷◌, ◌++◌, refl, sym, ◌∙◌, ap, subst}
 use Rattle.std.specs.Prelude.{Option, Some, None}
 use Rattle.std.proofs.lemmas.Bool.{and_parts}
-use Rattle.std.proofs.lemmas.Bool.Decides.{nat_tests}
+use Rattle.std.proofs.lemmas.Bool.Decides.{Decides-eqb}
 use Rattle.rtsp_record.specs.declared.holdings.Thing.{Thing}
-use Rattle.rtsp_record.specs.declared.holdings.Thing.TheVariants.{Pair, Port, Chan, Rate}
 use Rattle.rtsp_record.specs.Rules.{is_same_thing}
+use Rattle.rtsp_record.proofs.SameWords.{same_thing}
 use Rattle.rtsp_book.specs.declared.asks.Ask.{Ask}
 use Rattle.rtsp_book.specs.declared.asks.Wanted.{Wanted}
 use Rattle.rtsp_book.specs.declared.asks.Wanted.TheVariants as wanted
@@ -21,16 +21,6 @@ use Rattle.rtsp_admit.specs.Runs.{State, with_view, PortsRefused, Tried, PortsGr
 use Rattle.rtsp_admit.specs.Addresses.{is_address, is_among, is_granted, ShowsAddresses, RefusalsKeepAddresses, AdmissionsGainAddress}
 use Rattle.rtsp_admit.proofs.Breaking.{is_chan}
 use Rattle.rtsp_admit.proofs.Freeing.{commit_keeps}
-
-is_same : (n m : ℕ) → (n == m) ≡ true → n ≡ m
-is_same n m h = grind (arith, nat_tests)
-
-same_thing : (x y : Thing) → is_same_thing y x ≡ true → y ≡ x
-same_thing (Pair p) (Pair q) h = ap Pair (is_same q p h)
-same_thing (Port p) (Port q) h = ap Port (is_same q p h)
-same_thing (Chan c k) (Chan d l) h = let parts = and_parts (d == c) (l == k) h in λ i. Chan (is_same d c parts.0 i) (is_same l k parts.1 i)
-same_thing (Rate n) (Rate m) h = ap Rate (is_same m n h)
-same_thing x y h = absurd cc
 
 -- what was not there is added and taken away
 add_take : (v it : Bool) → (it ≡ true → v ≡ false) → ((v || it) && not it) ≡ v
@@ -121,7 +111,7 @@ module _ {B : Type 0} (calls : Calls B) (ask : Ask) (has : B → ℕ → Thing �
       shows.unbound d.binder c a ports unbound.call n y
       ∙ ap (λ v. v && not (is_address a ports n y)) (shows.bound b d.binder a ports h.last.bound.call n y)
       ∙ add_take (has b n y) (is_address a ports n y) (λ is.
-      let parts = and_parts (n == a) (is_same_thing y ports) is in ap (λ n. has b n y) (is_same n a parts.0) ∙ ap (λ y. has b a y) (same_thing ports y parts.1) ∙ none)
+      let parts = and_parts (n == a) (is_same_thing y ports) is in ap (λ n. has b n y) ((Decides-eqb n a).0 parts.0) ∙ ap (λ y. has b a y) (same_thing y ports parts.1) ∙ none)
       ∙ same n y
 
   -- released again, it has what it had

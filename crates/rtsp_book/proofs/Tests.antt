@@ -1,14 +1,13 @@
 -- What it says that a test of a step passed or failed.
-use Rattle.std.proofs.Common.{◌≡◌, ◌==◌, ℕ, ◌<◌, Bool, true, false, not, refl, ap, arith}
+use Rattle.std.proofs.Common.{◌≡◌, ℕ, ◌<◌, Bool, true, false, not, refl, ap, arith}
 use Rattle.std.specs.Prelude.{Option, Some, None, IsSome, is_some, is_none, nat_lt}
-use Rattle.std.proofs.lemmas.Bool.{and_parts}
 use Rattle.std.proofs.lemmas.Bool.Decides.{nat_tests}
 use Rattle.rtsp_record.specs.declared.holdings.Thing.{Thing}
-use Rattle.rtsp_record.specs.declared.holdings.Thing.TheVariants.{Pair, Port, Chan, Rate}
 use Rattle.rtsp_record.specs.declared.phases.Phase.{Phase}
 use Rattle.rtsp_record.specs.declared.phases.Phase.TheVariants.{Ready, Playing, Ended}
 use Rattle.rtsp_record.specs.Books.{Session, under}
-use Rattle.rtsp_record.specs.Rules.{IsReady, alike, is_same_thing, is_this, is_held}
+use Rattle.rtsp_record.specs.Rules.{IsReady, alike, is_this, is_held}
+use Rattle.rtsp_record.proofs.SameWords.{same_thing}
 use Rattle.rtsp_book.specs.Sessions.{is_ready}
 
 pub none_there : {A : Type 0} (o : Option A) → is_some o ≡ false → o ≡ None
@@ -38,12 +37,5 @@ ready_is (Ready at sent) h = tt
 ready_is (Playing from stop sent since) h = absurd cc
 ready_is (Ended at sent) h = absurd cc
 
-same_thing : (x y : Thing) → is_same_thing y x ≡ true → y ≡ x
-same_thing (Pair p) (Pair q) h = ap Pair (grind (arith, nat_tests))
-same_thing (Port p) (Port q) h = ap Port (grind (arith, nat_tests))
-same_thing (Chan c k) (Chan d l) h = let parts = and_parts (d == c) (l == k) h in let one : d ≡ c = grind (arith, nat_tests) in let two : l ≡ k = grind (arith, nat_tests) in λ i. Chan (one i) (two i)
-same_thing (Rate m) (Rate k) h = ap Rate (grind (arith, nat_tests))
-same_thing x y h = absurd cc
-
 pub held_is : (f : Session) (a : ℕ) (x : Thing) → is_held f a x ≡ true → alike x (under f a) ≡ Some x
-held_is f a x h = elim (alike x (under f a)) as (λ o. is_this x o ≡ true → o ≡ Some x) [ None ↦ λ h. absurd cc | Some y ↦ λ h. ap Some (same_thing x y h) ] h
+held_is f a x h = elim (alike x (under f a)) as (λ o. is_this x o ≡ true → o ≡ Some x) [ None ↦ λ h. absurd cc | Some y ↦ λ h. ap Some (same_thing y x h) ] h
