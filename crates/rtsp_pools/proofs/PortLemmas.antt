@@ -1,12 +1,12 @@
 -- Ports and pairs as bits.
-use Rattle.std.proofs.Common.{◌≡◌, ◌≢◌, ◌==◌, ℕ, ◌+◌, ◌-◌, ◌*◌, ◌/◌, ◌%◌, ◌<◌, ◌≤◌, Bool, true, false, ◌&&◌, ◌||◌, not, List, refl, sym, ◌∙◌, ap, inl, inr, arith}
+use Rattle.std.proofs.Common.{◌≡◌, ◌≢◌, ◌==◌, ℕ, ◌+◌, ◌-◌, ◌*◌, ◌/◌, ◌%◌, ◌<◌, ◌≤◌, Bool, true, false, ◌&&◌, ◌||◌, not, cond, List, refl, sym, ◌∙◌, ap, inl, inr, arith}
 use Rattle.std.specs.Prelude.{IsTrue}
 use Rattle.std.proofs.lemmas.Bool.{cases_eq, cases_lt}
 use Rattle.std.proofs.lemmas.Bool.Decides.{nat_tests}
 use Rattle.rtsp_record.specs.declared.holdings.Thing.TheVariants.{Pair}
 use Rattle.rtsp_record.specs.Rules.{InWhole}
 use Rattle.rtsp_pools.specs.declared.pair_pool.PairPool.{PairPool}
-use Rattle.rtsp_pools.specs.Bits.{bit_of, has, ArePairsOf}
+use Rattle.rtsp_pools.specs.Bits.{has, IsPut, ArePairsOf}
 use Rattle.rtsp_pools.specs.Pools.{is_free_port, is_free_pair}
 
 -- a port of the whole is a bit, and so is a pair
@@ -35,48 +35,29 @@ pair_shown pool p r from even below is =
     let at : p ≡ pool.whole.first_port + 2 * ((p - pool.whole.first_port) / 2) = omega (arith, from, even) in
     (λ h. ((i, below, at), pair_is pool p i at ∙ sym is ∙ h), λ h. is ∙ sym (pair_is pool p i at) ∙ h.1)
 
--- Where nothing changes but the two numbers of one pair, and the pair is there exactly where both are, each pair is.
-pub pairs_kept : (old new free more : List ℕ) (k : ℕ) → ArePairsOf old free
-    → ((i : ℕ) → i / 2 ≢ k → bit_of new i ≡ bit_of old i) → ((j : ℕ) → j ≢ k → bit_of more j ≡ bit_of free j)
-    → has more k ≡ (has new (2 * k) && has new (2 * k + 1)) → ArePairsOf new more
-pairs_kept old new free more k was numbers pairs here j =
-    elim (cases_eq j k) [
-      | inl same ↦ ap (has more) same ∙ here ∙ sym (ap (λ j. has new (2 * j) && has new (2 * j + 1)) same)
-      | inr apart ↦
-          let one = numbers (2 * j) (λ e. apart (omega (arith, e))) in
-          let two = numbers (2 * j + 1) (λ e. apart (omega (arith, e))) in
-          ap (λ b. b == 1) (pairs j apart) ∙ was j ∙ sym (λ t. (one t == 1) && (two t == 1))
-    ]
-
 -- all numbers below a limit make all pairs
-pub all_paired : (numbers pairs : List ℕ) (n m : ℕ) → m ≡ 2 * n → ((k : ℕ) → k < n → bit_of pairs k ≡ 1) → ((k : ℕ) → k < m → bit_of numbers k ≡ 1)
-    → ((k : ℕ) → n ≤ k → bit_of pairs k ≡ 0) → ((k : ℕ) → m ≤ k → bit_of numbers k ≡ 0) → ArePairsOf numbers pairs
+pub all_paired : (numbers pairs : List ℕ) (n m : ℕ) → m ≡ 2 * n → ((k : ℕ) → k < n → has pairs k ≡ true) → ((k : ℕ) → k < m → has numbers k ≡ true)
+    → ((k : ℕ) → n ≤ k → has pairs k ≡ false) → ((k : ℕ) → m ≤ k → has numbers k ≡ false) → ArePairsOf numbers pairs
 all_paired numbers pairs n m twice some each none past k =
     elim (cases_lt k n) [
       | inl below ↦
-          let pair = some k below in
           let one = each (2 * k) (omega (arith, below, twice)) in
           let two = each (2 * k + 1) (omega (arith, below, twice)) in
-          ap (λ b. b == 1) pair ∙ sym (λ t. (one t == 1) && (two t == 1))
-      | inr after ↦
-          let pair = none k after in
-          let one = past (2 * k) (omega (arith, after, twice)) in
-          ap (λ b. b == 1) pair ∙ sym (ap (λ b. (b == 1) && has numbers (2 * k + 1)) one)
+          some k below ∙ sym (λ t. one t && two t)
+      | inr after ↦ none k after ∙ sym (ap (λ t. t && has numbers (2 * k + 1)) (past (2 * k) (omega (arith, after, twice))))
     ]
 
--- with one of its numbers missing a pair isn't there
-pub not_both : (numbers : List ℕ) (i : ℕ) → bit_of numbers i ≡ 0 → false ≡ (has numbers (2 * (i / 2)) && has numbers (2 * (i / 2) + 1))
-not_both numbers i none =
-    elim (cases_eq i (2 * (i / 2))) [
-      | inl first ↦ sym (ap (λ t. t && has numbers (2 * (i / 2) + 1)) (ap (has numbers) (sym first) ∙ ap (λ b. b == 1) none))
-      | inr apart ↦
-          let second : i ≡ 2 * (i / 2) + 1 = omega (arith, apart) in
-          sym (ap (λ t. has numbers (2 * (i / 2)) && t) (ap (has numbers) (sym second) ∙ ap (λ b. b == 1) none) ∙ and_false (has numbers (2 * (i / 2))))
-    ]
-  where
-    and_false : (t : Bool) → (t && false) ≡ false
-    and_false true = refl
-    and_false false = refl
+-- Where no number changes but the two of one pair, and the pair is put in or taken out as both are there, each pair is there as both its numbers are.
+module _ {free more : List ℕ} (k : ℕ) {t : Bool} (pair : IsPut k t free more) where
+  pairs_kept : (old new : List ℕ) → ((i : ℕ) → i / 2 ≢ k → has new i ≡ has old i) → t ≡ (has new (2 * k) && has new (2 * k + 1)) → ArePairsOf old free → ArePairsOf new more
+  pairs_kept old new numbers here was j =
+      elim (cases_eq j k) [
+        | inl same ↦ ap (has more) same ∙ pair.here ∙ here ∙ sym (ap (λ j. has new (2 * j) && has new (2 * j + 1)) same)
+        | inr apart ↦
+            let one = numbers (2 * j) (λ e. apart (omega (arith, e))) in
+            let two = numbers (2 * j + 1) (λ e. apart (omega (arith, e))) in
+            pair.others j apart ∙ was j ∙ sym (λ u. one u && two u)
+      ]
 
 on : (q p : ℕ) → q ≡ p → (q == p) ≡ true
 on q p h = grind (arith, nat_tests)
@@ -84,66 +65,61 @@ on q p h = grind (arith, nat_tests)
 off : (q p : ℕ) → q ≢ p → (q == p) ≡ false
 off q p h = grind (arith, nat_tests)
 
--- One number changes: what the ports say, counted from the first.
-module _ (old new : List ℕ) (first i p : ℕ) (at : p ≡ first + i) (others : (k : ℕ) → k ≢ i → bit_of new k ≡ bit_of old k) (q : ℕ) (from : first ≤ q) where
-  here : q ≡ p → q - first ≡ i
-  here same = omega (arith, same, at)
+-- One number is put in or taken out.
+module _ {old new : List ℕ} {i : ℕ} {t : Bool} (port : IsPut i t old new) where
+  pub port_paired : {free more : List ℕ} {s : Bool} → IsPut (i / 2) s free more → s ≡ (has new (2 * (i / 2)) && has new (2 * (i / 2) + 1)) → ArePairsOf old free → ArePairsOf new more
+  port_paired pair here = pairs_kept (i / 2) pair old new (λ k apart. port.others k (λ e. apart (ap (λ k. k / 2) e))) here
 
-  elsewhere : q ≢ p → has new (q - first) ≡ has old (q - first)
-  elsewhere apart = ap (λ b. b == 1) (others (q - first) (λ e. apart (omega (arith, e, at, from))))
+  -- with one of its numbers missing the pair isn't there
+  pub not_both : t ≡ false → false ≡ (has new (2 * (i / 2)) && has new (2 * (i / 2) + 1))
+  not_both none =
+      elim (cases_eq i (2 * (i / 2))) [
+        | inl first ↦ sym (ap (λ u. u && has new (2 * (i / 2) + 1)) (ap (has new) (sym first) ∙ port.here ∙ none))
+        | inr apart ↦
+            let second : 2 * (i / 2) + 1 ≡ i = omega (arith, apart) in
+            sym (ap (λ u. has new (2 * (i / 2)) && u) (ap (has new) second ∙ port.here ∙ none) ∙ and_false (has new (2 * (i / 2))))
+      ]
+    where
+      and_false : (u : Bool) → (u && false) ≡ false
+      and_false true = refl
+      and_false false = refl
 
-  pub one_gone : bit_of new i ≡ 0 → has new (q - first) ≡ (not (q == p) && has old (q - first))
-  one_gone none =
+  -- what the ports say, counted from the first
+  pub port_put : (first p q : ℕ) → p ≡ first + i → first ≤ q → has new (q - first) ≡ cond (q == p) t (has old (q - first))
+  port_put first p q at from =
       elim (cases_eq q p) [
-        | inl same ↦ ap (has new) (here same) ∙ ap (λ b. b == 1) none ∙ sym (ap (λ t. not t && has old (q - first)) (on q p same))
-        | inr apart ↦ elsewhere apart ∙ sym (ap (λ t. not t && has old (q - first)) (off q p apart))
+        | inl same ↦
+            let place : q - first ≡ i = omega (arith, same, at) in
+            ap (has new) place ∙ port.here ∙ sym (ap (λ u. cond u t (has old (q - first))) (on q p same))
+        | inr apart ↦ port.others (q - first) (λ e. apart (omega (arith, e, at, from))) ∙ sym (ap (λ u. cond u t (has old (q - first))) (off q p apart))
       ]
 
-  pub one_come : bit_of new i ≡ 1 → has new (q - first) ≡ (q == p || has old (q - first))
-  one_come some =
-      elim (cases_eq q p) [
-        | inl same ↦ ap (has new) (here same) ∙ ap (λ b. b == 1) some ∙ sym (ap (λ t. t || has old (q - first)) (on q p same))
-        | inr apart ↦ elsewhere apart ∙ sym (ap (λ t. t || has old (q - first)) (off q p apart))
-      ]
+-- Both numbers of a pair are put in or taken out.
+module _ {old mid new : List ℕ} (k : ℕ) {t : Bool} (one : IsPut (2 * k) t old mid) (two : IsPut (2 * k + 1) t mid new) where
+  pub pair_paired : {free more : List ℕ} → IsPut k t free more → ArePairsOf old free → ArePairsOf new more
+  pair_paired pair =
+      let first : has new (2 * k) ≡ t = two.others (2 * k) (λ e. absurd (omega (arith, e))) ∙ one.here in
+      pairs_kept k pair old new (λ i apart. two.others i (λ e. apart (omega (arith, e))) ∙ one.others i (λ e. apart (omega (arith, e)))) (sym ((λ u. first u && two.here u) ∙ twice t))
+    where
+      twice : (u : Bool) → (u && u) ≡ u
+      twice true = refl
+      twice false = refl
 
-neither : (a b c : Bool) → (not b && (not a && c)) ≡ (not (a || b) && c)
-neither true true c = refl
-neither true false c = refl
-neither false true c = refl
-neither false false c = refl
+  pub pair_put : (first p q : ℕ) → p ≡ first + 2 * k → first ≤ q → has new (q - first) ≡ cond (q == p || q == p + 1) t (has old (q - first))
+  pair_put first p q at from =
+      port_put two first (p + 1) q (omega (arith, at)) from ∙ ap (λ v. cond (q == p + 1) t v) (port_put one first p q at from) ∙ either (q == p) (q == p + 1) (has old (q - first))
+    where
+      either : (u v w : Bool) → cond v t (cond u t w) ≡ cond (u || v) t w
+      either true true w = refl
+      either true false w = refl
+      either false v w = refl
 
-either : (a b c : Bool) → (b || (a || c)) ≡ ((a || b) || c)
-either true true c = refl
-either true false c = refl
-either false true c = refl
-either false false c = refl
+-- what is covered isn't free any more
+pub taken : (is_covered was : Bool) → cond is_covered false was ≡ (not is_covered && was)
+taken true was = refl
+taken false was = refl
 
--- Two numbers change, one after the other.
-module _ (old mid new : List ℕ) (first k p : ℕ) (at : p ≡ first + 2 * k)
-    (one : (i : ℕ) → i ≢ 2 * k → bit_of mid i ≡ bit_of old i) (two : (i : ℕ) → i ≢ 2 * k + 1 → bit_of new i ≡ bit_of mid i) where
-  pub both_others : (i : ℕ) → i / 2 ≢ k → bit_of new i ≡ bit_of old i
-  both_others i apart = two i (λ e. apart (omega (arith, e))) ∙ one i (λ e. apart (omega (arith, e)))
-
-  first_is : has new (2 * k) ≡ has mid (2 * k)
-  first_is = ap (λ b. b == 1) (two (2 * k) (λ e. absurd (omega (arith, e))))
-
-  pub none_there : bit_of mid (2 * k) ≡ 0 → (has new (2 * k) && has new (2 * k + 1)) ≡ false
-  none_there none = ap (λ t. t && has new (2 * k + 1)) (first_is ∙ ap (λ b. b == 1) none)
-
-  pub both_there : bit_of mid (2 * k) ≡ 1 → bit_of new (2 * k + 1) ≡ 1 → (has new (2 * k) && has new (2 * k + 1)) ≡ true
-  both_there some last = ap (λ t. t && has new (2 * k + 1)) (first_is ∙ ap (λ b. b == 1) some) ∙ ap (λ b. b == 1) last
-
-  next : p + 1 ≡ first + (2 * k + 1)
-  next = omega (arith, at)
-
-  pub two_gone : bit_of mid (2 * k) ≡ 0 → bit_of new (2 * k + 1) ≡ 0 → (q : ℕ) → first ≤ q → has new (q - first) ≡ (not (q == p || q == p + 1) && has old (q - first))
-  two_gone none last q from =
-      one_gone mid new first (2 * k + 1) (p + 1) next two q from last
-      ∙ ap (λ t. not (q == p + 1) && t) (one_gone old mid first (2 * k) p at one q from none)
-      ∙ neither (q == p) (q == p + 1) (has old (q - first))
-
-  pub two_come : bit_of mid (2 * k) ≡ 1 → bit_of new (2 * k + 1) ≡ 1 → (q : ℕ) → first ≤ q → has new (q - first) ≡ ((q == p || q == p + 1) || has old (q - first))
-  two_come some last q from =
-      one_come mid new first (2 * k + 1) (p + 1) next two q from last
-      ∙ ap (λ t. q == p + 1 || t) (one_come old mid first (2 * k) p at one q from some)
-      ∙ either (q == p) (q == p + 1) (has old (q - first))
+-- what is covered is free
+pub given : (is_covered was : Bool) → cond is_covered true was ≡ (is_covered || was)
+given true was = refl
+given false was = refl

@@ -1,5 +1,5 @@
 -- Numbers as bits of words of 64 bits, with a summary of the words.
-use Rattle.std.specs.Prelude.{◌≡◌, ◌==◌, ℕ, zero, suc, ◌+◌, ◌*◌, ◌/◌, ◌%◌, ◌<◌, ◌≤◌, Bool, ◌&&◌, List, length, slice_index}
+use Rattle.std.specs.Prelude.{◌≡◌, ◌≢◌, ◌==◌, ℕ, zero, suc, ◌+◌, ◌*◌, ◌/◌, ◌%◌, ◌<◌, ◌≤◌, Bool, ◌&&◌, List, length, slice_index}
 use Rattle.std.specs.Int.{bit_at}
 
 -- the bit of a number; a number past the words has 0
@@ -9,6 +9,11 @@ bit_of words k = bit_at (slice_index words (k / 64)) (k % 64)
 -- a number is there
 abbrev pub has : List ℕ → ℕ → Bool
 has words k = bit_of words k == 1
+
+-- a number is put in or taken out, and each other is there as it was
+pub record IsPut (number : ℕ) (is_there : Bool) (old new : List ℕ) : Type 0 where
+  pub here : has new number ≡ is_there
+  pub others : (k : ℕ) → k ≢ number → has new k ≡ has old k
 
 -- a pair is there exactly where its two numbers are
 abbrev pub ArePairsOf : List ℕ → List ℕ → Type 0

@@ -1,7 +1,7 @@
 //! A set of numbers, in which the least from a number on is found by looking at few words.
 
-ghost use Rattle.std.specs.Prelude.{◌≡◌, ◌≢◌, ℕ, ◌+◌, ◌<◌, ◌≤◌, ◌^◌, IfOk, IfSome, IfNone};
-ghost use Rattle.rtsp_pools.specs.Bits.{bit_of, has, count_below, IsSummed};
+ghost use Rattle.std.specs.Prelude.{◌≡◌, ℕ, ◌+◌, ◌<◌, ◌≤◌, ◌^◌, true, false, IfOk, IfSome, IfNone};
+ghost use Rattle.rtsp_pools.specs.Bits.{bit_of, has, IsPut, count_below, IsSummed};
 
 use crate::words::{lowest_bit, lowest_number, write_bit};
 use std::alloc::{AllocError, Global};
@@ -23,7 +23,7 @@ impl BitSet {
     fn empty(alloc: Global, limit: usize) -> Result<Self, AllocError>
         requires { limit ≤ 2 ^ 16 }
         ensures limit { IfOk result (λ s. s.limit ≡ limit) }
-        ensures empty { IfOk result (λ s. (k : ℕ) → bit_of s.words.items k ≡ 0) }
+        ensures empty { IfOk result (λ s. (k : ℕ) → has s.words.items k ≡ false) }
     {
         let long = limit.div_ceil(64);
         let words = vec![in alloc; 0; long]?;
@@ -40,7 +40,7 @@ impl BitSet {
     pub(crate) fn full(alloc: Global, limit: usize) -> Result<Self, AllocError>
         requires { limit ≤ 2 ^ 16 }
         ensures limit { IfOk result (λ s. s.limit ≡ limit) }
-        ensures full { IfOk result (λ s. (k : ℕ) → k < limit → bit_of s.words.items k ≡ 1) }
+        ensures full { IfOk result (λ s. (k : ℕ) → k < limit → has s.words.items k ≡ true) }
     {
         let mut all = BitSet::empty(alloc, limit)?;
         for number in 0..limit {
@@ -52,10 +52,9 @@ impl BitSet {
     /// Puts a number in.
     pub(crate) fn insert(&mut self, number: usize)
         requires within { number < self.old.limit }
-        requires new { bit_of self.old.words.items number ≡ 0 }
+        requires new { has self.old.words.items number ≡ false }
         ensures limit { self.new.limit ≡ self.old.limit }
-        ensures there { bit_of self.new.words.items number ≡ 1 }
-        ensures others { (k : ℕ) → k ≢ number → bit_of self.new.words.items k ≡ bit_of self.old.words.items k }
+        ensures put { IsPut number true self.old.words.items self.new.words.items }
     {
         write_bit(&mut self.words, number, true);
         write_bit(&mut self.summary, number / 64, true);
@@ -65,10 +64,9 @@ impl BitSet {
     /// Takes a number out.
     pub(crate) fn remove(&mut self, number: usize)
         requires within { number < self.old.limit }
-        requires there { bit_of self.old.words.items number ≡ 1 }
+        requires there { has self.old.words.items number ≡ true }
         ensures limit { self.new.limit ≡ self.old.limit }
-        ensures gone { bit_of self.new.words.items number ≡ 0 }
-        ensures others { (k : ℕ) → k ≢ number → bit_of self.new.words.items k ≡ bit_of self.old.words.items k }
+        ensures put { IsPut number false self.old.words.items self.new.words.items }
     {
         write_bit(&mut self.words, number, false);
         let has_more = self.words[number / 64] != 0;
@@ -88,8 +86,7 @@ impl BitSet {
     pub(crate) fn put(&mut self, number: usize, is_there: bool)
         requires { number < self.old.limit }
         ensures limit { self.new.limit ≡ self.old.limit }
-        ensures there { has self.new.words.items number ≡ is_there }
-        ensures others { (k : ℕ) → k ≢ number → bit_of self.new.words.items k ≡ bit_of self.old.words.items k }
+        ensures put { IsPut number is_there self.old.words.items self.new.words.items }
     {
         if self.contains(number) == is_there {
             return;

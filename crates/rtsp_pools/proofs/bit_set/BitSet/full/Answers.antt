@@ -1,6 +1,6 @@
 use Rattle.std.proofs.Common.{◌∙◌, ap, inl, inr, arith}
 use Rattle.std.proofs.lemmas.Bool.{cases_eq}
-use Rattle.rtsp_pools.specs.Bits.{bit_of}
+use Rattle.rtsp_pools.specs.Bits.{has}
 use Rattle.rtsp_pools.proofs.bit_set.BitSet.full.Goals as goal
 
 pub loop-number-init : goal.loop-number-init
@@ -14,11 +14,11 @@ insert-requires-clause-new c = c.loop-number.invariant.2 c.loop-number.number (o
 
 pub loop-number-preserved : goal.loop-number-preserved
 loop-number-preserved c =
-    let now = c.insert.ensures in
+    let now = c.insert.ensures.put in
     let was = c.loop-number.invariant in (
-      now.limit ∙ was.0,
+      c.insert.ensures.limit ∙ was.0,
       λ k below. elim (cases_eq k c.loop-number.number) [
-        | inl same ↦ ap (bit_of c.insert.new.self.words.items) same ∙ now.there
+        | inl same ↦ ap (has c.insert.new.self.words.items) same ∙ now.here
         | inr apart ↦ now.others k apart ∙ was.1 k (omega (arith, below, apart))
       ],
       λ k from. now.others k (λ e. absurd (omega (arith, e, from))) ∙ was.2 k (omega (arith, from)),

@@ -1,13 +1,13 @@
-use Rattle.std.proofs.Common.{◌≡◌, ◌≢◌, ℕ, ◌+◌, ◌-◌, ◌/◌, ◌<◌, List, get_or, nat_eq, not, ◌∙◌, refl, sym, ap, arith}
+use Rattle.std.proofs.Common.{◌≡◌, ◌≢◌, ℕ, ◌+◌, ◌-◌, ◌/◌, ◌<◌, List, get_or, true, nat_eq, not, ◌∙◌, refl, sym, ap, arith}
 use Rattle.rtsp_record.specs.Sums.{one_if}
-use Rattle.rtsp_pools.specs.Bits.{bit_of, count_below, IsSummed}
-use Rattle.rtsp_pools.proofs.BitLemmas.{flag_off, flag_on, count_more, summed_with, read}
+use Rattle.rtsp_pools.specs.Bits.{bit_of, has, count_below, IsSummed}
+use Rattle.rtsp_pools.proofs.BitLemmas.{is_there, flag_off, flag_on, count_more, summed_with, read}
 use Rattle.rtsp_pools.proofs.bit_set.BitSet.remove.Goals as goal
 
-one_less : (limit : ℕ) (words summary next : List ℕ) (count n : ℕ) → IsSummed limit words summary count → n < limit → bit_of words n ≡ 1 → bit_of next n ≡ 0
+one_less : (limit : ℕ) (words summary next : List ℕ) (count n : ℕ) → IsSummed limit words summary count → n < limit → has words n ≡ true → bit_of next n ≡ 0
     → ((k : ℕ) → k ≢ n → bit_of next k ≡ bit_of words k) → count ≡ count_below next limit + 1
 one_less limit words summary next count n sound within was is others =
-    sound.counted ∙ count_more next words n limit within is was (λ k apart. sym (others k apart))
+    sound.counted ∙ count_more next words n limit within is (is_there words n was) (λ k apart. sym (others k apart))
 
 pub overflow_sub-self : goal.overflow_sub-self
 overflow_sub-self c =

@@ -1,4 +1,4 @@
-use Rattle.std.proofs.Common.{◌*◌, ap, ◌∙◌, arith}
+use Rattle.std.proofs.Common.{◌==◌, ◌*◌, ap, ◌∙◌, arith}
 use Rattle.rtsp_pools.proofs.PortLemmas.{all_paired}
 use Rattle.rtsp_pools.proofs.pair_pool.PairPool.open.Goals as goal
 
@@ -13,5 +13,5 @@ invariant_of-result c =
       sized = pairs.limit ∙ c.from.ensures;
       each = numbers.limit ∙ ap (λ n. 2 * n) c.from-2.ensures;
       paired = all_paired ports.words.items free.words.items c.from.result (2 * c.from-2.result) (omega (arith, c.from.ensures, c.from-2.ensures))
-          pairs.full numbers.full (λ k late. free.summed.past k (omega (arith, late, pairs.limit))) (λ k late. ports.summed.past k (omega (arith, late, numbers.limit)));
+          pairs.full numbers.full (λ k late. ap (λ b. b == 1) (free.summed.past k (omega (arith, late, pairs.limit)))) (λ k late. ap (λ b. b == 1) (ports.summed.past k (omega (arith, late, numbers.limit))));
     }
