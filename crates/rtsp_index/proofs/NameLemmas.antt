@@ -8,7 +8,7 @@ use Rattle.rtsp_record.specs.declared.holdings.Whole.{Whole}
 use Rattle.rtsp_record.specs.declared.payloads.Life.{Life}
 use Rattle.rtsp_record.specs.declared.payloads.Binding.{Binding}
 use Rattle.rtsp_record.specs.declared.changes.Record.{Record}
-use Rattle.rtsp_record.specs.declared.changes.Record.TheVariants.{Open, Close, Hold, Free, Add, Drop, Move, Touch, Bind, Unbind}
+use Rattle.rtsp_record.specs.declared.changes.Record.TheVariants.{Open, Close, Bind, Unbind}
 use Rattle.rtsp_record.specs.Records.{session_of}
 use Rattle.rtsp_record.specs.Books.{Session, Book, effect, after}
 use Rattle.rtsp_record.specs.Sums.{one_if, if_there, of_session, amount, with_id, bindings}
@@ -120,22 +120,8 @@ startup_own b r = ap (option_and_then (λ (f : Session). f.binding)) (get-set_ow
 id_row : (r : Record) (o : Option Session) → ((k : Life) → r ≡ Open k → ⊥) → ((k : Life) → r ≡ Close k → ⊥) → option_map (λ (f : Session). f.id) (effect r o) ≡ option_map (λ (f : Session). f.id) o
 id_row (Open k) o h g = absurd (h k refl)
 id_row (Close k) o h g = absurd (g k refl)
-id_row (Hold k) None h g = refl
-id_row (Hold k) (Some f) h g = refl
-id_row (Free k) None h g = refl
-id_row (Free k) (Some f) h g = refl
-id_row (Add k) None h g = refl
-id_row (Add k) (Some f) h g = refl
-id_row (Drop k) None h g = refl
-id_row (Drop k) (Some f) h g = refl
-id_row (Move k) None h g = refl
-id_row (Move k) (Some f) h g = refl
-id_row (Touch k) None h g = refl
-id_row (Touch k) (Some f) h g = refl
-id_row (Bind k) None h g = refl
-id_row (Bind k) (Some f) h g = refl
-id_row (Unbind k) None h g = refl
-id_row (Unbind k) (Some f) h g = refl
+id_row r None h g = refl
+id_row r (Some f) h g = refl
 
 pub ids_stay : (b : Book) (r : Record) → ((k : Life) → r ≡ Open k → ⊥) → ((k : Life) → r ≡ Close k → ⊥) → (q : ℕ) → id_at (after b r) q ≡ id_at b q
 ids_stay b r h g q =
@@ -149,20 +135,10 @@ startup_row : (r : Record) (o : Option Session) → Own r o → ((k : Binding) �
     → option_and_then (λ (f : Session). f.binding) (effect r o) ≡ option_and_then (λ (f : Session). f.binding) o
 startup_row (Open k) o own h g = sym (ap (option_and_then (λ (f : Session). f.binding)) own)
 startup_row (Close k) o own h g = sym (ap (option_and_then (λ (f : Session). f.binding)) own)
-startup_row (Hold k) None own h g = refl
-startup_row (Hold k) (Some f) own h g = refl
-startup_row (Free k) None own h g = refl
-startup_row (Free k) (Some f) own h g = refl
-startup_row (Add k) None own h g = refl
-startup_row (Add k) (Some f) own h g = refl
-startup_row (Drop k) None own h g = refl
-startup_row (Drop k) (Some f) own h g = refl
-startup_row (Move k) None own h g = refl
-startup_row (Move k) (Some f) own h g = refl
-startup_row (Touch k) None own h g = refl
-startup_row (Touch k) (Some f) own h g = refl
 startup_row (Bind k) o own h g = absurd (h k refl)
 startup_row (Unbind k) o own h g = absurd (g k refl)
+startup_row r None own h g = refl
+startup_row r (Some f) own h g = refl
 
 pub startups_stay : (b : Book) (r : Record) → Own r (get b (session_of r)) → ((k : Binding) → r ≡ Bind k → ⊥) → ((k : Binding) → r ≡ Unbind k → ⊥) → (q : ℕ) → startup_at (after b r) q ≡ startup_at b q
 startups_stay b r own h g q =

@@ -9,20 +9,21 @@ use Rattle.rtsp_record.specs.declared.holdings.Thing.TheVariants.{Pair, Port, Ch
 use Rattle.rtsp_record.specs.declared.holdings.Whole.{Whole}
 use Rattle.rtsp_record.specs.declared.payloads.Holding.{Holding}
 use Rattle.rtsp_record.specs.declared.changes.Record.{Record}
-use Rattle.rtsp_record.specs.declared.changes.Record.TheVariants.{Open, Close, Hold, Free, Add, Drop, Move, Touch, Bind, Unbind}
+use Rattle.rtsp_record.specs.declared.changes.Record.TheVariants.{Hold, Free}
 use Rattle.rtsp_record.specs.Records.{session_of}
 use Rattle.rtsp_record.specs.Books.{Session, Book, after}
-use Rattle.rtsp_record.specs.Sums.{one_if, covers, Spot, UdpPort, Channel, amount, covering, rates, held_rate}
+use Rattle.rtsp_record.specs.Sums.{Measure, one_if, covers, Spot, UdpPort, Channel, amount, covering, rates, held_rate}
 use Rattle.rtsp_record.specs.Rules.{InWhole, IsFree, Own, Living, MayFree}
 use Rattle.rtsp_record.specs.Sound.{SoundRow}
 use Rattle.rtsp_record.specs.Choices.{least_of, from_on, least_pair_by, least_port_by, least_pair, least_port, is_free, is_port_free, is_pair_free, is_chan_free}
 use Rattle.rtsp_record.proofs.Choices.{at_first, from_next}
 use Rattle.rtsp_record.proofs.Sound.{amount-empty}
 use Rattle.rtsp_record.proofs.Balance.{balance}
-use Rattle.rtsp_pools.specs.Pools.{is_free_chan, is_free_pair}
+use Rattle.rtsp_sessions.proofs.FreeLemmas.{free_pair, free_port, free_chan}
+use Rattle.rtsp_pools.specs.Pools.{is_free_port, is_free_pair, is_free_chan}
 use Rattle.rtsp_index.specs.declared.pools.Pools.{Pools}
-use Rattle.rtsp_index.specs.Following.{Follows, HoldsMore, IsHeld}
-use Rattle.rtsp_index.specs.Pooling.{ArePoolsOf}
+use Rattle.rtsp_index.specs.Following.{Follows}
+use Rattle.rtsp_index.specs.Pooling.{ArePoolsOf, IsFreeIn, IsHeldIn, IsTaken, IsGiven}
 
 -- In the empty book all is free.
 
@@ -55,16 +56,26 @@ pub chans_same : (b : Book) (p : Pools) (c : ℕ) → ArePoolsOf b p → (k : �
 chans_same b p c ok k = λ t. ok.chans c k t && ok.chans c (k + 1) t
 
 -- the two ports of a pair of the whole are ports of the whole
-pub first_port : (w : Whole) (q : ℕ) → InWhole w (Pair q) → InWhole w (Port q)
+first_port : (w : Whole) (q : ℕ) → InWhole w (Pair q) → InWhole w (Port q)
 first_port w q at = (2 * at.0, omega (arith, at.1), at.2)
 
-pub second_port : (w : Whole) (q : ℕ) → InWhole w (Pair q) → InWhole w (Port (q + 1))
+second_port : (w : Whole) (q : ℕ) → InWhole w (Pair q) → InWhole w (Port (q + 1))
 second_port w q at = (2 * at.0 + 1, omega (arith, at.1), omega (arith, at.2))
 
 pub pairs_same : (b : Book) (p : Pools) → ArePoolsOf b p → (q : ℕ) → InWhole p.pairs.whole (Pair q) → is_free_pair p.pairs q ≡ is_pair_free b q
 pairs_same b p ok q at = λ t. ok.ports q (first_port p.pairs.whole q at) t && ok.ports (q + 1) (second_port p.pairs.whole q at) t
 
 -- What is free beside a thing, and without it.
+
+-- the second book holds this beside what the first holds
+abbrev pub HoldsMore : Thing → Book → Book → Type 0
+HoldsMore x b c = (m : Measure) → amount m c ≡ amount m b + m.thing x
+
+-- the first book holds this, which is of the whole, and the second is without it
+pub record IsHeld (w : Whole) (x : Thing) (b c : Book) : Type 0 where
+  pub in_whole : InWhole w x
+  pub more : HoldsMore x c b
+  pub once : (q : Spot) → amount (covering q) b ≤ 1
 
 on : (p : ℕ) → (p == p) ≡ true
 on p = grind (arith, nat_tests)
@@ -76,21 +87,21 @@ or_on : (u v : Bool) → v ≡ true → (u || v) ≡ true
 or_on true v h = refl
 or_on false v h = h
 
-pub covers_port : (p : ℕ) → covers (UdpPort p) (Port p) ≡ true
+covers_port : (p : ℕ) → covers (UdpPort p) (Port p) ≡ true
 covers_port p = on p
 
-pub covers_first : (p : ℕ) → covers (UdpPort p) (Pair p) ≡ true
+covers_first : (p : ℕ) → covers (UdpPort p) (Pair p) ≡ true
 covers_first p = on_or (p == p) (p == p + 1) (on p)
 
-pub covers_second : (p : ℕ) → covers (UdpPort (p + 1)) (Pair p) ≡ true
+covers_second : (p : ℕ) → covers (UdpPort (p + 1)) (Pair p) ≡ true
 covers_second p = or_on (p + 1 == p) (p + 1 == p + 1) (on (p + 1))
 
-pub covers_channel : (c k : ℕ) → covers (Channel c k) (Chan c k) ≡ true
+covers_channel : (c k : ℕ) → covers (Channel c k) (Chan c k) ≡ true
 covers_channel c k = (λ t. on c t && (k == k || k == k + 1)) ∙ on_or (k == k) (k == k + 1) (on k)
 
 module _ (x : Thing) (b c : Book) (more : HoldsMore x b c) (q : Spot) where
   -- with the thing what it covers isn't free, and all else is as without it
-  pub free_beside : is_free c q ≡ (not (covers q x) && is_free b q)
+  free_beside : is_free c q ≡ (not (covers q x) && is_free b q)
   free_beside = beside (covers q x) (amount (covering q) b) (amount (covering q) c) (more (covering q))
     where
       beside : (t : Bool) (n m : ℕ) → m ≡ n + one_if t → (m == 0) ≡ (not t && n == 0)
@@ -100,16 +111,60 @@ module _ (x : Thing) (b c : Book) (more : HoldsMore x b c) (q : Spot) where
           some n h = grind (arith, nat_tests)
       beside false n m h = let same : m ≡ n = omega (arith, h) in ap (λ n. n == 0) same
 
-  pub isnt_free : covers q x ≡ true → is_free c q ≡ false
+  isnt_free : covers q x ≡ true → is_free c q ≡ false
   isnt_free is = free_beside ∙ ap (λ t. not t && is_free b q) is
 
   -- without it, where nothing is held twice, what it covers is free
-  pub free_without : amount (covering q) c ≤ 1 → is_free b q ≡ (covers q x || is_free c q)
+  free_without : amount (covering q) c ≤ 1 → is_free b q ≡ (covers q x || is_free c q)
   free_without once = without (covers q x) (amount (covering q) b) (amount (covering q) c) (more (covering q)) once
     where
       without : (t : Bool) (n m : ℕ) → m ≡ n + one_if t → m ≤ 1 → (n == 0) ≡ (t || m == 0)
       without true n m h le = let none : n ≡ 0 = omega (arith, h, le) in ap (λ n. n == 0) none
       without false n m h le = let same : n ≡ m = omega (arith, h) in ap (λ n. n == 0) same
+
+-- A thing in the pools and in the book.
+
+rate_is_free : (w : Whole) (b : Book) (n : ℕ) → amount rates b + n ≤ w.uplink → IsFree w b (Rate n)
+rate_is_free w b n fits = record { in_whole = tt; free = none; rate = fits }
+  where
+    none : (q : Spot) → covers q (Rate n) ≡ true → amount (covering q) b ≡ 0
+    none (UdpPort q) h = absurd cc
+    none (Channel c l) h = absurd cc
+
+pub same_free : (b : Book) (p : Pools) (x : Thing) → ArePoolsOf b p → InWhole p.pairs.whole x → (IsFreeIn p x → IsFree p.pairs.whole b x) × (IsFree p.pairs.whole b x → IsFreeIn p x)
+same_free b p (Pair q) ok at = free_pair p.pairs.whole b q (is_free_pair p.pairs q) at (pairs_same b p ok q at)
+same_free b p (Port q) ok at = free_port p.pairs.whole b q (is_free_port p.pairs q) at (ok.ports q at)
+same_free b p (Chan c k) ok at = free_chan p.pairs.whole b c k (is_free_chan p.chans c k) at (chans_same b p c ok k)
+same_free b p (Rate n) ok at = (λ h. rate_is_free p.pairs.whole b n (omega (arith, h, ok.rate, p.uplink)), λ f. omega (arith, f.rate, ok.rate, p.uplink))
+
+pub held_in : (b c : Book) (p : Pools) (x : Thing) → ArePoolsOf b p → IsHeld p.pairs.whole x b c → IsHeldIn p x
+held_in b c p (Pair q) ok is = (
+  ok.ports q (first_port p.pairs.whole q is.in_whole) ∙ isnt_free (Pair q) c b is.more (UdpPort q) (covers_first q),
+  ok.ports (q + 1) (second_port p.pairs.whole q is.in_whole) ∙ isnt_free (Pair q) c b is.more (UdpPort (q + 1)) (covers_second q),
+)
+held_in b c p (Port q) ok is = ok.ports q is.in_whole ∙ isnt_free (Port q) c b is.more (UdpPort q) (covers_port q)
+held_in b c p (Chan d k) ok is = ok.chans d k ∙ isnt_free (Chan d k) c b is.more (Channel d k) (covers_channel d k)
+held_in b c p (Rate n) ok is = omega (arith, ok.rate, is.more rates)
+
+pub pools_taken : (b c : Book) {x : Thing} {old new : Pools} → IsTaken x old new → HoldsMore x b c → ArePoolsOf b old → ArePoolsOf c new
+pools_taken b c {x = x} is more ok =
+    record {
+      ports = λ q at.
+          let inside = subst (λ w. InWhole w (Port q)) is.whole at in
+          is.ports q inside ∙ ap (λ t. not (covers (UdpPort q) x) && t) (ok.ports q inside) ∙ sym (free_beside x b c more (UdpPort q));
+      chans = λ d l. is.chans d l ∙ ap (λ t. not (covers (Channel d l) x) && t) (ok.chans d l) ∙ sym (free_beside x b c more (Channel d l));
+      rate = omega (arith, is.rate, ok.rate, more rates);
+    }
+
+pub pools_given : (b c : Book) {x : Thing} {old new : Pools} → IsGiven x old new → IsHeld old.pairs.whole x b c → ArePoolsOf b old → ArePoolsOf c new
+pools_given b c {x = x} is held ok =
+    record {
+      ports = λ q at.
+          let inside = subst (λ w. InWhole w (Port q)) is.whole at in
+          is.ports q inside ∙ ap (λ t. covers (UdpPort q) x || t) (ok.ports q inside) ∙ sym (free_without x c b held.more (UdpPort q) (held.once (UdpPort q)));
+      chans = λ d l. is.chans d l ∙ ap (λ t. covers (Channel d l) x || t) (ok.chans d l) ∙ sym (free_without x c b held.more (Channel d l) (held.once (Channel d l)));
+      rate = omega (arith, is.rate, ok.rate, held.more rates);
+    }
 
 -- Records.
 
@@ -120,10 +175,8 @@ held_after w b r k is =
 
 held_in_whole : (w : Whole) (a : ℕ) (x : Thing) (o : Option Session) → SoundRow w o → Living o (λ f. MayFree f a x) → InWhole w x
 held_in_whole w a x None ok h = absurd h
-held_in_whole w a (Pair p) (Some f) ok h = (ok.in_whole a (Pair p) h.held).0
-held_in_whole w a (Port p) (Some f) ok h = (ok.in_whole a (Port p) h.held).0
-held_in_whole w a (Chan c k) (Some f) ok h = (ok.in_whole a (Chan c k) h.held).0
 held_in_whole w a (Rate n) (Some f) ok h = tt
+held_in_whole w a x (Some f) ok h = (ok.in_whole a x h.held).0
 
 pub freed_after : (w : Whole) (b : Book) (r : Record) (k : Holding) → r ≡ Free k → Follows w b r → IsHeld w k.thing b (after b r)
 freed_after w b r k is =
@@ -139,16 +192,9 @@ abbrev pub HoldsSame : Book → Book → Type 0
 HoldsSame b c = ((q : Spot) → amount (covering q) c ≡ amount (covering q) b) × (held_rate c ≡ held_rate b)
 
 holds_same : (b : Book) (r : Record) → ((k : Holding) → r ≡ Hold k → ⊥) → ((k : Holding) → r ≡ Free k → ⊥) → Own r (get b (session_of r)) → HoldsSame b (after b r)
-holds_same b (Open k) h g own = (λ q. omega (arith, balance (covering q) b (Open k) own), omega (arith, balance rates b (Open k) own))
-holds_same b (Close k) h g own = (λ q. omega (arith, balance (covering q) b (Close k) own), omega (arith, balance rates b (Close k) own))
 holds_same b (Hold k) h g own = absurd (h k refl)
 holds_same b (Free k) h g own = absurd (g k refl)
-holds_same b (Add k) h g own = (λ q. omega (arith, balance (covering q) b (Add k) own), omega (arith, balance rates b (Add k) own))
-holds_same b (Drop k) h g own = (λ q. omega (arith, balance (covering q) b (Drop k) own), omega (arith, balance rates b (Drop k) own))
-holds_same b (Move k) h g own = (λ q. omega (arith, balance (covering q) b (Move k) own), omega (arith, balance rates b (Move k) own))
-holds_same b (Touch k) h g own = (λ q. omega (arith, balance (covering q) b (Touch k) own), omega (arith, balance rates b (Touch k) own))
-holds_same b (Bind k) h g own = (λ q. omega (arith, balance (covering q) b (Bind k) own), omega (arith, balance rates b (Bind k) own))
-holds_same b (Unbind k) h g own = (λ q. omega (arith, balance (covering q) b (Unbind k) own), omega (arith, balance rates b (Unbind k) own))
+holds_same b r h g own = (λ q. omega (arith, balance (covering q) b r own), omega (arith, balance rates b r own))
 
 pub pools_stay : (w : Whole) (b : Book) (r : Record) (p : Pools) → ((k : Holding) → r ≡ Hold k → ⊥) → ((k : Holding) → r ≡ Free k → ⊥) → Follows w b r → ArePoolsOf b p → ArePoolsOf (after b r) p
 pools_stay w b r p h g f ok =

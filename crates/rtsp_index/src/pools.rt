@@ -5,9 +5,9 @@ ghost use Rattle.std.specs.FinMap.{empty};
 ghost use Rattle.indexmap.specs.IndexMap.{spare};
 ghost use Rattle.rtsp_record.specs.Books.{Book, after};
 ghost use Rattle.rtsp_record.specs.Sums.{one_if, held_rate, Channel};
-ghost use Rattle.rtsp_record.specs.Rules.{IsFree};
+ghost use Rattle.rtsp_record.specs.Rules.{InWhole, IsFree};
 ghost use Rattle.rtsp_record.specs.Choices.{HasPorts, is_free, least_pair, least_port, chosen_chan};
-ghost use Rattle.rtsp_index.specs.Following.{Follows, HoldsMore, IsHeld, is_chan, is_chan_hold};
+ghost use Rattle.rtsp_index.specs.Following.{Follows, is_chan, is_chan_hold};
 
 use rtsp_pools::{ChanPool, PairPool, RatePool};
 use rtsp_record::{Record, Thing, Whole};
@@ -23,7 +23,7 @@ pub(crate) struct Pools {
 }
 
 impl Pools {
-    ghost use Rattle.rtsp_index.specs.Pooling.{ArePoolsOf};
+    ghost use Rattle.rtsp_index.specs.Pooling.{ArePoolsOf, IsFreeIn, IsHeldIn, IsTaken, IsGiven};
 
     /// All of the whole, free.
     pub(crate) fn open(alloc: Global, whole: &Whole) -> Result<Self, AllocError>
@@ -54,10 +54,9 @@ impl Pools {
 
     // Holds a thing that is free.
     fn hold(&mut self, thing: &Thing)
-        requires free { (b : Book) × IsFree self.old.pairs.whole b thing.now × ArePoolsOf b self.old }
+        requires free { InWhole self.old.pairs.whole thing.now × IsFreeIn self.old thing.now }
         requires room { one_if (is_chan thing.now) ≤ spare self.old.chans.held }
-        ensures whole { self.new.pairs.whole ≡ self.old.pairs.whole }
-        ensures held { (b c : Book) → IsFree self.old.pairs.whole b thing.now → HoldsMore thing.now b c → ArePoolsOf b self.old → ArePoolsOf c self.new }
+        ensures taken { IsTaken thing.now self.old self.new }
         ensures room { spare self.old.chans.held ≤ spare self.new.chans.held + one_if (is_chan thing.now) }
     {
         match *thing {
@@ -73,9 +72,8 @@ impl Pools {
 
     // Gives back a thing that is held.
     fn free(&mut self, thing: &Thing)
-        requires { (b c : Book) × IsHeld self.old.pairs.whole thing.now b c × ArePoolsOf b self.old }
-        ensures whole { self.new.pairs.whole ≡ self.old.pairs.whole }
-        ensures freed { (b c : Book) → IsHeld self.old.pairs.whole thing.now b c → ArePoolsOf b self.old → ArePoolsOf c self.new }
+        requires { InWhole self.old.pairs.whole thing.now × IsHeldIn self.old thing.now }
+        ensures given { IsGiven thing.now self.old self.new }
         ensures room { spare self.old.chans.held ≤ spare self.new.chans.held }
     {
         match *thing {
