@@ -9,7 +9,7 @@ use Rattle.rtsp_record.specs.declared.holdings.Thing.TheVariants.{Pair, Port, Ch
 use Rattle.rtsp_record.specs.declared.holdings.Whole.{Whole}
 use Rattle.rtsp_record.specs.declared.changes.Entry.{Entry}
 use Rattle.rtsp_record.specs.declared.changes.Record.{Record}
-use Rattle.rtsp_record.specs.declared.changes.Record.TheVariants.{Open, Close, Hold, Free, Add, Drop, Move, Touch, Bind, Unbind}
+use Rattle.rtsp_record.specs.declared.changes.Record.TheVariants.{Hold, Free}
 use Rattle.rtsp_record.specs.Records.{holds}
 use Rattle.rtsp_record.specs.Books.{Session, Book, after, after_all, records_of, book_of}
 use Rattle.rtsp_record.specs.declared.holdings.Admission.{Admission}
@@ -112,14 +112,7 @@ counted_after : (w : Whole) (b : Book) (r : Record) → Sound w b → Allowed w 
 counted_after w b (Hold k) ok h = counted_hold w b k.session k.admission k.thing h
 counted_after w b (Free k) ok h =
     sym (counted_hold w (after b (Free k)) k.session k.admission k.thing (allowed-inverse w b (Free k) ok h)) ∙ ap (counted w) (after-inverse w b (Free k) ok h)
-counted_after w b (Open k) ok h = counted_still w b (after b (Open k)) (λ g. omega (arith, balance (things g) b (Open k) h.0))
-counted_after w b (Close k) ok h = counted_still w b (after b (Close k)) (λ g. omega (arith, balance (things g) b (Close k) h.0))
-counted_after w b (Add k) ok h = counted_still w b (after b (Add k)) (λ g. omega (arith, balance (things g) b (Add k) h.0))
-counted_after w b (Drop k) ok h = counted_still w b (after b (Drop k)) (λ g. omega (arith, balance (things g) b (Drop k) h.0))
-counted_after w b (Move k) ok h = counted_still w b (after b (Move k)) (λ g. omega (arith, balance (things g) b (Move k) h.0))
-counted_after w b (Touch k) ok h = counted_still w b (after b (Touch k)) (λ g. omega (arith, balance (things g) b (Touch k) h.0))
-counted_after w b (Bind k) ok h = counted_still w b (after b (Bind k)) (λ g. omega (arith, balance (things g) b (Bind k) h.0))
-counted_after w b (Unbind k) ok h = counted_still w b (after b (Unbind k)) (λ g. omega (arith, balance (things g) b (Unbind k) h.0))
+counted_after w b r ok h = counted_still w b (after b r) (λ g. omega (arith, balance (things g) b r h.0))
 
 counted_all : (w : Whole) (b : Book) (rs : List Record) → Sound w b → AllAllowed w b rs → counted w (after_all b rs) ≡ counted w b
 counted_all w b [] ok h = refl

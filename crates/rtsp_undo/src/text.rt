@@ -1,6 +1,6 @@
 //! The text of a book.
 
-ghost use Rattle.std.specs.Prelude.{◌≡◌, ◌∷◌, [], ◌++◌, ◌≤◌, decimal, OnOk, OnErr};
+ghost use Rattle.std.specs.Prelude.{◌≡◌, ◌+◌, ◌*◌, ◌∷◌, [], ◌++◌, ◌≤◌, decimal, OnOk, OnErr};
 ghost use Rattle.std.specs.List.{AllByRecursion};
 ghost use Rattle.rtsp_text.specs.Appending.{Appends};
 ghost use Rattle.rtsp_record.specs.Records.{session_of};
@@ -14,9 +14,9 @@ mod lines;
 mod sessions;
 
 use rtsp_book::{BookRep, Kept};
-use rtsp_record::{Entry, Field, write_line};
+use rtsp_record::{Entry, Field, Whole, write_line};
 use rtsp_text::all_or_nothing;
-use sessions::write_sessions;
+use sessions::{Held, write_sessions};
 use std::alloc::AllocError;
 
 /// Writes the text of the book at the end: for each living session its lines, by ascending number, and then the bits
@@ -52,10 +52,17 @@ fn write_book<B: BookRep>(out: &mut Vec<u8>, kept: &Kept<B>) -> Result<(), Alloc
     let whole = kept.whole();
     let held = write_sessions(out, book, last_session(kept.journal()))?;
     let rate = book.held_rate();
-    let ports = 2 * u64::from(whole.pairs);
     write_held(out, b"rate", rate, whole.uplink - rate)?;
     write_held(out, b"pairs", held.pairs, u64::from(free_pairs(book)))?;
-    write_singles(out, held.singles, ports - 2 * held.pairs - held.singles)
+    write_singles(out, held.singles, free_ports(whole, held))
+}
+
+// How many ports nothing covers.
+fn free_ports(whole: &Whole, held: Held) -> u64
+    requires { 2 * held.pairs + held.singles ≤ 2 * whole.now.pairs }
+    ensures { result + 2 * held.pairs + held.singles ≡ 2 * whole.now.pairs }
+{
+    2 * u64::from(whole.pairs) - 2 * held.pairs - held.singles
 }
 
 // The line of how much is held and how much is free.

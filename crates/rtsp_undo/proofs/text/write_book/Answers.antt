@@ -1,4 +1,4 @@
-use Rattle.std.proofs.Common.{◌≡◌, ◌*◌, ◌-◌, ◌++◌, ◌∷◌, [], codes, decimal, arith, sym, ◌∙◌, ap, subst}
+use Rattle.std.proofs.Common.{◌≡◌, ◌-◌, ◌++◌, ◌∷◌, [], codes, decimal, arith, sym, ◌∙◌, ap, subst}
 use Rattle.std.specs.List.{flat_map}
 use Rattle.std.specs.FinMap.{get, entries}
 use Rattle.rtsp_record.specs.Books.{Book, book_of}
@@ -37,29 +37,13 @@ overflow_sub-whole g c =
       ap (λ (w : Whole). w.uplink) c.whole-whole.ensures.value,
     )
 
-pub overflow_mul-held : goal.overflow_mul-held
-overflow_mul-held g c =
+pub free_ports-requires : goal.free_ports-requires
+free_ports-requires g c =
     let h = c.args.kept.now in
     let contents = c.book-book.ensures.contents in
     let held = c.in_ok-held.ensures in
     let all = ap (λ (w : Whole). w.pairs) c.whole-whole.ensures.value in
-    omega (arith, ports_left h.whole h.journal c.journal.ensures.legal, held.pairs, held.singles, ap (amount pairs) contents, ap (amount singles) contents, c.from-ports.ensures, all)
-
-pub overflow_sub-ports : goal.overflow_sub-ports
-overflow_sub-ports g c =
-    let h = c.args.kept.now in
-    let contents = c.book-book.ensures.contents in
-    let held = c.in_ok-held.ensures in
-    let all = ap (λ (w : Whole). w.pairs) c.whole-whole.ensures.value in
-    omega (arith, ports_left h.whole h.journal c.journal.ensures.legal, held.pairs, held.singles, ap (amount pairs) contents, ap (amount singles) contents, c.from-ports.ensures, all)
-
-pub overflow_sub-ports-2 : goal.overflow_sub-ports-2
-overflow_sub-ports-2 g c =
-    let h = c.args.kept.now in
-    let contents = c.book-book.ensures.contents in
-    let held = c.in_ok-held.ensures in
-    let all = ap (λ (w : Whole). w.pairs) c.whole-whole.ensures.value in
-    omega (arith, ports_left h.whole h.journal c.journal.ensures.legal, held.pairs, held.singles, ap (amount pairs) contents, ap (amount singles) contents, c.from-ports.ensures, all)
+    omega (arith, ports_left h.whole h.journal c.journal.ensures.legal, held.pairs, held.singles, ap (amount pairs) contents, ap (amount singles) contents, all)
 
 pub returns-in_err-write_held-2 : goal.returns-in_err-write_held-2
 returns-in_err-write_held-2 g c =
@@ -94,6 +78,6 @@ returns g c =
     let free : c.from.result ≡ free_pairs w b = c.from.ensures ∙ c.free_pairs.ensures ∙ (λ i. free_pairs (c.book-book.ensures.whole i) (contents i)) in
     let twos : third ≡ second ++ pairs_line w b = c.in_ok-write_held-2.ensures ∙ (λ i. second ++ line_text (codes "pairs" ∷ decimal (paired i) ∷ decimal (free i) ∷ [])) in
     let single : c.in_ok-held.held.singles ≡ amount singles b = counts.singles ∙ ap (amount singles) contents in
-    let left : 2 * c.from-ports.result - 2 * c.in_ok-held.held.pairs - c.in_ok-held.held.singles ≡ free_ports w b = omega (arith, ports_left w h.journal c.journal.ensures.legal, paired, single, c.from-ports.ensures, ap (λ (w : Whole). w.pairs) whole) in
+    let left : c.free_ports.result ≡ free_ports w b = omega (arith, ports_left w h.journal c.journal.ensures.legal, paired, single, c.free_ports.ensures, ap (λ (w : Whole). w.pairs) whole) in
     let ends : Appends result third new (ports_line w b) = subst (Appends result third new) (λ i. singles_line (single i) (left i)) c.write_singles.ensures in
     appends_four result old first second third new (flat_map session_text (entries b)) (rate_line w b) (pairs_line w b) (ports_line w b) sessions rates twos ends
