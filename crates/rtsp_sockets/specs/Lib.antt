@@ -1,5 +1,6 @@
 pub mod Rooms
 pub mod Passing
+pub mod Sockets
 pub mod Slots
 pub mod RandomWords
 pub mod Clocks

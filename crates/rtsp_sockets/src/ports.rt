@@ -1,5 +1,8 @@
 //! The sockets of the ports that are bound.
 
+ghost use Rattle.std.specs.Prelude.{◌≡◌, IfSome};
+ghost use Rattle.rtsp_sockets.specs.Sockets.{sockets_in, ports_of};
+
 use crate::options::drop_input;
 use crate::slots::{Bound, Slots, Width};
 use std::alloc::{AllocError, Global};
@@ -117,7 +120,10 @@ fn open_socket<R: Net>(rt: &R, port: u16) -> Option<UdpSocket> {
     }
 }
 
-fn open_sockets<R: Net>(rt: &R, width: Width, port: u16) -> Option<PortSockets> {
+// The sockets of an address, one of each of its ports.
+fn open_sockets<R: Net>(rt: &R, width: Width, port: u16) -> Option<PortSockets>
+    ensures { IfSome result (λ s. sockets_in s ≡ ports_of width) }
+{
     let rtp = open_socket(rt, port)?;
     let rtcp = match width {
         Width::Pair => Some(open_socket(rt, port.saturating_add(1))?),
