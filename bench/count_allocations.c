@@ -4,6 +4,7 @@
 #include <link.h>
 #include <stdio.h>
 #include <stdlib.h>
+#include <sys/syscall.h>
 #include <unistd.h>
 
 enum { WRITES = 1 << 20 };
@@ -33,6 +34,13 @@ __attribute__((destructor)) static void end(void) {
         fprintf(file, "%lu\n", at_write[i]);
     if (file)
         fclose(file);
+}
+
+/* A program that ends by this runs no destructors. */
+void _exit(int status) {
+    end();
+    syscall(SYS_exit_group, status);
+    __builtin_unreachable();
 }
 
 static void count(void *caller) {
