@@ -1,5 +1,6 @@
 //! The first line of a message.
 
+ghost use Rattle.std.specs.Prelude.{◌≡◌, IfOk};
 ghost use Rattle.rtsp_grammar.specs.declared.fault.MessageFault.TheVariants.{OutOfMemory};
 ghost use Rattle.rtsp_text.specs.Results.{Gives};
 ghost use Rattle.rtsp_grammar.specs.Reading.{start_of, request_line_of, status_line_of, status_of};
@@ -9,7 +10,7 @@ use crate::method::Method;
 use crate::version::{Version, is_version};
 use crate::words::{is_method, is_uri};
 use rtsp_text::{Text, split_once};
-use std::alloc::Global;
+use std::alloc::{AllocError, Global};
 
 const URI_LIMIT: usize = 1024;
 
@@ -26,6 +27,16 @@ pub enum StartLine {
         status: u16,
         reason: Text,
     },
+}
+
+// A request URI; `*` takes no memory.
+fn uri_text(alloc: Global, uri: &[u8]) -> Result<Text, AllocError>
+    ensures { IfOk result (λ text. text ≡ uri.now) }
+{
+    if uri == b"*".as_slice() {
+        return Ok(Text::fixed(b"*"));
+    }
+    Text::from_slice(alloc, uri)
 }
 
 #[tactic(auto, unfolding(crate::specs::Reading::request_line_of))]
@@ -46,7 +57,7 @@ fn request_line_of(alloc: Global, line: &[u8]) -> Result<StartLine, MessageFault
     }
     Ok(StartLine::Request {
         method: Method::from_slice(alloc, method)?,
-        uri: Text::from_slice(alloc, uri)?,
+        uri: uri_text(alloc, uri)?,
         version: Version::from_slice(alloc, version)?,
     })
 }

@@ -56,6 +56,9 @@ pub fn is_version(text: &[u8]) -> bool
 fn is_version_2_0(text: &[u8]) -> bool
     ensures { result ≡ is_version_2_0 text.now }
 {
+    if text == b"RTSP/2.0".as_slice() {
+        return true;
+    }
     if !is_version(text) {
         return false;
     }

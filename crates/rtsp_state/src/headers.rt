@@ -139,12 +139,21 @@ pub fn put_opened(room: &mut Room, id: u128, timeout: u32)
     put_end(room);
 }
 
+// The line that tells all methods, which is one text, since each OPTIONS is answered with it.
+#[tactic(auto, unfolding(crate::specs::Words::name_of_field, crate::specs::Words::text_of))]
+fn public_line() -> &'static [u8]
+    ensures text { result.now ≡ header_text public_line }
+    ensures short { length result.now ≤ 97 }
+{
+    b"Public: OPTIONS, DESCRIBE, SETUP, PLAY, PAUSE, TEARDOWN, GET_PARAMETER, SET_PARAMETER\r\n"
+}
+
 pub fn put_public(room: &mut Room)
     requires { 97 ≤ room.old.spare }
     ensures text { room.new.text ≡ room.old.text ++ header_text public_line }
     ensures room { Takes room.old room.new 97 }
 {
-    put_fixed(room, Field::Public, Word::AllMethods);
+    room.put(public_line());
 }
 
 pub fn put_allow(room: &mut Room)

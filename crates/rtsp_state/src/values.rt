@@ -23,10 +23,13 @@ use std::borrow::CowSlice;
 pub fn single_value<'a>(headers: &'a Headers, name: &[u8]) -> Result<Option<&'a [u8]>, Fault>
     ensures { IsBy (option_map (λ v. v.now)) result (single_value name.now headers.now) }
 {
-    if headers.count_of(name) > 1 {
+    let Some(value) = headers.nth_value(name, 0) else {
+        return Ok(None);
+    };
+    if headers.nth_value(name, 1).is_some() {
         return Err(Fault::Refused(Status::BadRequest));
     }
-    Ok(headers.nth_value(name, 0))
+    Ok(Some(value))
 }
 
 /// Writes texts one after another, with a comma and a space between them.
