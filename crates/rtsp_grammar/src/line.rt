@@ -27,7 +27,8 @@ fn plain_len(bytes: &[u8]) -> usize
     ensures { IsSpan is_line_byte bytes.now result }
 {
     for (i, b) in bytes.iter().enumerate() {
-        if *b == CR || *b == LF {
+        // Nearly every byte is above both.
+        if *b <= CR && (*b == CR || *b == LF) {
             return i;
         }
     }

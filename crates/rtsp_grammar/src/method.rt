@@ -4,6 +4,7 @@ ghost use Rattle.std.specs.Prelude.{◌≡◌, IfOk, IfSome, IfNone};
 ghost use Rattle.rtsp_grammar.specs.Method.{method_name, method_of};
 ghost use Rattle.rtsp_grammar.specs.declared.method.Method.TheVariants.{Other};
 
+use crate::words::is_word;
 use rtsp_text::Text;
 use std::alloc::{AllocError, Global};
 
@@ -63,34 +64,34 @@ fn standard_method(name: &[u8]) -> Option<Method>
     ensures some { IfSome result (λ method. method ≡ method_of name.now) }
     ensures none { IfNone result (method_of name.now ≡ Other name.now) }
 {
-    if name == b"OPTIONS".as_slice() {
+    if is_word(name, b"OPTIONS") {
         return Some(Method::Options);
     }
-    if name == b"SETUP".as_slice() {
+    if is_word(name, b"SETUP") {
         return Some(Method::Setup);
     }
-    if name == b"PLAY".as_slice() {
+    if is_word(name, b"PLAY") {
         return Some(Method::Play);
     }
-    if name == b"PAUSE".as_slice() {
+    if is_word(name, b"PAUSE") {
         return Some(Method::Pause);
     }
-    if name == b"TEARDOWN".as_slice() {
+    if is_word(name, b"TEARDOWN") {
         return Some(Method::Teardown);
     }
-    if name == b"DESCRIBE".as_slice() {
+    if is_word(name, b"DESCRIBE") {
         return Some(Method::Describe);
     }
-    if name == b"GET_PARAMETER".as_slice() {
+    if is_word(name, b"GET_PARAMETER") {
         return Some(Method::GetParameter);
     }
-    if name == b"SET_PARAMETER".as_slice() {
+    if is_word(name, b"SET_PARAMETER") {
         return Some(Method::SetParameter);
     }
-    if name == b"PLAY_NOTIFY".as_slice() {
+    if is_word(name, b"PLAY_NOTIFY") {
         return Some(Method::PlayNotify);
     }
-    if name == b"REDIRECT".as_slice() {
+    if is_word(name, b"REDIRECT") {
         return Some(Method::Redirect);
     }
     None

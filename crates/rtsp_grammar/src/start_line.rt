@@ -33,7 +33,7 @@ pub enum StartLine {
 fn uri_text(alloc: Global, uri: &[u8]) -> Result<Text, AllocError>
     ensures { IfOk result (λ text. text ≡ uri.now) }
 {
-    if uri == b"*".as_slice() {
+    if matches!(uri, b"*") {
         return Ok(Text::fixed(b"*"));
     }
     Text::from_slice(alloc, uri)
@@ -98,8 +98,8 @@ fn status_line_of(alloc: Global, line: &[u8]) -> Result<StartLine, MessageFault>
 pub fn start_of(alloc: Global, line: &[u8]) -> Result<StartLine, MessageFault>
     ensures { Gives OutOfMemory result (start_of line.now) }
 {
-    if line.starts_with(b"RTSP/") {
-        return status_line_of(alloc, line);
+    match line {
+        [b'R', b'T', b'S', b'P', b'/', ..] => status_line_of(alloc, line),
+        _ => request_line_of(alloc, line),
     }
-    request_line_of(alloc, line)
 }

@@ -5,6 +5,7 @@ ghost use Rattle.rtsp_grammar.specs.Reading.{is_version, is_version_2_0, version
 ghost use Rattle.rtsp_grammar.specs.Version.{version_text};
 
 use crate::number::number;
+use crate::words::is_word;
 use rtsp_text::{Text, is_number, split_once};
 use std::alloc::{AllocError, Global};
 
@@ -44,10 +45,10 @@ impl Version {
 pub fn is_version(text: &[u8]) -> bool
     ensures { result ≡ is_version text.now }
 {
-    if !text.starts_with(b"RTSP/") {
+    let [b'R', b'T', b'S', b'P', b'/', numbers @ ..] = text else {
         return false;
-    }
-    match split_once(&text[5..], b'.') {
+    };
+    match split_once(numbers, b'.') {
         Some((major, minor)) => is_number(major) && is_number(minor),
         None => false,
     }
@@ -56,7 +57,7 @@ pub fn is_version(text: &[u8]) -> bool
 fn is_version_2_0(text: &[u8]) -> bool
     ensures { result ≡ is_version_2_0 text.now }
 {
-    if text == b"RTSP/2.0".as_slice() {
+    if is_word(text, b"RTSP/2.0") {
         return true;
     }
     if !is_version(text) {

@@ -1,6 +1,6 @@
 //! Classes of bytes that only messages have, and the words that are made of them.
 
-ghost use Rattle.std.specs.Prelude.{◌≡◌};
+ghost use Rattle.std.specs.Prelude.{◌≡◌, bytes_eq};
 ghost use Rattle.std.specs.List.{list_all};
 ghost use Rattle.rtsp_grammar.specs.Bytes.{is_uri_byte, is_value_byte};
 ghost use Rattle.rtsp_grammar.specs.Words.{is_method, is_uri};
@@ -16,7 +16,7 @@ fn is_uri_byte(b: u8) -> bool
 fn is_value_byte(b: u8) -> bool
     ensures { result ≡ is_value_byte b }
 {
-    b == b'\t' || (b >= b' ' && b != 0x7f)
+    (b >= b' ' && b != 0x7f) || b == b'\t'
 }
 
 fn are_uri_bytes(bytes: &[u8]) -> bool
@@ -32,11 +32,18 @@ pub fn are_value_bytes(bytes: &[u8]) -> bool
     bytes.iter().all(|b| is_value_byte(*b))
 }
 
+/// Whether a text is this word. One of another length costs no look at its bytes.
+pub fn is_word(text: &[u8], word: &[u8]) -> bool
+    ensures { result ≡ bytes_eq text.now word.now }
+{
+    text.len() == word.len() && text == word
+}
+
 /// Whether this may name a method: a token that doesn't begin as a frame does.
 pub fn is_method(bytes: &[u8]) -> bool
     ensures { result ≡ is_method bytes.now }
 {
-    is_token(bytes) && !bytes.starts_with(b"$")
+    !matches!(bytes, [b'$', ..]) && is_token(bytes)
 }
 
 /// Whether this may be a URI: visible ASCII.

@@ -1,4 +1,6 @@
 pub mod ReadLemmas
+pub mod PortLemmas
+pub mod PlainUriLemmas
 pub mod ListLemmas
 pub mod IdLemmas
 pub mod PickLemmas
@@ -13,3 +15,4 @@ pub mod RenewalLemmas
 pub mod RoomLemmas
 pub mod MessageLemmas
 pub mod ReplyLemmas
+pub mod SingleLemmas

@@ -90,3 +90,14 @@ message_one status hs old a b new p q r = message status hs [] old a b new new p
 -- with two lots of headers and no body
 pub message_two : (status : Status) (xs ys : List HeaderText) (old a b c new : List ℕ) → a ≡ old ++ status_line status → b ≡ a ++ headers_text xs → c ≡ b ++ headers_text ys → new ≡ c ++ 13 ∷ 10 ∷ [] → new ≡ old ++ response_text (response status (xs ++ ys) [])
 message_two status xs ys old a b c new p q r s = message_one status (xs ++ ys) old a c new p (headers_two a b c xs ys q r) s
+
+-- a text in two parts, after another
+pub in_two : (old first rest new : List ℕ) → new ≡ old ++ (first ++ rest) → new ≡ (old ++ first) ++ rest
+in_two old first rest new e = e ∙ sym (append_assoc old first rest)
+
+-- the first line with the line of the number begun, and the lines after it
+pub done_start : (line : List ℕ) (field : Field) (value old a b c new : List ℕ) (xs : List HeaderText) → a ≡ old ++ (line ++ header_name field) → b ≡ a ++ value → c ≡ b ++ 13 ∷ 10 ∷ [] → new ≡ c ++ headers_text xs
+    → new ≡ old ++ (line ++ headers_text (record { name = name_of_field field; value = value } ∷ xs))
+done_start line field value old a b c new xs p q r s =
+    let first : HeaderText = record { name = name_of_field field; value = value } in
+    headers_first (old ++ line) c new first xs (line_of field value (old ++ line) a b c (in_two old line (header_name field) a p) q r) s ∙ append_assoc old line (headers_text (first ∷ xs))

@@ -7,6 +7,8 @@ pub mod Lines
 pub mod Info
 pub mod Response
 pub mod Values
+pub mod MediaBase
+pub mod PlainUri
 pub mod ParsedRequest
 pub mod OrderOfRefusals
 pub mod Screen

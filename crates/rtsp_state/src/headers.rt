@@ -5,10 +5,12 @@ ghost use Rattle.rtsp_grammar.specs.Writing.{header_text, headers_text};
 ghost use Rattle.rtsp_text.specs.Hexadecimal.{hex_text};
 ghost use Rattle.rtsp_npt.specs.Printed.{time_text};
 ghost use Rattle.rtsp_state.specs.Room.{Takes};
-ghost use Rattle.rtsp_state.specs.FixedText.{header_name, word_room};
+ghost use Rattle.rtsp_state.specs.FixedText.{header_name, word_room, status_line};
 ghost use Rattle.rtsp_state.specs.Words.{name_of_field, text_of};
 ghost use Rattle.rtsp_state.specs.Lines.{cseq_line, session_line, opened_line, public_line, allow_line, unsupported_line, granted_of, granted_text, transport_line, accept_ranges_line, properties_line, media_range_line, range_line, seek_line, base_line, type_line, length_line, session_lines, start_lines};
 ghost use Rattle.rtsp_state.specs.declared.words.Word.TheVariants as words;
+ghost use Rattle.rtsp_state.specs.declared.words.Field.TheVariants as fields;
+ghost use Rattle.rtsp_state.specs.declared.status.Status.TheVariants as statuses;
 
 use crate::media_base::MediaBase;
 use crate::response_start::ResponseStart;
@@ -139,21 +141,21 @@ pub fn put_opened(room: &mut Room, id: u128, timeout: u32)
     put_end(room);
 }
 
-// The line that tells all methods, which is one text, since each OPTIONS is answered with it.
+// The line that tells all methods and the end of the headers: one text, since each OPTIONS is answered with it.
 #[tactic(auto, unfolding(crate::specs::Words::name_of_field, crate::specs::Words::text_of))]
-fn public_line() -> &'static [u8]
-    ensures text { result.now ≡ header_text public_line }
-    ensures short { length result.now ≤ 97 }
+fn public_end() -> &'static [u8]
+    ensures text { result.now ≡ header_text public_line ++ 13 ∷ 10 ∷ [] }
+    ensures short { length result.now ≤ 99 }
 {
-    b"Public: OPTIONS, DESCRIBE, SETUP, PLAY, PAUSE, TEARDOWN, GET_PARAMETER, SET_PARAMETER\r\n"
+    b"Public: OPTIONS, DESCRIBE, SETUP, PLAY, PAUSE, TEARDOWN, GET_PARAMETER, SET_PARAMETER\r\n\r\n"
 }
 
-pub fn put_public(room: &mut Room)
-    requires { 97 ≤ room.old.spare }
-    ensures text { room.new.text ≡ room.old.text ++ header_text public_line }
-    ensures room { Takes room.old room.new 97 }
+pub fn put_public_end(room: &mut Room)
+    requires { 99 ≤ room.old.spare }
+    ensures text { room.new.text ≡ room.old.text ++ (header_text public_line ++ 13 ∷ 10 ∷ []) }
+    ensures room { Takes room.old room.new 99 }
 {
-    room.put(public_line());
+    room.put(public_end());
 }
 
 pub fn put_allow(room: &mut Room)
@@ -316,5 +318,26 @@ pub fn put_response_start(room: &mut Room, start: ResponseStart)
     ensures room { Takes room.old room.new 82 }
 {
     put_cseq(room, start.cseq);
+    put_shown_session(room, start.session);
+}
+
+// The first line of a response to what is done, and the name of its next header: one text, since nearly all begin so.
+#[tactic(auto, unfolding(crate::specs::FixedText::status_line, crate::specs::FixedText::header_name, crate::specs::Words::name_of_field))]
+fn done_start() -> &'static [u8]
+    ensures text { result.now ≡ status_line statuses.Success ++ header_name fields.CSeq }
+    ensures short { length result.now ≤ 25 }
+{
+    b"RTSP/2.0 200 OK\r\nCSeq: "
+}
+
+// The first line of a response to what is done, the number of the request, and the session.
+pub fn put_done_start(room: &mut Room, start: ResponseStart)
+    requires { 142 ≤ room.old.spare }
+    ensures text { room.new.text ≡ room.old.text ++ (status_line statuses.Success ++ headers_text (start_lines start)) }
+    ensures room { Takes room.old room.new 142 }
+{
+    room.put(done_start());
+    room.put_decimal(start.cseq);
+    put_end(room);
     put_shown_session(room, start.session);
 }

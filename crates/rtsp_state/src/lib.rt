@@ -16,6 +16,7 @@ mod options;
 mod order_of_refusals;
 mod parameters;
 mod pause;
+mod plain_uri;
 mod plan;
 mod play;
 mod refusals;

@@ -1,25 +1,51 @@
 //! The URI of media, to which the names of tracks are joined.
 
-ghost use Rattle.std.specs.Prelude.{◌≡◌, ◌++◌};
+ghost use Rattle.std.specs.Prelude.{◌≡◌, ◌++◌, IfOk};
 ghost use Rattle.rtsp_state.specs.Values.{bare_text, with_slash};
+ghost use Rattle.rtsp_state.specs.MediaBase.{written_text};
 
+use rtsp_grammar::Text;
+use std::alloc::{AllocError, Global};
 use std::marker::Model;
 use url::{Position, Url};
+
+/// The URI as it is kept: as its parser gave it, or the text of one that needs no parser.
+#[derive(Debug, Drop)]
+enum Written {
+    Parsed(Url),
+    Plain(Text),
+}
+
+impl Written {
+    /// The URI without query and fragment.
+    fn bare(&self) -> &[u8]
+        ensures { result.now ≡ written_text self.now }
+    {
+        match self {
+            Written::Parsed(url) => {
+                let bare = url.slice(Position::BeforeScheme, Position::AfterPath);
+                bare.as_bytes()
+            }
+            Written::Plain(text) => text.as_bytes(),
+        }
+    }
+}
 
 /// The URI of media as it is written, without query and fragment and with one slash at its end: the
 /// names of tracks are joined to it. A contract sees its bytes.
 #[derive(Debug, Drop)]
 pub struct MediaBase {
-    url: Url,
+    written: Written,
 }
 
 impl Model for MediaBase {
     ghost use Rattle.std.specs.Prelude.{List, ℕ};
-    ghost use Rattle.rtsp_state.specs.Values.{bare_text, with_slash};
+    ghost use Rattle.rtsp_state.specs.Values.{with_slash};
+    ghost use Rattle.rtsp_state.specs.MediaBase.{written_text};
 
     ghost Value = { List ℕ };
 
-    ghost view = { λ b. with_slash (bare_text b.url) };
+    ghost view = { λ b. with_slash (written_text b.written) };
 }
 
 impl MediaBase {
@@ -27,16 +53,31 @@ impl MediaBase {
     pub(crate) fn new(url: Url) -> MediaBase
         ensures { result ≡ with_slash (bare_text url) }
     {
-        MediaBase { url }
+        MediaBase {
+            written: Written::Parsed(url),
+        }
     }
 
-    /// The bytes, in two parts: those of the URL, and the slash that they may lack.
+    /// What the tracks under a plain URI are joined to: a copy of its text.
+    pub(crate) fn plain(alloc: Global, text: &[u8]) -> Result<MediaBase, AllocError>
+        ensures { IfOk result (λ base. base ≡ with_slash text.now) }
+    {
+        let text = Text::from_slice(alloc, text)?;
+        Ok(MediaBase {
+            written: Written::Plain(text),
+        })
+    }
+
+    /// The bytes, in two parts: those of the URI, and the slash that they may lack.
     #[tactic(auto, unfolding(crate::specs::Values::with_slash))]
     pub fn parts(&self) -> (&[u8], &'static [u8])
         ensures { result.0.now ++ result.1.now ≡ self.now }
     {
-        let bare = self.url.slice(Position::BeforeScheme, Position::AfterPath);
-        let slash: &'static [u8] = if bare.ends_with('/') { b"" } else { b"/" };
-        (bare.as_bytes(), slash)
+        let bare = self.written.bare();
+        let slash: &'static [u8] = match bare {
+            [.., b'/'] => b"",
+            _ => b"/",
+        };
+        (bare, slash)
     }
 }

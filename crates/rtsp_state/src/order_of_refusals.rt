@@ -3,14 +3,16 @@
 
 ghost use Rattle.std.specs.Prelude.{◌≡◌, codes, option_map, Some, None};
 ghost use Rattle.rtsp_text.specs.Slices.{texts};
-ghost use Rattle.rtsp_state.specs.Values.{uri_of};
+ghost use Rattle.rtsp_content.specs.Paths.{find_of};
+ghost use Rattle.rtsp_state.specs.Values.{uri_of, with_slash};
 ghost use Rattle.rtsp_state.specs.Fault.{Gives, GivesBy};
-ghost use Rattle.rtsp_state.specs.OrderOfRefusals.{unless_unknown, cseq_of, version_rule, require_of_value, require_rule, media_of, target_of, session_named, startup_named, name_of_values, name_of, asked_of};
+ghost use Rattle.rtsp_state.specs.OrderOfRefusals.{unless_unknown, cseq_of, version_rule, require_of_value, require_rule, target_at, media_of, target_of, session_named, startup_named, name_of_values, name_of, asked_of};
 ghost use Rattle.rtsp_state.specs.Method.{takes_star};
 
 use crate::fault::{Fault, must};
 use crate::media_base::MediaBase;
 use crate::method::{Method, needs_session};
+use crate::plain_uri::plain_path;
 use crate::request::{Name, Target};
 use crate::status::Status;
 use crate::uri::read_uri;
@@ -87,7 +89,25 @@ fn takes_star(method: Method) -> bool
     matches!(method, Method::GetParameter | Method::SetParameter)
 }
 
-fn media_of(alloc: Global, table: &Table, text: &[u8]) -> Result<Target, Fault>
+/// What the path of a plain URI names. Only what is found is copied.
+fn plain_media(alloc: Global, table: &Table, text: &[u8], path: &[u8]) -> Result<Target, Fault>
+    ensures { Gives result (target_at (with_slash text.now) (find_of table.now path.now)) }
+{
+    match table.find(path) {
+        Found::Nothing => Err(Fault::Refused(Status::NotFound)),
+        Found::Presentation(presentation) => {
+            let base = MediaBase::plain(alloc, text)?;
+            Ok(Target::Presentation(base, presentation))
+        }
+        Found::Track(presentation, track) => {
+            let base = MediaBase::plain(alloc, text)?;
+            Ok(Target::Track(base, presentation, track))
+        }
+    }
+}
+
+/// What the path of any other URI names.
+fn parsed_media(alloc: Global, table: &Table, text: &[u8]) -> Result<Target, Fault>
     ensures { Gives result (media_of table.now (uri_of text.now)) }
 {
     let Some(url) = read_uri(alloc, text)? else {
@@ -104,13 +124,22 @@ fn media_of(alloc: Global, table: &Table, text: &[u8]) -> Result<Target, Fault>
     }
 }
 
+fn media_of(alloc: Global, table: &Table, text: &[u8]) -> Result<Target, Fault>
+    ensures { Gives result (media_of table.now (uri_of text.now)) }
+{
+    match plain_path(text) {
+        Some(path) => plain_media(alloc, table, text, path),
+        None => parsed_media(alloc, table, text),
+    }
+}
+
 fn target_of(alloc: Global, table: &Table, method: Method, text: &[u8]) -> Result<Target, Fault>
     ensures { Gives result (target_of table.now method text.now) }
 {
     if matches!(method, Method::Options) {
         return Ok(Target::Server);
     }
-    if text == b"*".as_slice() {
+    if matches!(text, b"*") {
         if !takes_star(method) {
             return Err(Fault::Refused(Status::BadRequest));
         }

@@ -12,7 +12,9 @@ ghost use Rattle.rtsp_state.specs.declared.response_start.ResponseStart.{Respons
 ghost use Rattle.rtsp_state.specs.declared.status.Status.TheVariants as statuses;
 
 use crate::fault::Fault;
-use crate::headers::{put_base, put_end, put_length, put_public, put_response_start, put_type};
+use crate::headers::{
+    put_base, put_done_start, put_end, put_length, put_public_end, put_response_start, put_type,
+};
 use crate::media_base::MediaBase;
 use crate::refusals::{refusal_of, write_plain, write_refused, write_unsupported};
 use crate::response_start::ResponseStart;
@@ -214,10 +216,8 @@ fn write_options(room: &mut Room, start: ResponseStart)
     ensures text { room.new.text ≡ room.old.text ++ response_text (options_reply start) }
     ensures room { Takes room.old room.new 241 }
 {
-    put_status_line(room, Status::Success);
-    put_response_start(room, start);
-    put_public(room);
-    put_end(room);
+    put_done_start(room, start);
+    put_public_end(room);
 }
 
 // The headers of a body.
@@ -248,8 +248,7 @@ fn write_parameters(room: &mut Room, start: ResponseStart, body: &[u8])
     ensures text { room.new.text ≡ room.old.text ++ response_text (parameters_reply start body.now) }
     ensures room { Takes room.old room.new (length body.now + 219) }
 {
-    put_status_line(room, Status::Success);
-    put_response_start(room, start);
+    put_done_start(room, start);
     put_body_headers(room, Word::Parameters, body);
     put_end(room);
     room.put(body);

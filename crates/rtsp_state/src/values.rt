@@ -23,13 +23,17 @@ use std::borrow::CowSlice;
 pub fn single_value<'a>(headers: &'a Headers, name: &[u8]) -> Result<Option<&'a [u8]>, Fault>
     ensures { IsBy (option_map (λ v. v.now)) result (single_value name.now headers.now) }
 {
-    let Some(value) = headers.nth_value(name, 0) else {
-        return Ok(None);
-    };
-    if headers.nth_value(name, 1).is_some() {
-        return Err(Fault::Refused(Status::BadRequest));
+    let mut found = None;
+    for index in 0..headers.len() {
+        let header = headers.get(index);
+        if header.is_named(name) {
+            if found.is_some() {
+                return Err(Fault::Refused(Status::BadRequest));
+            }
+            found = Some(header.value);
+        }
     }
-    Ok(Some(value))
+    Ok(found)
 }
 
 /// Writes texts one after another, with a comma and a space between them.

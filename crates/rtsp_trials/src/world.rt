@@ -16,46 +16,13 @@ const TRANSPORT: &[u8] = b"RTP/AVP/TCP;unicast;interleaved=0-1";
 // The moment at which the last unit of a play from 0 on is due, in milliseconds.
 const AT_THE_END: u64 = 9_980;
 
-/// A server with two pairs of ports, and bandwidth for two streams of the example.
-pub const SMALL: Whole = Whole {
-    first_port: 5000,
-    pairs: 2,
-    uplink: 160_000,
-    sessions: 4,
-    journal: 1_000,
-};
-
-// One with bandwidth for more than the sessions that it takes.
+// A server with bandwidth for more than the sessions that it takes.
 const WIDE: Whole = Whole {
     first_port: 5000,
     pairs: 2,
     uplink: 10_000_000,
     sessions: 16,
     journal: 1_000,
-};
-
-/// The stream of the first track, to ports of the player.
-pub const OVER_PORTS: Stream = Stream {
-    presentation: 0,
-    track: 0,
-    ssrc: 1,
-    seq: 0,
-    rtptime: 0,
-    peer: 0x7f00_0001,
-    rtp_port: 8000,
-    rtcp_port: 8001,
-};
-
-/// The same over channels of a connection.
-pub const OVER_CHANNELS: Stream = Stream {
-    presentation: 0,
-    track: 0,
-    ssrc: 2,
-    seq: 0,
-    rtptime: 0,
-    peer: 0x7f00_0001,
-    rtp_port: 0,
-    rtcp_port: 0,
 };
 
 pub fn tone(rt: &HostRuntime) -> Result<Table, Fail> {

@@ -4,12 +4,12 @@ ghost use Rattle.rtsp_record.specs.Choices.{HasPorts, IsWish};
 ghost use Rattle.rtsp_book.specs.Replies.{IsAskable};
 
 use crate::books::{Asked, WITH_STREAM, step};
-use crate::world::{OVER_CHANNELS, SMALL, stream};
+use crate::world::{OVER_CHANNELS, SMALL};
 use rtsp_book::{
     BookRep, Chain, ChannelHold, Commit, Kept, Life, PlainBook, Play, Receipt, Startup, Step,
 };
 use rtsp_index::IndexedBook;
-use rtsp_record::{Entry, Id, Thing, Whole};
+use rtsp_record::{Entry, Id, Stream, Thing, Whole};
 use rtsp_undo::{book_text, replay};
 use std::alloc::{AllocError, Global};
 use std::test::Fail;
@@ -187,7 +187,11 @@ fn commit(drawn: Draw) -> Step
     Step::Commit(Commit {
         session: drawn.session,
         admission: drawn.admission,
-        stream: stream(0, track, drawn.few),
+        stream: Stream {
+            track,
+            ssrc: drawn.few,
+            ..OVER_CHANNELS
+        },
         startup: if drawn.few < 8 {
             Some(Startup {
                 conn: drawn.conn,

@@ -1,7 +1,7 @@
 //! The example configuration: what it says, how it is described, and what is refused beside it.
 
+use crate::example::EXAMPLE;
 use rtsp_content::*;
-use rtspd::EXAMPLE;
 use std::alloc::{AllocError, Global};
 use std::test::Fail;
 

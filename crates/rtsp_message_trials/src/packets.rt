@@ -2,14 +2,22 @@
 
 ghost use Rattle.std.specs.Prelude.{◌≡◌};
 
-use crate::world::{OVER_PORTS, SMALL};
+use crate::example::EXAMPLE;
 use rtsp_content::Table;
-use rtsp_record::{Holding, Id, Life, Phase, Record, Setup, Stream, Thing, Transition};
+use rtsp_record::{Holding, Id, Life, Phase, Record, Setup, Stream, Thing, Transition, Whole};
 use rtsp_rtp::*;
 use rtsp_sessions::{BookRep, PlainBook, SessionView};
-use rtspd::EXAMPLE;
 use std::alloc::Global;
 use std::test::Fail;
+
+// A server with two pairs of ports, and bandwidth for two streams of the example.
+const SMALL: Whole = Whole {
+    first_port: 5000,
+    pairs: 2,
+    uplink: 160_000,
+    sessions: 4,
+    journal: 1_000,
+};
 
 const OPENING: Phase = Phase::Ready { at: 0, sent: 0 };
 
@@ -22,11 +30,14 @@ const PLAYING: Phase = Phase::Playing {
 
 fn stream(track: u16) -> Stream {
     Stream {
+        presentation: 0,
         track,
         ssrc: 1 + u32::from(track),
         seq: 65_535,
         rtptime: 4_294_967_200,
-        ..OVER_PORTS
+        peer: 0x7f00_0001,
+        rtp_port: 8000,
+        rtcp_port: 8001,
     }
 }
 

@@ -1,0 +1,18 @@
+//! Tests of the public names of rtsp_text and of the crates of messages, media and packets, in
+//! modules by subject. The crate has nothing else.
+#![tactic(auto)]
+
+#[cfg(test)]
+mod configurations;
+#[cfg(test)]
+mod example;
+#[cfg(test)]
+mod header_values;
+#[cfg(test)]
+mod messages;
+#[cfg(test)]
+mod normal_play_time;
+#[cfg(test)]
+mod packets;
+#[cfg(test)]
+mod texts;
