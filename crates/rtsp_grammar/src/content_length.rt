@@ -4,7 +4,7 @@ ghost use Rattle.std.specs.Prelude.{◌≡◌, ◌≤◌, IfOk};
 ghost use Rattle.rtsp_grammar.specs.Reading.{length_of_value, body_length};
 
 use crate::fault::MessageFault;
-use crate::header::Headers;
+use crate::header::{Headers, Repeated};
 use crate::number::number;
 use rtsp_text::is_number;
 
@@ -30,11 +30,9 @@ pub fn body_length(headers: &Headers) -> Result<usize, MessageFault>
     ensures value { result ≡ body_length headers.now }
     ensures small { IfOk result (λ n. n ≤ 65536) }
 {
-    let Some(value) = headers.nth_value(b"Content-Length", 0) else {
-        return Ok(0);
-    };
-    if headers.nth_value(b"Content-Length", 1).is_some() {
-        return Err(MessageFault::BadLength);
+    match headers.only_value(b"Content-Length") {
+        Ok(Some(value)) => length_of_value(value),
+        Ok(None) => Ok(0),
+        Err(Repeated) => Err(MessageFault::BadLength),
     }
-    length_of_value(value)
 }

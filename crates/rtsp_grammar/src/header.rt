@@ -2,6 +2,7 @@
 
 ghost use Rattle.std.specs.Prelude.{◌≡◌, ◌<◌, ◌≤◌, ◌+◌, [], ◌∷◌, ◌++◌, length, OnOk, OnErr, IfOk, slice_get, option_map, Some, IsOk, IsTrue, ◌↔◌};
 ghost use Rattle.rtsp_grammar.specs.HeadersBuilder.{Takes, HasRoom};
+ghost use Rattle.std.specs.List.{cons_option};
 ghost use Rattle.rtsp_grammar.specs.Header.{is_named, values_of};
 
 use std::alloc::{AllocError, Global};
@@ -33,6 +34,10 @@ impl Header<'_> {
         self.name.eq_ignore_ascii_case(name)
     }
 }
+
+/// More than one header has a name that may stand once.
+#[derive(Clone, Copy, Debug, PartialEq, Eq)]
+pub struct Repeated;
 
 /// The headers of a message, in order.
 #[derive(Debug, Drop)]
@@ -110,6 +115,25 @@ impl Headers {
             }
         }
         None
+    }
+
+    /// The value of the header of this name, where it may stand once; None where there is none. The
+    /// headers are gone over once.
+    pub fn only_value(&self, name: &[u8]) -> Result<Option<&[u8]>, Repeated>
+        ensures one { IfOk result (λ found. values_of name.now self.now ≡ cons_option (option_map (λ v. v.now) found) []) }
+        ensures several { OnErr result (1 < length (values_of name.now self.now)) }
+    {
+        let mut found = None;
+        for index in 0..self.len() {
+            let header = self.get(index);
+            if header.is_named(name) {
+                if found.is_some() {
+                    return Err(Repeated);
+                }
+                found = Some(header.value);
+            }
+        }
+        Ok(found)
     }
 }
 

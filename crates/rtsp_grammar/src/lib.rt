@@ -25,7 +25,7 @@ mod written_len;
 
 pub use fault::MessageFault;
 pub use feed::Feed;
-pub use header::{Header, Headers, HeadersBuilder};
+pub use header::{Header, Headers, HeadersBuilder, Repeated};
 pub use laws::{
     law_however_cut, law_keeps_items, law_no_answer, law_one_answer, law_opens_out, law_reads_back,
     law_reads_rules, law_stays,

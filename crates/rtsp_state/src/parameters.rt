@@ -1,7 +1,7 @@
 //! The parameters in a body.
 
-ghost use Rattle.std.specs.Prelude.{◌≡◌, ◌++◌, OnOk, IfOk};
-ghost use Rattle.std.specs.List.{flat_map, list_any};
+ghost use Rattle.std.specs.Prelude.{◌≡◌, ◌++◌, OnOk, IfOk, nat_eq, codes};
+ghost use Rattle.std.specs.List.{flat_map, list_any, starts_with};
 ghost use Rattle.rtsp_state.specs.Fault.{Gives, GivesBy};
 ghost use Rattle.rtsp_state.specs.GetParameter.{first_line, parameter_of, parameters_in, parameter_line, parameters_body, is_position};
 
@@ -27,11 +27,18 @@ pub enum Parameter {
     Duration,
 }
 
+// Whether a line ends here.
+fn is_line_end(text: &[u8]) -> bool
+    ensures { result ≡ starts_with nat_eq text.now (codes "\r\n") }
+{
+    matches!(text, [b'\r', b'\n', ..])
+}
+
 fn first_line(text: &[u8]) -> (&[u8], &[u8])
     ensures { (result.0.now, result.1.now) ≡ first_line text.now }
 {
     for index in 0..text.len() {
-        if text[index..].starts_with(b"\r\n") {
+        if is_line_end(&text[index..]) {
             return (&text[..index], &text[index + 2..]);
         }
     }
@@ -41,7 +48,8 @@ fn first_line(text: &[u8]) -> (&[u8], &[u8])
 fn parameter_of(name: &[u8]) -> Result<Parameter, Fault>
     ensures { result ≡ parameter_of name.now }
 {
-    if name == b"position".as_slice() {
+    // The first byte tells the names apart.
+    if matches!(name, [b'p', ..]) && name == b"position".as_slice() {
         return Ok(Parameter::Position);
     }
     if name == b"duration".as_slice() {
