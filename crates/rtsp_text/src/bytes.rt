@@ -30,7 +30,7 @@ pub fn is_token_byte(byte: u8) -> bool
     TOKEN_BYTES[usize::from(byte)] != b','
 }
 
-// Texts are short and mostly pass: it costs less to look at each byte than to leave early.
+// Nearly every text passes: it costs less to look at each byte than to leave early.
 fn are_token_bytes(text: &[u8]) -> bool
     ensures { result ≡ list_all is_token_byte text.now }
 {
