@@ -6,6 +6,7 @@ ghost use Rattle.rtsp_grammar.specs.Reading.{split_line};
 ghost use Rattle.rtsp_grammar.specs.Span.{IsSpan};
 ghost use Rattle.rtsp_grammar.specs.LineAt.{IsLineAt};
 
+use memchr::memchr2;
 use rtsp_text::split_once;
 
 const CR: u8 = 13;
@@ -26,13 +27,7 @@ pub enum Line<'a> {
 fn plain_len(bytes: &[u8]) -> usize
     ensures { IsSpan is_line_byte bytes.now result }
 {
-    for (i, b) in bytes.iter().enumerate() {
-        // Nearly every byte is above both.
-        if *b <= CR && (*b == CR || *b == LF) {
-            return i;
-        }
-    }
-    bytes.len()
+    memchr2(CR, LF, bytes).unwrap_or(bytes.len())
 }
 
 /// The line at the front.

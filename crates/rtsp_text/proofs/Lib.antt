@@ -1,6 +1,7 @@
 pub mod ByteLemmas
 pub mod TrimLemmas
 pub mod PaddingLemmas
+pub mod SearchLemmas
 pub mod SplitLemmas
 pub mod FindsLemmas
 pub mod DecimalLemmas

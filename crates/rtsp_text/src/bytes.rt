@@ -12,17 +12,33 @@ pub fn is_blank(byte: u8) -> bool
     byte == b' ' || byte == b'\t'
 }
 
+// Each byte of a token stands at its own place, and a comma at every other place.
+static TOKEN_BYTES: [u8; 256] = *b"\
+    ,,,,,,,,,,,,,,,,,,,,,,,,,,,,,,,,\
+    ,!,#$%&',,*+,-.,0123456789,,,,,,\
+    ,ABCDEFGHIJKLMNOPQRSTUVWXYZ,,,^_\
+    `abcdefghijklmnopqrstuvwxyz,|,~,\
+    ,,,,,,,,,,,,,,,,,,,,,,,,,,,,,,,,\
+    ,,,,,,,,,,,,,,,,,,,,,,,,,,,,,,,,\
+    ,,,,,,,,,,,,,,,,,,,,,,,,,,,,,,,,\
+    ,,,,,,,,,,,,,,,,,,,,,,,,,,,,,,,,";
+
 /// A byte of a token (RFC 7826 section 20.1): a letter, a digit or one of fifteen signs.
 pub fn is_token_byte(byte: u8) -> bool
     ensures { result ≡ is_token_byte byte }
 {
-    byte.is_ascii_alphanumeric() || b"!#$%&'*+-.^_~`|".contains(&byte)
+    TOKEN_BYTES[usize::from(byte)] != b','
 }
 
+// Nearly every text passes: it costs less to look at each byte than to leave early.
 fn are_token_bytes(text: &[u8]) -> bool
     ensures { result ≡ list_all is_token_byte text.now }
 {
-    text.iter().all(|byte| is_token_byte(*byte))
+    let mut are = true;
+    for byte in text {
+        are = are & is_token_byte(*byte);
+    }
+    are
 }
 
 fn are_digits(text: &[u8]) -> bool
