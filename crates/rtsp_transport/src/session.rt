@@ -21,13 +21,18 @@ const ID_DIGITS: usize = 32;
 fn is_session_byte(byte: u8) -> bool
     ensures { result ≡ is_session_byte byte }
 {
-    byte.is_ascii_alphanumeric() || b"$-_.+".contains(&byte)
+    matches!(byte, b'0'..=b'9' | b'A'..=b'Z' | b'a'..=b'z' | b'$' | b'-' | b'_' | b'.' | b'+')
 }
 
 fn are_session_bytes(text: &[u8]) -> bool
     ensures { result ≡ list_all is_session_byte text.now }
 {
-    text.iter().all(|byte| is_session_byte(*byte))
+    // Each byte is tested, also behind a wrong one: such a loop has no branch for each byte.
+    let mut are = true;
+    for byte in text {
+        are = are & is_session_byte(*byte);
+    }
+    are
 }
 
 // The text before the first semicolon.
