@@ -21,7 +21,13 @@ const ID_DIGITS: usize = 32;
 fn is_session_byte(byte: u8) -> bool
     ensures { result ≡ is_session_byte byte }
 {
-    matches!(byte, b'0'..=b'9' | b'A'..=b'Z' | b'a'..=b'z' | b'$' | b'-' | b'_' | b'.' | b'+')
+    // Without `||` there is no branch, and several bytes can be tested at once.
+    let is_digit = (b'0' <= byte) & (byte <= b'9');
+    let is_upper = (b'A' <= byte) & (byte <= b'Z');
+    let is_lower = (b'a' <= byte) & (byte <= b'z');
+    let is_low_mark = (byte == b'$') | (byte == b'+');
+    let is_high_mark = (byte == b'-') | (byte == b'.') | (byte == b'_');
+    is_digit | is_upper | is_lower | is_low_mark | is_high_mark
 }
 
 fn are_session_bytes(text: &[u8]) -> bool
