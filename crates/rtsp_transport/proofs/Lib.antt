@@ -3,6 +3,7 @@ pub mod PartsLemmas
 pub mod ReadsLemmas
 pub mod TransportLemmas
 pub mod SessionLemmas
+pub mod IdLemmas
 pub mod AddressLemmas
 pub mod PeerLemmas
 pub mod ChannelLemmas
