@@ -97,6 +97,8 @@ fn are_setups(headers: &Headers) -> bool {
         && headers.count_of(b"TRANSPORT") == 1
         && headers.nth_value(b"transport", 0) == Some(b"a, b".as_slice())
         && headers.nth_value(b"transport", 1).is_none()
+        && headers.only_value(b"transport") == Ok(Some(b"a, b".as_slice()))
+        && headers.only_value(b"session") == Ok(None)
 }
 
 #[test]

@@ -11,7 +11,7 @@ ghost use Rattle.rtsp_state.specs.Values.{single_value, joined, joined_in, id_of
 
 use crate::fault::Fault;
 use crate::status::Status;
-use rtsp_grammar::Headers;
+use rtsp_grammar::{Headers, Repeated};
 use rtsp_transport::{
     Spec, TextFault, is_known, read_cseq, read_session, read_startup, read_tags, read_transports,
     session_id,
@@ -23,17 +23,10 @@ use std::borrow::CowSlice;
 pub fn single_value<'a>(headers: &'a Headers, name: &[u8]) -> Result<Option<&'a [u8]>, Fault>
     ensures { IsBy (option_map (λ v. v.now)) result (single_value name.now headers.now) }
 {
-    let mut found = None;
-    for index in 0..headers.len() {
-        let header = headers.get(index);
-        if header.is_named(name) {
-            if found.is_some() {
-                return Err(Fault::Refused(Status::BadRequest));
-            }
-            found = Some(header.value);
-        }
+    match headers.only_value(name) {
+        Ok(found) => Ok(found),
+        Err(Repeated) => Err(Fault::Refused(Status::BadRequest)),
     }
-    Ok(found)
 }
 
 /// Writes texts one after another, with a comma and a space between them.

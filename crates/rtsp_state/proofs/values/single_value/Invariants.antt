@@ -1,7 +1,0 @@
-use Rattle.std.proofs.Common.{◌≡◌, drop}
-use Rattle.rtsp_grammar.specs.Header.{values_of}
-use Rattle.rtsp_state.proofs.SingleLemmas.{found_before}
-use Rattle.rtsp_state.proofs.values.single_value.Given as goal
-
-abbrev pub invariant-loop-index : goal.invariant-loop-index
-invariant-loop-index l = found_before l.found (values_of l.name (drop l.index l.headers)) ≡ values_of l.name l.headers
