@@ -2,12 +2,11 @@ ghost use Rattle.std.specs.Prelude.{◌≡◌};
 ghost use Rattle.rtsp_lock.specs.Calls.{IsSeatOf, SameSeat};
 ghost use Rattle.rtsp_admit.specs.Steps.{HasWish};
 
-use crate::world::OVER_PORTS;
+use crate::world::{OVER_PORTS, is_replayed};
 use rtsp_admit::*;
-use rtsp_book::{Admitted, Ask, BookRep, Opening, PlainBook, Refusal, Step, Wanted};
+use rtsp_book::{Admitted, Ask, BookRep, Opening, Refusal, Step, Wanted};
 use rtsp_lock::{BookLock, BookSeat};
 use rtsp_record::{Entry, Holding, Record, Stream, Thing, Whole};
-use std::alloc::AllocError;
 use std::sync::Wait;
 use std::sync::atomic::{AtomicBool, Ordering};
 use std::test::Fail;
@@ -105,16 +104,31 @@ fn a_pair_that_cannot_be_bound_is_passed_over(rt: HostRuntime) -> Result<(), Fai
     let (lock, mut seat) = rtsp_lock::open(rt.alloc(), &SMALL)?;
     let mut binder = binds_from(5002);
     let granted = admit(&rt, &mut seat, &lock, &mut binder, &asked(2, 3));
-    let Ok(granted) = granted else {
-        panic!(rt; "5002 can be bound")
-    };
-    assert!(rt; granted.address == Thing::Pair(5002) && binder.failures == 1);
+    assert!(rt; is_granted(granted, Thing::Pair(5002)) && binder.failures == 1);
     let kept = seat.finish(&rt, lock);
-    assert!(rt; kept.journal().len() == 6);
-    assert!(rt; kept.journal()[2].change == Record::Hold(pair(2, 3, 5000)));
-    assert!(rt; kept.journal()[3].change == Record::Free(pair(2, 3, 5000)));
-    assert!(rt; kept.journal()[4].change == Record::Hold(pair(2, 3, 5002)));
+    let tried = [
+        Record::Hold(pair(2, 3, 5000)),
+        Record::Free(pair(2, 3, 5000)),
+        Record::Hold(pair(2, 3, 5002)),
+    ];
+    assert!(rt; has_third_to_fifth(kept.journal(), tried));
     Ok(())
+}
+
+/// Whether an admission got this address.
+pub fn is_granted(answer: Result<Admitted, Refusal>, address: Thing) -> bool {
+    match answer {
+        Ok(admitted) => admitted.address == address,
+        Err(_) => false,
+    }
+}
+
+/// Whether a journal of six entries has these from the third on.
+pub fn has_third_to_fifth(journal: &[Entry], changes: [Record; 3]) -> bool {
+    journal.len() == 6
+        && journal[2].change == changes[0]
+        && journal[3].change == changes[1]
+        && journal[4].change == changes[2]
 }
 
 #[test]
@@ -256,22 +270,9 @@ fn two_threads_admit_into_one_pair(rt: HostRuntime) -> Result<(), Fail> {
     assert!(rt; one.is_ok() != two.is_ok());
     assert!(rt; one == Err(Refusal::NoPair) || two == Err(Refusal::NoPair));
     let kept = first.finish(&rt, lock);
-    let mut book = PlainBook::open(rt.alloc(), &ONE_PAIR)?;
-    assert!(rt; is_replayed(&mut book, kept.journal())?);
-    assert!(rt; book.living() == 1 && book.least_pair(0).is_none());
+    assert!(rt; is_replayed(rt.alloc(), &ONE_PAIR, kept.journal())?);
+    assert!(rt; kept.book().living() == 1 && kept.book().least_pair(0).is_none());
     Ok(())
-}
-
-// Whether each change is allowed after those before it.
-fn is_replayed(book: &mut PlainBook, journal: &[Entry]) -> Result<bool, AllocError> {
-    for entry in journal {
-        let change = [entry.change];
-        if !book.allowed(&change[0]) {
-            return Ok(false);
-        }
-        book.apply(&change)?;
-    }
-    Ok(true)
 }
 
 // Binds once another admission is answered, and refuses after 10,000 turns of a millisecond.

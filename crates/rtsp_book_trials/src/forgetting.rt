@@ -42,34 +42,44 @@ fn opened(session: u64, id: u128) -> Option<Record> {
     }))
 }
 
+// The session 11 ends between two renewals of the session 10.
+const OF_TWO_SESSIONS: [Asked; 7] = [
+    Asked::Open(10, 0xa),
+    Asked::Open(11, 0xb),
+    Asked::Rate(10, 12),
+    Asked::Touch(10, 70_000),
+    Asked::Pair(11, 13),
+    Asked::End(11),
+    Asked::Touch(10, 80_000),
+];
+
 #[test]
 fn what_lives_is_not_forgotten(rt: HostRuntime) -> Result<(), Fail> {
     let mut kept: Kept<PlainBook> = Kept::open(rt.alloc(), &SMALL)?;
     kept.forget();
     assert!(rt; kept.journal().is_empty() && kept.rounds() == 0);
-    let steps = [
-        Asked::Open(10, 0xa),
-        Asked::Open(11, 0xb),
-        Asked::Rate(10, 12),
-        Asked::Touch(10, 70_000),
-        Asked::Pair(11, 13),
-        Asked::End(11),
-        Asked::Touch(10, 80_000),
-    ];
-    for asked in steps {
+    for asked in OF_TWO_SESSIONS {
         kept.act(0, &step(asked))?;
     }
     let next = kept.next_number();
     kept.forget();
+    assert!(rt; is_left(&kept) && kept.next_number() == next);
     let mut text = Vec::new(rt.alloc());
     write_journal(&mut text, kept.journal())?;
-    let expected = "0 open 10 0000000000000000000000000000000a 1 60000\n\
-        0 hold 10 12 rate 80000\n\
-        0 touch 10 60000 70000\n\
-        0 touch 10 70000 80000\n";
-    assert!(rt; text.as_slice() == expected.as_bytes());
-    assert!(rt; kept.rounds() == 1 && kept.next_number() == next);
-    assert!(rt; kept.book().living() == 1 && kept.book().held_rate() == 80_000);
-    assert!(rt; kept.book().least_pair(0) == Some(5000));
+    assert!(rt; text.as_slice() == LEFT.as_bytes());
     Ok(())
+}
+
+// What is left of a session that was renewed twice.
+const LEFT: &str = "0 open 10 0000000000000000000000000000000a 1 60000\n\
+    0 hold 10 12 rate 80000\n\
+    0 touch 10 60000 70000\n\
+    0 touch 10 70000 80000\n";
+
+// Once something was forgotten, one session lives with its rate, and no pair is held.
+fn is_left(kept: &Kept<PlainBook>) -> bool {
+    kept.rounds() == 1
+        && kept.book().living() == 1
+        && kept.book().held_rate() == 80_000
+        && kept.book().least_pair(0) == Some(5000)
 }

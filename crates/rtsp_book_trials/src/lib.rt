@@ -13,6 +13,8 @@ mod journals;
 #[cfg(test)]
 mod locks;
 #[cfg(test)]
+mod pools;
+#[cfg(test)]
 mod port_admissions;
 #[cfg(test)]
 mod records;

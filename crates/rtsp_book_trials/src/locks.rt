@@ -2,11 +2,11 @@ ghost use Rattle.std.specs.Prelude.{◌≡◌};
 ghost use Rattle.rtsp_book.specs.Replies.{IsAskable};
 ghost use Rattle.rtsp_lock.specs.Calls.{IsSeatOf, SameSeat};
 
-use crate::world::SMALL;
-use rtsp_book::{BookRep, Life, NumbersSpent, PlainBook, Receipt, Step};
+use crate::world::{SMALL, is_replayed};
+use rtsp_book::{BookRep, Life, NumbersSpent, Receipt, Step};
 use rtsp_lock::*;
 use rtsp_record::{Entry, Id, Record};
-use std::alloc::AllocError;
+use std::alloc::{AllocError, Global};
 use std::sync::Wait;
 use std::test::Fail;
 use std::thread;
@@ -17,34 +17,41 @@ fn a_seat_acts_and_another_sees(rt: HostRuntime) -> Result<(), Fail> {
     let (lock, mut first) = open(rt.alloc(), &SMALL)?;
     assert!(rt; first.draw(&rt, &lock) == Ok(1));
     let mut second = first.split(&rt, &lock)?;
-    let step = Step::Open(Life {
-        session: 3,
-        id: Id::new(1),
-        conn: 1,
-        expires: 60_000,
-    });
     let mut made = Receipt::new();
-    assert!(rt; second.act_into(&rt, &lock, &step, &mut made).is_ok());
-    assert!(rt; made.records().len() == 1);
-    let Some(shown) = first.look(&rt, &lock, Name::Id(1)) else {
-        panic!(rt; "the session lives")
-    };
-    assert!(rt; shown.session() == 3 && shown.expires() == 60_000);
-    assert!(rt; first.look(&rt, &lock, Name::Number(3)).is_some());
-    assert!(rt; first.look(&rt, &lock, Name::Id(2)).is_none());
-    assert!(rt; first.phase(&rt, &lock, 3) == Some(shown.phase()));
-    assert!(rt; first.phase(&rt, &lock, 4).is_none());
+    let done = second.act_into(&rt, &lock, &opening(3), &mut made);
+    assert!(rt; done.is_ok() && made.records().len() == 1);
+    assert!(rt; is_seen(&rt, &lock, &mut first) && no_other_is_seen(&rt, &lock, &mut first));
     let kept = first.finish(&rt, lock);
-    let change = Record::Open(Life {
-        session: 3,
-        id: Id::new(1),
-        conn: 1,
-        expires: 60_000,
-    });
-    let only = Entry { actor: 2, change };
-    assert!(rt; kept.journal().len() == 1 && kept.journal()[0] == only);
-    assert!(rt; kept.next_number() == 3);
+    assert!(rt; opens_only(kept.journal(), 2, 3) && kept.next_number() == 3);
     Ok(())
+}
+
+// The session 3 is seen by its id, with its expiry and its phase.
+fn is_seen<R: Wait>(rt: &R, lock: &BookLock, seat: &mut BookSeat) -> bool
+    requires { IsSeatOf seat.old lock.now }
+    ensures { SameSeat seat.old seat.new }
+{
+    let Some(shown) = seat.look(rt, lock, Name::Id(3)) else {
+        return false;
+    };
+    let phase = seat.phase(rt, lock, 3);
+    shown.session() == 3 && shown.expires() == 60_000 && phase == Some(shown.phase())
+}
+
+// It is seen by its number, and no session by another name.
+fn no_other_is_seen<R: Wait>(rt: &R, lock: &BookLock, seat: &mut BookSeat) -> bool
+    requires { IsSeatOf seat.old lock.now }
+    ensures { SameSeat seat.old seat.new }
+{
+    seat.look(rt, lock, Name::Number(3)).is_some()
+        && seat.look(rt, lock, Name::Id(2)).is_none()
+        && seat.phase(rt, lock, 4).is_none()
+}
+
+// The journal has one entry, in which this actor opens this session.
+fn opens_only(journal: &[Entry], actor: u64, session: u64) -> bool {
+    let change = Record::Open(life(session));
+    journal.len() == 1 && journal[0] == (Entry { actor, change })
 }
 
 #[test]
@@ -52,23 +59,13 @@ fn a_seat_forgets_what_another_ended(rt: HostRuntime) -> Result<(), Fail> {
     let (lock, mut first) = open(rt.alloc(), &SMALL)?;
     let mut second = first.split(&rt, &lock)?;
     let mut made = Receipt::new();
-    assert!(rt; first.act_into(&rt, &lock, &opening(3), &mut made).is_ok());
-    assert!(rt;
-        first
-            .act_into(&rt, &lock, &Step::End { session: 3 }, &mut made)
-            .is_ok()
-    );
+    let opened = first.act_into(&rt, &lock, &opening(3), &mut made);
+    let ended = first.act_into(&rt, &lock, &Step::End { session: 3 }, &mut made);
     second.forget(&rt, &lock);
-    assert!(rt; first.act_into(&rt, &lock, &opening(4), &mut made).is_ok());
+    let again = first.act_into(&rt, &lock, &opening(4), &mut made);
+    assert!(rt; opened.is_ok() && ended.is_ok() && again.is_ok());
     let kept = first.finish(&rt, lock);
-    let change = Record::Open(Life {
-        session: 4,
-        id: Id::new(4),
-        conn: 1,
-        expires: 60_000,
-    });
-    let only = Entry { actor: 0, change };
-    assert!(rt; kept.journal().len() == 1 && kept.journal()[0] == only);
+    assert!(rt; opens_only(kept.journal(), 0, 4));
     assert!(rt; kept.rounds() == 1 && kept.book().living() == 1);
     Ok(())
 }
@@ -93,30 +90,40 @@ fn two_threads_leave_one_journal(rt: HostRuntime) -> Result<(), Fail> {
     let done = by_two(&rt, &lock, one, two, 10);
     assert!(rt; done == (10, 10));
     let kept = first.finish(&rt, lock);
-    assert!(rt; kept.journal().len() == 40);
-    assert!(rt; count_of(1, kept.journal()) == 20 && count_of(2, kept.journal()) == 20);
     assert!(rt; kept.next_number() == 23 && kept.book().living() == 0);
-    let mut book = PlainBook::open(rt.alloc(), &SMALL)?;
-    assert!(rt; is_replayed(&mut book, kept.journal())?);
+    assert!(rt; is_of_actors(rt.alloc(), kept.journal(), 2, 20)?);
     Ok(())
+}
+
+// The journal is legal, and has so many entries of each actor from 1 on, and no others.
+fn is_of_actors(
+    alloc: Global,
+    journal: &[Entry],
+    actors: u64,
+    each: usize,
+) -> Result<bool, AllocError> {
+    let mut others = journal.len();
+    for actor in 1..=actors {
+        let own = count_of(actor, journal);
+        if own != each {
+            return Ok(false);
+        }
+        others = others.saturating_sub(own);
+    }
+    Ok(others == 0 && is_replayed(alloc, &SMALL, journal)?)
 }
 
 #[test]
 fn four_threads_contend(rt: HostRuntime) -> Result<(), Fail> {
     let (lock, mut first) = open(rt.alloc(), &SMALL)?;
-    let a = first.split(&rt, &lock)?;
-    let b = first.split(&rt, &lock)?;
-    let c = first.split(&rt, &lock)?;
-    let d = first.split(&rt, &lock)?;
-    let (ab, cd) = by_four(&rt, &lock, (a, b, c, d), 100);
-    assert!(rt; ab == (100, 100) && cd == (100, 100));
+    let one = first.split(&rt, &lock)?;
+    let two = first.split(&rt, &lock)?;
+    let three = first.split(&rt, &lock)?;
+    let four = first.split(&rt, &lock)?;
+    let done = by_four(&rt, &lock, (one, two, three, four), 100);
+    assert!(rt; done == ((100, 100), (100, 100)));
     let kept = first.finish(&rt, lock);
-    assert!(rt; kept.journal().len() == 800);
-    for actor in 1..5u64 {
-        assert!(rt; count_of(actor, kept.journal()) == 200);
-    }
-    let mut book = PlainBook::open(rt.alloc(), &SMALL)?;
-    assert!(rt; is_replayed(&mut book, kept.journal())?);
+    assert!(rt; is_of_actors(rt.alloc(), kept.journal(), 4, 200)?);
     Ok(())
 }
 
@@ -191,26 +198,19 @@ fn one_session<R: Wait>(rt: &R, lock: &BookLock, seat: &mut BookSeat) -> Result<
 fn opening(session: u64) -> Step
     ensures { IsAskable result }
 {
-    Step::Open(Life {
+    Step::Open(life(session))
+}
+
+// A session whose id is its number.
+fn life(session: u64) -> Life {
+    Life {
         session,
         id: Id::new(session as u128),
         conn: 1,
         expires: 60_000,
-    })
+    }
 }
 
 fn count_of(actor: u64, journal: &[Entry]) -> usize {
     journal.iter().filter(|entry| entry.actor == actor).count()
-}
-
-// Whether each change is allowed after those before it.
-fn is_replayed(book: &mut PlainBook, journal: &[Entry]) -> Result<bool, AllocError> {
-    for entry in journal {
-        let change = [entry.change];
-        if !book.allowed(&change[0]) {
-            return Ok(false);
-        }
-        book.apply(&change)?;
-    }
-    Ok(true)
 }

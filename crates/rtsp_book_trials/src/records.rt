@@ -14,12 +14,12 @@ const PLAY: Phase = Phase::Playing {
 
 #[test]
 fn one_unit_is_due_at_once_and_one_more_each_unit_of_time(rt: HostRuntime) {
-    assert_eq!(rt; PLAY.due(20, 0), 1);
-    assert_eq!(rt; PLAY.due(20, 19), 1);
-    assert_eq!(rt; PLAY.due(20, 20), 2);
-    assert_eq!(rt; PLAY.due(20, 9_979), 499);
-    assert_eq!(rt; PLAY.due(20, 9_980), 500);
-    assert_eq!(rt; PLAY.point(20, 20), 2);
+    assert!(rt; PLAY.due(20, 0) == 1);
+    assert!(rt; PLAY.due(20, 19) == 1);
+    assert!(rt; PLAY.due(20, 20) == 2);
+    assert!(rt; PLAY.due(20, 9_979) == 499);
+    assert!(rt; PLAY.due(20, 9_980) == 500);
+    assert!(rt; PLAY.point(20, 20) == 2);
 }
 
 #[test]
@@ -35,8 +35,8 @@ fn a_move_is_taken_back(rt: HostRuntime) {
         from: PLAY,
         to: ready,
     });
-    assert_eq!(rt; change.inverse(), back);
-    assert_eq!(rt; change.session(), 2);
+    assert!(rt; change.inverse() == back);
+    assert!(rt; change.session() == 2);
 }
 
 const STREAM: Stream = Stream {
@@ -130,11 +130,11 @@ fn first_path() -> [Entry; 11] {
 #[test]
 fn a_journal_is_read_and_written_back(rt: HostRuntime) -> Result<(), Fail> {
     let entries = read_journal(rt.alloc(), TEXT)?;
-    assert_eq!(rt; entries.as_slice(), first_path().as_slice());
+    assert!(rt; entries.as_slice() == first_path().as_slice());
     let mut text = Vec::new(rt.alloc());
     write_journal(&mut text, &entries)?;
-    assert_eq!(rt; text.as_slice(), TEXT);
-    assert_eq!(rt; read_journal(rt.alloc(), b"")?.len(), 0);
+    assert!(rt; text.as_slice() == TEXT);
+    assert!(rt; read_journal(rt.alloc(), b"")?.is_empty());
     Ok(())
 }
 
@@ -148,20 +148,17 @@ fn one_port_is_read_and_written_back(rt: HostRuntime) -> Result<(), Fail> {
     let entries = [by_server(Record::Hold(port)), by_server(Record::Free(port))];
     let lines = b"0 hold 2 3 port 5000\n0 free 2 3 port 5000\n".as_slice();
     let read = read_journal(rt.alloc(), lines)?;
-    assert_eq!(rt; read.as_slice(), entries.as_slice());
+    assert!(rt; read.as_slice() == entries.as_slice());
     let mut text = Vec::new(rt.alloc());
     write_journal(&mut text, &entries)?;
-    assert_eq!(rt; text.as_slice(), lines);
+    assert!(rt; text.as_slice() == lines);
     Ok(())
 }
 
 #[test]
 fn the_first_bad_line_is_named(rt: HostRuntime) {
     let cut = &TEXT[..TEXT.len() - 1];
-    assert_eq!(rt;
-        read_journal(rt.alloc(), cut).err(),
-        Some(JournalFault::NotARecord(11))
-    );
+    assert!(rt; read_journal(rt.alloc(), cut).err() == Some(JournalFault::NotARecord(11)));
     let lines: [&[u8]; 14] = [
         b"18446744073709551616 touch 2 1 1\n",
         b"0 bind 2 1 4294967296\n",
@@ -179,10 +176,7 @@ fn the_first_bad_line_is_named(rt: HostRuntime) {
         b"\n",
     ];
     for line in lines {
-        assert_eq!(rt;
-            read_journal(rt.alloc(), line).err(),
-            Some(JournalFault::NotARecord(1))
-        );
+        assert!(rt; read_journal(rt.alloc(), line).err() == Some(JournalFault::NotARecord(1)));
     }
 }
 
@@ -192,12 +186,9 @@ fn more_than_a_million_lines_are_refused(rt: HostRuntime) -> Result<(), Fail> {
     for _ in 0..1_000_000 {
         text.extend_from_slice(b"0 touch 0 0 0\n")?;
     }
-    assert_eq!(rt; read_journal(rt.alloc(), &text)?.len(), 1_000_000);
+    assert!(rt; read_journal(rt.alloc(), &text)?.len() == 1_000_000);
     text.push(b'x')?;
-    assert_eq!(rt;
-        read_journal(rt.alloc(), &text).err(),
-        Some(JournalFault::TooLong)
-    );
+    assert!(rt; read_journal(rt.alloc(), &text).err() == Some(JournalFault::TooLong));
     Ok(())
 }
 
@@ -214,9 +205,9 @@ fn a_line_is_written_from_its_fields(rt: HostRuntime) -> Result<(), Fail> {
             Field::Phase(PLAY),
         ],
     )?;
-    assert_eq!(rt;
-        text.as_slice(),
-        b"session 000000000000000000000000000000ab 0000000c 7 playing:0:0:500:0\n".as_slice()
+    assert!(rt;
+        text.as_slice()
+            == b"session 000000000000000000000000000000ab 0000000c 7 playing:0:0:500:0\n".as_slice()
     );
     Ok(())
 }
@@ -248,14 +239,14 @@ fn an_entry_is_written_as_a_line(rt: HostRuntime) -> Result<(), Fail> {
 unbind 2 1 7
 stream 2 3 0 0 00000001 0 0 7f000001 0 0
 ";
-    assert_eq!(rt; text.as_slice(), written.as_slice());
-    assert_eq!(rt; PLAY.sent_with_due(20, 20), 2);
+    assert!(rt; text.as_slice() == written.as_slice());
+    assert!(rt; PLAY.sent_with_due(20, 20) == 2);
     Ok(())
 }
 
 #[test]
 fn an_id_is_its_number(rt: HostRuntime) {
     let number = 0x0123_4567_89ab_cdef_0011_2233_4455_6677;
-    assert_eq!(rt; Id::new(number).number(), number);
-    assert_eq!(rt; Id::new(number) == Id::new(number + 1), false);
+    assert!(rt; Id::new(number).number() == number);
+    assert!(rt; Id::new(number) != Id::new(number + 1));
 }

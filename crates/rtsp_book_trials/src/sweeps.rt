@@ -9,7 +9,7 @@ use rtsp_admit::{BindFault, Binder, admit};
 use rtsp_book::{Ask, BookRep, Opening, Startup, Wanted};
 use rtsp_expiry::*;
 use rtsp_lock::{BookLock, BookSeat};
-use rtsp_record::{Binding, Record, Whole};
+use rtsp_record::{Binding, Entry, Record, Whole};
 use std::sync::Wait;
 use std::test::Fail;
 
@@ -78,6 +78,10 @@ fn asked(session: u64, expires: u64, wanted: Wanted, startup: Option<Startup>) -
     }
 }
 
+fn is_swept(swept: Swept, ended: u32, more: bool) -> bool {
+    swept == (Swept { ended, more })
+}
+
 // Opens a session that holds a pair of ports.
 fn over_ports<R: Wait>(rt: &R, seat: &mut BookSeat, lock: &BookLock, session: u64, expires: u64)
     requires { IsSeatOf seat.old lock.now }
@@ -100,39 +104,13 @@ fn sessions_end_when_they_are_due(rt: HostRuntime) -> Result<(), Fail> {
     over_ports(&rt, &mut seat, &lock, 6, 60_000);
     let mut binder = binder();
     let early = sweep(&rt, &mut seat, &lock, &mut binder, 59_999, 8);
-    assert!(rt;
-        early
-            == Swept {
-                ended: 0,
-                more: false
-            }
-            && binder.unbound == 0
-    );
+    assert!(rt; is_swept(early, 0, false) && binder.unbound == 0);
     let first = sweep(&rt, &mut seat, &lock, &mut binder, 60_000, 1);
-    assert!(rt;
-        first
-            == Swept {
-                ended: 1,
-                more: true
-            }
-            && binder.last == Some((3, 5000))
-    );
+    assert!(rt; is_swept(first, 1, true) && binder.last == Some((3, 5000)));
     let second = sweep(&rt, &mut seat, &lock, &mut binder, 60_000, 8);
-    assert!(rt;
-        second
-            == Swept {
-                ended: 1,
-                more: false
-            }
-            && binder.last == Some((7, 5004))
-    );
+    assert!(rt; is_swept(second, 1, false) && binder.last == Some((7, 5004)));
     let none = sweep(&rt, &mut seat, &lock, &mut binder, u64::MAX, 0);
-    assert!(rt;
-        none == Swept {
-            ended: 0,
-            more: true
-        } && binder.unbound == 2
-    );
+    assert!(rt; is_swept(none, 0, true) && binder.unbound == 2);
     let kept = seat.finish(&rt, lock);
     assert!(rt; kept.book().living() == 1 && kept.book().next_session(0) == Some(4));
     Ok(())
@@ -152,23 +130,21 @@ fn a_connection_takes_its_channels_and_startups_with_it(rt: HostRuntime) -> Resu
     assert!(rt; admit(&rt, &mut seat, &lock, &mut binder(), &ask).is_ok());
     let mut binder = binder();
     let swept = hang_up(&rt, &mut seat, &lock, &mut binder, 1, 8);
-    assert!(rt;
-        swept
-            == Swept {
-                ended: 2,
-                more: false
-            }
-            && binder.unbound == 0
-    );
+    assert!(rt; is_swept(swept, 2, false) && binder.unbound == 0);
     let kept = seat.finish(&rt, lock);
+    assert!(rt; is_hung_up(kept.journal()));
+    assert!(rt; kept.book().next_session(0) == Some(2) && kept.book().living() == 1);
+    Ok(())
+}
+
+// The startup number is unbound before the session over channels is closed, which is last.
+fn is_hung_up(journal: &[Entry]) -> bool {
     let unbound = Record::Unbind(Binding {
         session: 2,
         conn: 1,
         number: 7,
     });
-    assert!(rt; kept.journal().len() == 14 && kept.journal()[9].change == unbound);
-    let last = kept.journal()[13].change;
-    assert!(rt; matches!(last, Record::Close(life) if life.session == 4));
-    assert!(rt; kept.book().next_session(0) == Some(2) && kept.book().living() == 1);
-    Ok(())
+    journal.len() == 14
+        && journal[9].change == unbound
+        && matches!(journal[13].change, Record::Close(life) if life.session == 4)
 }

@@ -57,6 +57,16 @@ impl TwoBooks {
             && made.freed_ports().as_slice() == too.freed_ports().as_slice()
     }
 
+    // Whether both answer and print alike at each step.
+    fn stay_alike(&mut self, steps: &[Asked]) -> Result<bool, AllocError> {
+        for asked in steps {
+            if !self.answer_alike(&step(*asked)) || !self.print_alike()? {
+                return Ok(false);
+            }
+        }
+        Ok(true)
+    }
+
     // Whether both take the same entry back.
     fn undo_alike(&mut self) -> Result<bool, AllocError> {
         let one = self.plain.undo_last()?;
@@ -77,17 +87,7 @@ impl TwoBooks {
 // Whether both answer and print alike at each step after a session with a stream over a pair.
 fn stay_alike(alloc: Global, steps: &[Asked]) -> Result<bool, Fail> {
     let mut both = TwoBooks::open(alloc, &SMALL)?;
-    for asked in WITH_STREAM.iter() {
-        if !both.answer_alike(&step(*asked)) || !both.print_alike()? {
-            return Ok(false);
-        }
-    }
-    for asked in steps.iter() {
-        if !both.answer_alike(&step(*asked)) || !both.print_alike()? {
-            return Ok(false);
-        }
-    }
-    Ok(true)
+    Ok(both.stay_alike(WITH_STREAM.as_slice())? && both.stay_alike(steps)?)
 }
 
 #[test]

@@ -1,6 +1,7 @@
 //! Two tables of sessions side by side. Each is asked for the same records at random, and answers every call the same
 //! after each.
 
+use crate::world::make;
 use rtsp_index::IndexedBook;
 use rtsp_record::{Binding, Holding, Id, Life, Record, Renewal, Setup, Stream, Thing, Whole};
 use rtsp_sessions::{BookRep, PlainBook};
@@ -16,33 +17,30 @@ const WHOLE: Whole = Whole {
     journal: 64,
 };
 
-// Makes a record where it is allowed.
-fn make<B: BookRep>(book: &mut B, change: &Record) -> Result<bool, AllocError> {
-    if !book.allowed(change) {
-        return Ok(false);
-    }
-    book.apply(&[*change])?;
-    Ok(true)
-}
-
-fn say_the_same<A: BookRep, B: BookRep>(one: &A, two: &B, few: u8) -> bool {
-    let number = u64::from(few);
-    let small = u32::from(few);
-    let looks = one.next_session(number) == two.next_session(number)
+// Both find the same sessions by this number.
+fn look_alike<A: BookRep, B: BookRep>(one: &A, two: &B, few: u8) -> bool {
+    let (number, small) = (u64::from(few), u32::from(few));
+    one.next_session(number) == two.next_session(number)
         && one.by_id(u128::from(number)) == two.by_id(u128::from(number))
         && one.by_startup(number, small) == two.by_startup(number, small)
         && one.due(number) == two.due(number)
         && one.on_conn(number) == two.on_conn(number)
         && one.session(number).is_some() == two.session(number).is_some()
-        && one.get(number).is_some() == two.get(number).is_some();
-    let choices = one.least_pair(small) == two.least_pair(small)
-        && one.least_pair(5_000 + small) == two.least_pair(5_000 + small)
-        && one.least_port(small) == two.least_port(small)
-        && one.least_port(5_000 + small) == two.least_port(5_000 + small)
+        && one.get(number).is_some() == two.get(number).is_some()
+}
+
+// Both choose the same ports from this one on.
+fn choose_ports_alike<A: BookRep, B: BookRep>(one: &A, two: &B, from: u32) -> bool {
+    one.least_pair(from) == two.least_pair(from) && one.least_port(from) == two.least_port(from)
+}
+
+fn say_the_same<A: BookRep, B: BookRep>(one: &A, two: &B, few: u8) -> bool {
+    let number = u64::from(few);
+    look_alike(one, two, few)
+        && choose_ports_alike(one, two, u32::from(few))
+        && choose_ports_alike(one, two, 5_000 + u32::from(few))
         && one.least_chan(number, None) == two.least_chan(number, None)
-        && one.least_chan(number, Some(few)) == two.least_chan(number, Some(few));
-    looks
-        && choices
+        && one.least_chan(number, Some(few)) == two.least_chan(number, Some(few))
         && one.held_rate() == two.held_rate()
         && one.living() == two.living()
         && one.owed() == two.owed()
@@ -136,16 +134,21 @@ fn take_a_port_out_of_its_pair<B: BookRep>(
         expires: 5,
     };
     let port = hold(2, Thing::Port(5_000));
-    let pair = hold(3, Thing::Pair(5_002));
     assert!(rt; make(book, &Record::Open(life))? && make(book, &port)?);
     assert!(rt; book.least_pair(0) == Some(5_002) && book.least_port(0) == Some(5_001));
-    assert!(rt; make(book, &pair)? && book.least_port(5_002) == Some(5_004));
-    assert!(rt; book.least_port(5_005) == Some(5_005) && book.least_port(5_006).is_none());
-    assert!(rt; !book.allowed(&hold(4, Thing::Pair(5_000))));
-    assert!(rt; !book.allowed(&hold(4, Thing::Port(5_003))));
-    assert!(rt; !book.allowed(&hold(4, Thing::Port(5_006))));
+    assert!(rt; make(book, &hold(3, Thing::Pair(5_002)))? && takes_no_more(book));
     assert!(rt; make(book, &port.inverse())? && book.least_pair(0) == Some(5_000));
     Ok(())
+}
+
+// With the port 5000 and the pair 5002 held, only 5001, 5004 and 5005 are free.
+fn takes_no_more<B: BookRep>(book: &B) -> bool {
+    book.least_port(5_002) == Some(5_004)
+        && book.least_port(5_005) == Some(5_005)
+        && book.least_port(5_006).is_none()
+        && !book.allowed(&hold(4, Thing::Pair(5_000)))
+        && !book.allowed(&hold(4, Thing::Port(5_003)))
+        && !book.allowed(&hold(4, Thing::Port(5_006)))
 }
 
 #[test]
@@ -166,7 +169,7 @@ fn both_books_say_the_same(rt: HostRuntime) -> Result<(), AllocError> {
         let change = record_of(seed);
         let one = make(&mut plain, &change)?;
         let two = make(&mut indexed, &change)?;
-        assert_eq!(rt; one, two);
+        assert!(rt; one == two);
         if one {
             made = made.saturating_add(1);
         }

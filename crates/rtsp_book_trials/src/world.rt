@@ -1,6 +1,10 @@
-//! What the tests share: a small server, and streams of the example's first track.
+//! What the tests share: a small server, streams of the example's first track, and records that are made one by one.
 
-use rtsp_record::{Stream, Whole};
+ghost use Rattle.rtsp_record.specs.Choices.{HasPorts};
+
+use rtsp_book::{BookRep, PlainBook};
+use rtsp_record::{Entry, Record, Stream, Whole};
+use std::alloc::{AllocError, Global};
 
 /// A server with two pairs of ports, and bandwidth for two streams of the example.
 pub const SMALL: Whole = Whole {
@@ -34,3 +38,25 @@ pub const OVER_CHANNELS: Stream = Stream {
     rtp_port: 0,
     rtcp_port: 0,
 };
+
+/// Makes a record where it is allowed.
+pub fn make<B: BookRep>(book: &mut B, change: &Record) -> Result<bool, AllocError> {
+    if !book.allowed(change) {
+        return Ok(false);
+    }
+    book.apply(&[*change])?;
+    Ok(true)
+}
+
+/// Whether each change of a journal is allowed after those before it.
+pub fn is_replayed(alloc: Global, whole: &Whole, journal: &[Entry]) -> Result<bool, AllocError>
+    requires { HasPorts whole.now }
+{
+    let mut book = PlainBook::open(alloc, whole)?;
+    for entry in journal {
+        if !make(&mut book, &entry.change)? {
+            return Ok(false);
+        }
+    }
+    Ok(true)
+}

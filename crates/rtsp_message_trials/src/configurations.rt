@@ -115,7 +115,7 @@ fn finds_by_path(rt: HostRuntime) -> Result<(), Fail> {
         ("", Found::Nothing),
     ];
     for (path, found) in paths {
-        assert_eq!(rt; table.find(path.as_bytes()), found, "{path}");
+        assert!(rt; table.find(path.as_bytes()) == found, "{path}");
     }
     Ok(())
 }
@@ -129,7 +129,7 @@ fn rounds_rates_up(rt: HostRuntime) -> Result<(), Fail> {
     let table = Table::read(rt.alloc(), text.as_bytes())?;
     let presentation = table.presentation(0).expect(&rt, "the first");
     let track = presentation.track(0).expect(&rt, "the first");
-    assert_eq!(rt; presentation.rate(track), 109_334);
+    assert!(rt; presentation.rate(track) == 109_334);
     Ok(())
 }
 
@@ -154,10 +154,10 @@ fn names_the_fault(rt: HostRuntime) -> Result<(), AllocError> {
         ),
     ];
     for (old, new, fault) in faults {
-        assert_eq!(rt; fault_with(rt.alloc(), old, new)?, Some(fault), "{new}");
+        assert!(rt; fault_with(rt.alloc(), old, new)? == Some(fault), "{new}");
     }
-    assert_eq!(rt; fault_of(rt.alloc(), "="), Some(TableFault::NotToml));
-    assert_eq!(rt; fault_of(rt.alloc(), ""), Some(TableFault::Missing));
+    assert!(rt; fault_of(rt.alloc(), "=") == Some(TableFault::NotToml));
+    assert!(rt; fault_of(rt.alloc(), "") == Some(TableFault::Missing));
     for key in [
         "server",
         "first_port",
@@ -175,9 +175,8 @@ fn names_the_fault(rt: HostRuntime) -> Result<(), AllocError> {
         "ticks",
         "file",
     ] {
-        assert_eq!(rt;
-            fault_with(rt.alloc(), key, "x")?,
-            Some(TableFault::Missing),
+        assert!(rt;
+            fault_with(rt.alloc(), key, "x")? == Some(TableFault::Missing),
             "{key}"
         );
     }
@@ -259,17 +258,16 @@ fn keeps_every_limit(rt: HostRuntime) -> Result<(), AllocError> {
         ("\"a\"", "\"tone\"", "\"A\""),
     ];
     for (old, good, bad) in limits {
-        assert_eq!(rt; fault_with(rt.alloc(), old, good)?, None, "{good}");
-        assert_eq!(rt;
-            fault_with(rt.alloc(), old, bad)?,
-            Some(TableFault::BadValue),
+        assert!(rt; fault_with(rt.alloc(), old, good)?.is_none(), "{good}");
+        assert!(rt;
+            fault_with(rt.alloc(), old, bad)? == Some(TableFault::BadValue),
             "{bad}"
         );
     }
-    assert_eq!(rt; fault_with(rt.alloc(), "tone", NAME_OF_64)?, None);
+    assert!(rt; fault_with(rt.alloc(), "tone", NAME_OF_64)?.is_none());
     let longer = format!(in rt.alloc(); "{NAME_OF_64}a")?;
     let fault = fault_with(rt.alloc(), "tone", longer.as_str())?;
-    assert_eq!(rt; fault, Some(TableFault::BadValue));
+    assert!(rt; fault == Some(TableFault::BadValue));
     Ok(())
 }
 
@@ -306,9 +304,8 @@ fn counts_tables(rt: HostRuntime) -> Result<(), AllocError> {
     ];
     for (presentations, tracks, fault) in counts {
         let text = with_counts(rt.alloc(), presentations, tracks)?;
-        assert_eq!(rt;
-            fault_of(rt.alloc(), text.as_str()),
-            fault,
+        assert!(rt;
+            fault_of(rt.alloc(), text.as_str()) == fault,
             "{presentations} {tracks}"
         );
     }

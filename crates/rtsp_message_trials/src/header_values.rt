@@ -40,7 +40,7 @@ fn first_usable_transport(rt: HostRuntime) -> Result<(), Fail> {
         ),
     ];
     for (text, expected) in cases.iter() {
-        assert_eq!(rt; picked(rt.alloc(), text)?, *expected);
+        assert!(rt; picked(rt.alloc(), text)? == *expected);
     }
     Ok(())
 }
@@ -79,7 +79,7 @@ const NO_ONE_PORT: [&str; 13] = [
 
 fn come_to(rt: &impl Abort, alloc: Global, texts: &[&str], expected: Pick) -> Result<(), Fail> {
     for text in texts {
-        assert_eq!(rt; picked(alloc, text.as_bytes())?, expected, "{text}");
+        assert!(rt; picked(alloc, text.as_bytes())? == expected, "{text}");
     }
     Ok(())
 }

@@ -31,17 +31,17 @@ fn takes_units(rt: HostRuntime) {
         (b"npt=3-3.000000001", Ok((150, 151))),
     ];
     for (text, units) in cases.iter() {
-        assert_eq!(rt; taken(text), Ok(*units));
+        assert!(rt; taken(text) == Ok(*units));
     }
 }
 
 #[test]
 fn begins_at_the_resume_point(rt: HostRuntime) -> Result<(), Fail> {
-    assert_eq!(rt; resolve(Range::Rest, 125, unit(), UNITS), Ok((125, 500)));
-    assert_eq!(rt; resolve(Range::Rest, 500, unit(), UNITS), Err(OutOfMedia));
+    assert!(rt; resolve(Range::Rest, 125, unit(), UNITS) == Ok((125, 500)));
+    assert!(rt; resolve(Range::Rest, 500, unit(), UNITS) == Err(OutOfMedia));
     let until = read_range(b"npt=-3")?;
-    assert_eq!(rt; resolve(until, 149, unit(), UNITS), Ok((149, 150)));
-    assert_eq!(rt; resolve(until, 150, unit(), UNITS), Err(OutOfMedia));
+    assert!(rt; resolve(until, 149, unit(), UNITS) == Ok((149, 150)));
+    assert!(rt; resolve(until, 150, unit(), UNITS) == Err(OutOfMedia));
     Ok(())
 }
 
@@ -64,7 +64,7 @@ fn refuses_other_texts(rt: HostRuntime) {
         (b"", RangeFault::BadNpt),
     ];
     for (text, fault) in cases.iter() {
-        assert_eq!(rt; read_range(text), Err(*fault));
+        assert!(rt; read_range(text) == Err(*fault));
     }
 }
 
@@ -72,13 +72,13 @@ fn refuses_other_texts(rt: HostRuntime) {
 fn writes_three_decimals(rt: HostRuntime) -> Result<(), Fail> {
     let mut out = Vec::new(rt.alloc());
     write_range(&mut out, 125, 500, unit())?;
-    assert_eq!(rt; out.as_slice(), b"npt=2.500-10.000".as_slice());
+    assert!(rt; out.as_slice() == b"npt=2.500-10.000".as_slice());
     out.clear();
     write_stop(&mut out, 500, unit())?;
-    assert_eq!(rt; out.as_slice(), b"npt=-10.000".as_slice());
+    assert!(rt; out.as_slice() == b"npt=-10.000".as_slice());
     out.clear();
     write_time(&mut out, 1, unit())?;
-    assert_eq!(rt; out.as_slice(), b"0.020".as_slice());
+    assert!(rt; out.as_slice() == b"0.020".as_slice());
     Ok(())
 }
 

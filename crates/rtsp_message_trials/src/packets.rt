@@ -151,23 +151,49 @@ fn a_packet_and_its_frame(rt: HostRuntime) -> Result<(), Fail> {
     };
     let mut packet = packet(track, &stream(0), &PLAYING, 1, &[7; 160]);
     let header = [0x80, 0, 0, 0, 0, 0, 0, 0x40, 0, 0, 0, 1];
-    assert!(rt; packet.datagram().starts_with(&header) && packet.datagram().ends_with(&[7; 160]));
-    assert!(rt; packet.datagram().len() == 172);
+    let datagram = packet.datagram();
+    assert!(rt;
+        datagram.starts_with(&header) && datagram.ends_with(&[7; 160]) && datagram.len() == 172
+    );
     assert!(rt; packet.frame(0).starts_with(&[0x24, 0, 0, 0xac, 0x80, 0]));
     assert!(rt; packet.frame(3).starts_with(&[0x24, 3]) && packet.frame(3).len() == 176);
     assert!(rt; Packet::new().datagram().is_empty());
     Ok(())
 }
 
-// A turn where the session is as it is seen.
-fn turn(pacer: &mut Pacer, view: &SessionView, moment: u64, sink: &mut Keeps) -> Turn {
-    pacer.turn(
+// A moment, what a turn comes to then, how many packets are sent by then, and when the next one is due.
+type Turned = (u64, Turn, usize, Option<u64>);
+
+// Of one track, whose third packet can't be sent the first time.
+const TURNS: [Turned; 6] = [
+    (0, Turn::More, 1, Some(20)),
+    (19, Turn::More, 1, Some(20)),
+    (40, Turn::SinkFailed, 2, Some(40)),
+    (40, Turn::More, 3, Some(60)),
+    (9_979, Turn::More, 499, Some(9_980)),
+    (9_980, Turn::AtEnd, 500, None),
+];
+
+// Of two tracks with two units each.
+const TURNS_OF_TWO: [Turned; 3] = [
+    (1_019, Turn::More, 2, Some(1_020)),
+    (5_000, Turn::AtEnd, 4, None),
+    (5_000, Turn::AtEnd, 4, None),
+];
+
+const OTHER_TURN: Turned = (1_000, Turn::OtherPlay, 0, Some(1_000));
+
+// Whether a turn where the session is as it is seen comes to what is wanted.
+fn is_turned(pacer: &mut Pacer, view: &SessionView, sink: &mut Keeps, wanted: &Turned) -> bool {
+    let (moment, turn, sent, next) = *wanted;
+    let comes_to = pacer.turn(
         view.session(),
         view.phase(),
         moment,
         &mut Packet::new(),
         sink,
-    )
+    );
+    comes_to == turn && sink.sent == sent && pacer.next_due() == next
 }
 
 #[test]
@@ -181,17 +207,15 @@ fn a_turn_sends_what_is_due(rt: HostRuntime) -> Result<(), Fail> {
     };
     let mut sink = failing_at(2);
     assert!(rt; pacer.session() == 2 && pacer.next_due() == Some(0));
-    assert!(rt; turn(&mut pacer, &view, 0, &mut sink) == Turn::More && sink.sent == 1);
-    assert!(rt; pacer.next_due() == Some(20));
-    assert!(rt; turn(&mut pacer, &view, 19, &mut sink) == Turn::More && sink.sent == 1);
-    assert!(rt; turn(&mut pacer, &view, 40, &mut sink) == Turn::SinkFailed && sink.sent == 2);
-    assert!(rt; sink.failures == 1 && pacer.next_due() == Some(40));
-    assert!(rt; turn(&mut pacer, &view, 40, &mut sink) == Turn::More && sink.sent == 3);
+    for (number, wanted) in TURNS.iter().enumerate() {
+        assert!(rt;
+            is_turned(&mut pacer, &view, &mut sink, wanted),
+            "turn {number}"
+        );
+    }
+    assert!(rt; sink.failures == 1 && sink.last_unit == 499);
     assert!(rt; sink.heads[0] == [0x80, 0, 0xff, 0xff, 0xff, 0xff, 0xff, 0xa0, 0, 0, 0, 1]);
     assert!(rt; sink.heads[2] == [0x80, 0, 0, 1, 0, 0, 0, 0xe0, 0, 0, 0, 1]);
-    assert!(rt; turn(&mut pacer, &view, 9_979, &mut sink) == Turn::More && sink.sent == 499);
-    assert!(rt; turn(&mut pacer, &view, 9_980, &mut sink) == Turn::AtEnd && sink.sent == 500);
-    assert!(rt; pacer.next_due().is_none() && sink.last_unit == 499);
     Ok(())
 }
 
@@ -215,19 +239,26 @@ fn a_turn_of_two_tracks_and_of_another_play(rt: HostRuntime) -> Result<(), Fail>
     let Some(other) = session(rt.alloc(), &[1, 0], PLAYING)? else {
         panic!(rt; "it is open")
     };
-    assert!(rt;
-        !pacer.is_of(other.session(), other.phase())
-            && turn(&mut pacer, &other, 1_000, &mut sink) == Turn::OtherPlay
-    );
-    assert!(rt; sink.sent == 0 && pacer.next_due() == Some(1_000));
-    assert!(rt; turn(&mut pacer, &view, 1_019, &mut sink) == Turn::More && sink.sent == 2);
+    assert!(rt; !pacer.is_of(other.session(), other.phase()));
+    assert!(rt; is_turned(&mut pacer, &other, &mut sink, &OTHER_TURN));
+    for (number, wanted) in TURNS_OF_TWO.iter().enumerate() {
+        assert!(rt;
+            is_turned(&mut pacer, &view, &mut sink, wanted),
+            "turn {number}"
+        );
+    }
+    assert!(rt; sink.last_unit == 8);
     assert!(rt; sink.heads[0] == [0x80, 0, 0, 0, 0, 0, 0, 0x40, 0, 0, 0, 1]);
     assert!(rt; sink.heads[1] == [0x80, 8, 0, 0, 0, 0, 0, 0x40, 0, 0, 0, 2]);
-    assert!(rt; turn(&mut pacer, &view, 5_000, &mut sink) == Turn::AtEnd && sink.sent == 4);
-    assert!(rt; sink.last_unit == 8 && turn(&mut pacer, &view, 5_000, &mut sink) == Turn::AtEnd);
+    Ok(())
+}
+
+#[test]
+fn a_session_that_is_ready_has_no_pacer(rt: HostRuntime) -> Result<(), Fail> {
+    let table = Table::read(rt.alloc(), EXAMPLE.as_bytes())?;
     let Some(ready) = session(rt.alloc(), &[0], OPENING)? else {
         panic!(rt; "it is open")
     };
-    assert!(rt; Pacer::start(&ready, presentation).is_none());
+    assert!(rt; Pacer::start(&ready, &table.presentations()[0]).is_none());
     Ok(())
 }

@@ -15,6 +15,3 @@ mod words;
 pub use chan_pool::ChanPool;
 pub use pair_pool::PairPool;
 pub use rate_pool::RatePool;
-
-#[cfg(test)]
-mod tests;

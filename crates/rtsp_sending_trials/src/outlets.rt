@@ -22,33 +22,53 @@ fn fill<R: Wait>(rt: &R, outlet: &Outlet) -> bool {
 #[test]
 fn a_message_reaches_the_player(rt: HostRuntime) -> Result<(), Fail> {
     let (mut player, outlet) = connection(&rt, rt.alloc())?;
-    assert!(rt; prepare(outlet.fd()));
-    assert!(rt; outlet.put(&rt, 0, Message::Response, b"hello") == Put::Sent);
+    let is_prepared = prepare(outlet.fd());
+    assert!(rt; is_prepared && outlet.put(&rt, 0, Message::Response, b"hello") == Put::Sent);
     let mut heard = [0; 5];
     player.read_exact(&mut heard)?;
-    assert!(rt; heard == *b"hello" && outlet.waiting(&rt) == 0);
-    assert!(rt; outlet.flush(&rt, 0) == Some(0) && !outlet.close_stalled(&rt, u64::MAX));
-    assert!(rt; outlet.next_cseq(&rt) == 1 && outlet.next_cseq(&rt) == 2);
+    assert!(rt; heard == *b"hello" && is_idle(&rt, &outlet));
     outlet.close(&rt);
-    assert!(rt; outlet.put(&rt, 0, Message::Response, b"hello") == Put::Closed);
-    assert!(rt; outlet.flush(&rt, 0).is_none() && player.read(&mut heard)? == 0);
+    assert!(rt; is_closed(&rt, &outlet) && player.read(&mut heard)? == 0);
     Ok(())
+}
+
+// Nothing waits, and its first requests are numbered 1 and 2.
+fn is_idle<R: Wait>(rt: &R, outlet: &Outlet) -> bool {
+    outlet.waiting(rt) == 0
+        && outlet.flush(rt, 0) == Some(0)
+        && !outlet.close_stalled(rt, u64::MAX)
+        && outlet.next_cseq(rt) == 1
+        && outlet.next_cseq(rt) == 2
+}
+
+fn is_closed<R: Wait>(rt: &R, outlet: &Outlet) -> bool {
+    outlet.put(rt, 0, Message::Response, b"hello") == Put::Closed && outlet.flush(rt, 0).is_none()
 }
 
 #[test]
 fn a_player_that_does_not_read(rt: HostRuntime) -> Result<(), Fail> {
     let (_player, outlet) = connection(&rt, rt.alloc())?;
     prepare(outlet.fd());
-    assert!(rt; fill(&rt, &outlet));
-    let waiting = outlet.waiting(&rt);
-    assert!(rt; waiting > 0 && waiting <= FRAME_ROOM);
-    assert!(rt; outlet.put(&rt, 8, Message::Response, b"hello") == Put::Kept);
-    assert!(rt; outlet.waiting(&rt) > waiting);
-    assert!(rt; !outlet.close_stalled(&rt, 7) && !outlet.close_stalled(&rt, STALL_LIMIT));
-    assert!(rt; outlet.close_stalled(&rt, STALL_LIMIT.saturating_add(20)));
-    assert!(rt; outlet.waiting(&rt) == 0);
-    assert!(rt; outlet.put(&rt, 9, Message::Frame, b"hello") == Put::Closed);
+    assert!(rt; fill(&rt, &outlet) && keeps_a_response(&rt, &outlet));
+    assert!(rt; closes_once_stalled(&rt, &outlet));
     Ok(())
+}
+
+// Where frames have no room left, a response has.
+fn keeps_a_response<R: Wait>(rt: &R, outlet: &Outlet) -> bool {
+    let waiting = outlet.waiting(rt);
+    waiting > 0
+        && waiting <= FRAME_ROOM
+        && outlet.put(rt, 8, Message::Response, b"hello") == Put::Kept
+        && outlet.waiting(rt) > waiting
+}
+
+fn closes_once_stalled<R: Wait>(rt: &R, outlet: &Outlet) -> bool {
+    !outlet.close_stalled(rt, 7)
+        && !outlet.close_stalled(rt, STALL_LIMIT)
+        && outlet.close_stalled(rt, STALL_LIMIT.saturating_add(20))
+        && outlet.waiting(rt) == 0
+        && outlet.put(rt, 9, Message::Frame, b"hello") == Put::Closed
 }
 
 #[test]
@@ -69,8 +89,10 @@ fn responses_without_room_close(rt: HostRuntime) -> Result<(), Fail> {
 fn a_connection_that_drains(rt: HostRuntime) -> Result<(), Fail> {
     let (mut player, outlet) = connection(&rt, rt.alloc())?;
     assert!(rt; outlet.drain(&rt) == 0);
-    assert!(rt; outlet.put(&rt, 0, Message::Frame, b"frame") == Put::Dropped);
-    assert!(rt; outlet.put(&rt, 0, Message::Response, b"hello") == Put::Sent);
+    assert!(rt;
+        outlet.put(&rt, 0, Message::Frame, b"frame") == Put::Dropped
+            && outlet.put(&rt, 0, Message::Response, b"hello") == Put::Sent
+    );
     let mut heard = [0; 5];
     player.read_exact(&mut heard)?;
     assert!(rt; heard == *b"hello");

@@ -5,10 +5,11 @@ ghost use Rattle.std.specs.Prelude.{◌<◌, IfOk};
 use rtsp_content::Table;
 use rtsp_engine::{Binder, Clock, Words};
 use rtsp_sockets::{
-    Media, MediaFault, PieceClock, PortBinder, PortTable, RandomWords, RunningClock,
+    Media, MediaFault, PieceClock, PortBinder, PortSockets, PortTable, RandomWords, RunningClock,
 };
 use std::io::ErrorKind;
 use std::net::{Net, UdpSocket};
+use std::sync::Arc;
 use std::test::Fail;
 use std::time::{Duration, Instant};
 use std::{fs, io};
@@ -32,22 +33,27 @@ fn a_pair_is_bound_under_its_admission(rt: HostRuntime) -> Result<(), Fail> {
     let table = PortTable::open(rt.alloc(), first, 1)?;
     let mut binder = PortBinder::new(&rt, &table);
     assert!(rt; binder.bind(7, first).is_ok() && binder.bind(8, first).is_err());
-    let Some(sockets) = table.pair_sockets(&rt, 7, first) else {
-        panic!(rt; "it is bound")
-    };
-    assert!(rt; sockets.rtp.local_addr()?.port() == first);
-    let Some(rtcp) = &sockets.rtcp else {
-        panic!(rt; "a pair has two sockets")
-    };
-    assert!(rt; rtcp.local_addr()?.port() == first.saturating_add(1));
+    let ports = (first, Some(first.saturating_add(1)));
+    assert!(rt; ports_of(&table.pair_sockets(&rt, 7, first))? == Some(ports));
     assert!(rt; table.pair_sockets(&rt, 8, first).is_none());
-    drop(sockets);
     binder.unbind(8, first);
     assert!(rt; table.pair_sockets(&rt, 7, first).is_some());
     binder.unbind(7, first);
     assert!(rt; table.pair_sockets(&rt, 7, first).is_none() && binder.bind(8, first).is_ok());
     assert!(rt; binder.bind(9, first.saturating_add(2)).is_err());
     Ok(())
+}
+
+// The ports of sockets that are bound, RTP's first.
+fn ports_of(sockets: &Option<Arc<PortSockets>>) -> io::Result<Option<(u16, Option<u16>)>> {
+    let Some(sockets) = sockets else {
+        return Ok(None);
+    };
+    let rtcp = match &sockets.rtcp {
+        Some(rtcp) => Some(rtcp.local_addr()?.port()),
+        None => None,
+    };
+    Ok(Some((sockets.rtp.local_addr()?.port(), rtcp)))
 }
 
 #[test]
@@ -58,13 +64,9 @@ fn a_port_is_bound_alone(rt: HostRuntime) -> Result<(), Fail> {
     let mut binder = PortBinder::new(&rt, &table);
     assert!(rt; binder.bind_port(7, second).is_ok());
     assert!(rt; binder.bind_port(8, second).is_err() && binder.bind(8, first).is_err());
-    let Some(sockets) = table.port_socket(&rt, 7, second) else {
-        panic!(rt; "it is bound")
-    };
-    assert!(rt; sockets.rtp.local_addr()?.port() == second && sockets.rtcp.is_none());
+    assert!(rt; ports_of(&table.port_socket(&rt, 7, second))? == Some((second, None)));
     assert!(rt; table.port_socket(&rt, 8, second).is_none());
     assert!(rt; table.pair_sockets(&rt, 7, first).is_none());
-    drop(sockets);
     binder.unbind_port(8, second);
     binder.unbind(7, first);
     assert!(rt; binder.bind_port(8, first).is_ok() && table.port_socket(&rt, 7, second).is_some());
@@ -134,12 +136,23 @@ fn media_of_files(rt: HostRuntime) -> Result<(), Fail> {
     fs::write(&rt, path, b"abcdef")?;
     let media = Media::open(&rt, rt.alloc(), &table)?;
     fs::remove_file(&rt, path)?;
-    let mut unit = [0; 2];
-    media.octets(0, 1, 2, &mut unit)?;
-    assert!(rt; unit == *b"ef");
-    media.octets(0, 0, 0, &mut unit)?;
-    assert!(rt; unit == *b"ab");
-    assert!(rt; media.octets(0, 0, 3, &mut unit) == Err(MediaFault::Unreadable));
-    assert!(rt; media.octets(0, 2, 0, &mut unit) == Err(MediaFault::Unreadable));
+    let units = [
+        (1, 2, Ok(*b"ef")),
+        (0, 0, Ok(*b"ab")),
+        (0, 3, Err(MediaFault::Unreadable)),
+        (2, 0, Err(MediaFault::Unreadable)),
+    ];
+    for (track, number, wanted) in units {
+        assert!(rt;
+            unit_of(&media, track, number) == wanted,
+            "unit {number} of track {track}"
+        );
+    }
     Ok(())
+}
+
+fn unit_of(media: &Media, track: u16, number: u32) -> Result<[u8; 2], MediaFault> {
+    let mut unit = [0; 2];
+    media.octets(0, track, number, &mut unit)?;
+    Ok(unit)
 }

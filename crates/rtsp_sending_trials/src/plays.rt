@@ -12,7 +12,8 @@ use rtsp_engine::{Binder, Plays};
 use rtsp_lock::{BookLock, BookSeat, open};
 use rtsp_pacing::{Bells, NotedPlays, Paced, PacerParts, pace};
 use rtsp_record::{Id, Stream, Whole};
-use rtsp_sockets::{Media, Outlets, PortBinder, PortTable};
+use rtsp_sockets::{Media, Outlet, Outlets, PortBinder, PortTable};
+use std::alloc::AllocError;
 use std::io::Read;
 use std::net::{TcpStream, UdpSocket};
 use std::rt::Clock;
@@ -20,7 +21,7 @@ use std::sync::{Arc, Wait};
 use std::test::Fail;
 use std::thread::Threads;
 use std::time::{Duration, Instant};
-use std::{fs, thread};
+use std::{fs, io, thread};
 
 const TONE: &str = "\
 [server]
@@ -44,7 +45,7 @@ file = \"rtsp_sending_plays.raw\"
 ";
 
 // What came of a play: the last bytes of its packets, and how many bytes the report has.
-#[derive(Clone, Copy, PartialEq, Eq, Debug)]
+#[derive(Clone, Copy)]
 struct Heard {
     units: [[u8; 2]; 8],
     seqs: [u8; 8],
@@ -167,13 +168,35 @@ fn run<'a, R: Threads + Wait + Clock + AllocGlobal + Sync>(
     )
 }
 
+// The track's file, of eight units.
+fn files_of(rt: &HostRuntime, table: &Table) -> Result<Media, Fail> {
+    let path = "rtsp_sending_plays.raw";
+    fs::write(rt, path, b"aabbccddeeffgghh")?;
+    let files = Media::open(rt, rt.alloc(), table)?;
+    fs::remove_file(rt, path)?;
+    Ok(files)
+}
+
+// A player's socket.
+fn receiver(rt: &HostRuntime) -> io::Result<UdpSocket> {
+    let socket = UdpSocket::bind(rt, "127.0.0.1:0")?;
+    socket.set_read_timeout(Some(Duration::from_secs(5)))?;
+    Ok(socket)
+}
+
+// Hands the play of the session over to the pacers.
+fn hand_over(rt: &HostRuntime, bells: &Bells, outlet: &Arc<Outlet>) -> Result<(), AllocError> {
+    let mut plays = NotedPlays::new(rt.alloc());
+    plays.note(rt.alloc(), 2, 5, b"rtsp://h/tone")?;
+    plays.settle(true);
+    plays.hand_over(rt, bells, outlet);
+    Ok(())
+}
+
 #[test]
 fn a_play_is_sent_and_reported(rt: HostRuntime) -> Result<(), Fail> {
-    let path = "rtsp_sending_plays.raw";
-    fs::write(&rt, path, b"aabbccddeeffgghh")?;
     let table = Table::read(rt.alloc(), TONE.as_bytes())?;
-    let files = Media::open(&rt, rt.alloc(), &table)?;
-    fs::remove_file(&rt, path)?;
+    let files = files_of(&rt, &table)?;
     let pair = free_port(&rt)?;
     let whole = Whole {
         first_port: pair,
@@ -185,18 +208,14 @@ fn a_play_is_sent_and_reported(rt: HostRuntime) -> Result<(), Fail> {
     let (lock, mut seat) = open(rt.alloc(), &whole)?;
     let ports = PortTable::open(rt.alloc(), pair, 1)?;
     assert!(rt; PortBinder::new(&rt, &ports).bind(3, pair).is_ok());
-    let media = UdpSocket::bind(&rt, "127.0.0.1:0")?;
-    media.set_read_timeout(Some(Duration::from_secs(5)))?;
+    let media = receiver(&rt)?;
     let begun = Instant::now(&rt)?;
     assert!(rt; begin(&rt, &lock, &mut seat, pair, media.local_addr()?.port()));
     let (player, outlet) = connection(&rt, rt.alloc())?;
     player.set_read_timeout(Some(Duration::from_secs(5)))?;
     let outlet = Arc::new(rt.alloc(), outlet)?;
     let bells = Bells::new(rt.alloc(), 1, 4)?;
-    let mut plays = NotedPlays::new(rt.alloc());
-    plays.note(rt.alloc(), 2, 5, b"rtsp://h/tone")?;
-    plays.settle(true);
-    plays.hand_over(&rt, &bells, &outlet);
+    hand_over(&rt, &bells, &outlet)?;
     let outlets = Outlets::new(rt.alloc());
     let Some(bell) = bells.of(2) else {
         panic!(rt; "there is a pacer")
@@ -211,14 +230,24 @@ fn a_play_is_sent_and_reported(rt: HostRuntime) -> Result<(), Fail> {
         begun,
     };
     let (paced, heard) = run(&rt, parts, seat, &bells, &media, &player);
-    assert!(rt;
-        heard.units
-            == [
-                *b"aa", *b"bb", *b"cc", *b"dd", *b"ee", *b"ff", *b"gg", *b"hh"
-            ]
-    );
-    assert!(rt; heard.seqs == [250, 251, 252, 253, 254, 255, 0, 1] && heard.report == 100);
-    assert!(rt; paced.plays == 1 && paced.packets == 8 && paced.reported == 1);
-    assert!(rt; paced.lost == 0 && paced.failures == 0);
+    assert!(rt; is_whole(&heard) && is_done(&paced));
     Ok(())
+}
+
+// Each unit has come once and in order, and then the report.
+fn is_whole(heard: &Heard) -> bool {
+    let units = [
+        *b"aa", *b"bb", *b"cc", *b"dd", *b"ee", *b"ff", *b"gg", *b"hh",
+    ];
+    heard.units == units
+        && heard.seqs == [250, 251, 252, 253, 254, 255, 0, 1]
+        && heard.report == 100
+}
+
+fn is_done(paced: &Paced) -> bool {
+    paced.plays == 1
+        && paced.packets == 8
+        && paced.reported == 1
+        && paced.lost == 0
+        && paced.failures == 0
 }

@@ -98,7 +98,7 @@ const ANSWERS: [Row; 6] = [
 // What is written in a room.
 fn assert_written(rt: &impl Abort, room: &Room, expected: &str) -> Result<(), Fail> {
     let written = std::str::from_utf8(room.as_bytes())?;
-    assert_eq!(rt; written, expected);
+    assert!(rt; written == expected);
     Ok(())
 }
 
@@ -167,26 +167,27 @@ fn made() -> Admitted {
     }
 }
 
+// Where it is made, where there is no bandwidth, and where the transport is refused.
+const SET_UP: &str = "RTSP/2.0 200 OK\r\nCSeq: 1\r\n\
+    Session: 00000000000000000000000000000009;timeout=60\r\n\
+    Transport: RTP/AVP/TCP;unicast;interleaved=0-1;ssrc=00000001\r\n\
+    Accept-Ranges: npt\r\n\
+    Media-Properties: Random-Access=0.020, Immutable, Unlimited\r\n\
+    Media-Range: npt=0.000-10.000\r\n\r\n\
+    RTSP/2.0 453 Not Enough Bandwidth\r\nCSeq: 1\r\n\r\n\
+    RTSP/2.0 461 Unsupported Transport\r\nCSeq: 1\r\n\r\n";
+
 #[test]
 fn an_admission_shows_the_session_that_it_opened(rt: HostRuntime) -> Result<(), Fail> {
     let alloc = rt.alloc();
     let table = tone(&rt)?;
     let request = request(alloc, ("SETUP", "rtsp://h/tone/a"), "", "", "")?;
     let plan = plan_of(alloc, &request, None, &table)?;
-    assert!(rt; matches!(&plan, Some(Plan::Admit(_))));
-    if let Some(Plan::Admit(plan)) = &plan {
-        assert!(rt; asks_as_drawn(plan));
-        let expected = "RTSP/2.0 200 OK\r\nCSeq: 1\r\n\
-            Session: 00000000000000000000000000000009;timeout=60\r\n\
-            Transport: RTP/AVP/TCP;unicast;interleaved=0-1;ssrc=00000001\r\n\
-            Accept-Ranges: npt\r\n\
-            Media-Properties: Random-Access=0.020, Immutable, Unlimited\r\n\
-            Media-Range: npt=0.000-10.000\r\n\r\n\
-            RTSP/2.0 453 Not Enough Bandwidth\r\nCSeq: 1\r\n\r\n\
-            RTSP/2.0 461 Unsupported Transport\r\nCSeq: 1\r\n\r\n";
-        let written = setup_texts(alloc, plan, DRAWN, &made(), Status::UnsupportedTransport)?;
-        assert!(rt; written.as_slice() == expected.as_bytes());
-    }
+    let Some(Plan::Admit(plan)) = &plan else {
+        panic!(rt; "it is an admission")
+    };
+    let written = setup_texts(alloc, plan, DRAWN, &made(), Status::UnsupportedTransport)?;
+    assert!(rt; asks_as_drawn(plan) && written.as_slice() == SET_UP.as_bytes());
     Ok(())
 }
 
@@ -218,27 +219,38 @@ fn first_play(
     plan_of(alloc, &request, view.as_ref(), table)
 }
 
+const PLAYED: &str = "RTSP/2.0 200 OK\r\nCSeq: 1\r\nSession: 00000000000000000000000000000002\r\n\
+    Range: npt=2.500-10.000\r\nSeek-Style: RAP\r\n\
+    RTP-Info: url=\"rtsp://h/tone/a\" ssrc=00000001:seq=0;rtptime=0\r\n\r\n";
+
+const REFUSED_PLAYS: [(Refusal, &str); 2] = [
+    (
+        Refusal::NoSession,
+        "RTSP/2.0 454 Session Not Found\r\nCSeq: 1\r\n\r\n",
+    ),
+    (
+        Refusal::NotHeld,
+        "RTSP/2.0 455 Method Not Valid in This State\r\nCSeq: 1\r\n\
+        Session: 00000000000000000000000000000002\r\n\
+        Allow: OPTIONS, DESCRIBE, GET_PARAMETER, SET_PARAMETER\r\n\r\n",
+    ),
+];
+
 #[test]
 fn a_play_shows_what_is_played(rt: HostRuntime) -> Result<(), Fail> {
     let alloc = rt.alloc();
     let table = tone(&rt)?;
     let mut kept = sessions(alloc)?;
     let plan = first_play(alloc, &table, &kept)?;
-    assert!(rt; matches!(&plan, Some(Plan::Step(plan)) if plan.step == Step::Play(PLAY)));
-    if let Some(Plan::Step(plan)) = &plan {
-        let expected = "RTSP/2.0 200 OK\r\nCSeq: 1\r\nSession: 00000000000000000000000000000002\r\n\
-            Range: npt=2.500-10.000\r\nSeek-Style: RAP\r\n\
-            RTP-Info: url=\"rtsp://h/tone/a\" ssrc=00000001:seq=0;rtptime=0\r\n\r\n";
-        let written = play_it(alloc, &mut kept, plan)?;
-        assert!(rt; written.as_slice() == expected.as_bytes());
-        let gone = "RTSP/2.0 454 Session Not Found\r\nCSeq: 1\r\n\r\n";
-        let written = step_text(alloc, plan, Err(Refusal::NoSession))?;
-        assert!(rt; written.as_slice() == gone.as_bytes());
-        let not_held = "RTSP/2.0 455 Method Not Valid in This State\r\nCSeq: 1\r\n\
-            Session: 00000000000000000000000000000002\r\n\
-            Allow: OPTIONS, DESCRIBE, GET_PARAMETER, SET_PARAMETER\r\n\r\n";
-        let written = step_text(alloc, plan, Err(Refusal::NotHeld))?;
-        assert!(rt; written.as_slice() == not_held.as_bytes());
+    let Some(Plan::Step(plan)) = &plan else {
+        panic!(rt; "it is a step")
+    };
+    assert!(rt; plan.step == Step::Play(PLAY));
+    let written = play_it(alloc, &mut kept, plan)?;
+    assert!(rt; written.as_slice() == PLAYED.as_bytes());
+    for (refusal, answer) in REFUSED_PLAYS {
+        let written = step_text(alloc, plan, Err(refusal))?;
+        assert!(rt; written.as_slice() == answer.as_bytes(), "{answer}");
     }
     Ok(())
 }
@@ -262,13 +274,10 @@ fn what_has_no_number_is_screened(rt: HostRuntime) -> Result<(), Fail> {
     let mut options = request(alloc, ("OPTIONS", "*"), READY, "", "")?;
     assert!(rt; session_named(alloc, &table, &options)? == Some(Name::Id(2)));
     options.headers = HeadersBuilder::new(alloc).into_headers();
-    match screen(alloc, &options, &table)? {
-        Screen::Answered(reply) => {
-            assert_replied(&rt, alloc, &reply, "RTSP/2.0 400 Bad Request\r\n\r\n")?;
-        }
-        Screen::Asks(_) => assert!(rt; false),
-    }
-    Ok(())
+    let Screen::Answered(reply) = screen(alloc, &options, &table)? else {
+        panic!(rt; "it has no number")
+    };
+    assert_replied(&rt, alloc, &reply, "RTSP/2.0 400 Bad Request\r\n\r\n")
 }
 
 // The moment to which a request of the session that is Ready, and ends at 60,000, renews it.
@@ -290,11 +299,11 @@ fn renewed_until(
 fn a_session_is_renewed_but_by_its_teardown(rt: HostRuntime) -> Result<(), Fail> {
     let table = tone(&rt)?;
     let renewed = renewed_until(rt.alloc(), &table, "PLAY", 1_000)?;
-    assert_eq!(rt; renewed, Some(61_000));
+    assert!(rt; renewed == Some(61_000));
     let ended = renewed_until(rt.alloc(), &table, "TEARDOWN", 1_000)?;
-    assert_eq!(rt; ended, None);
+    assert!(rt; ended.is_none());
     let same = renewed_until(rt.alloc(), &table, "PLAY", 0)?;
-    assert_eq!(rt; same, None);
+    assert!(rt; same.is_none());
     Ok(())
 }
 
@@ -303,9 +312,9 @@ fn a_session_is_renewed_by_a_step_at_least(rt: HostRuntime) -> Result<(), Fail> 
     let text = EXAMPLE.replacen(rt.alloc(), "timeout", "renewal_step = 5000\ntimeout", 1)?;
     let table = Table::read(rt.alloc(), text.as_bytes())?;
     let too_little = renewed_until(rt.alloc(), &table, "PLAY", 4_999)?;
-    assert_eq!(rt; too_little, None);
+    assert!(rt; too_little.is_none());
     let enough = renewed_until(rt.alloc(), &table, "PLAY", 5_000)?;
-    assert_eq!(rt; enough, Some(65_000));
+    assert!(rt; enough == Some(65_000));
     Ok(())
 }
 

@@ -1,14 +1,11 @@
 //! Lanes over devices, one of which fails at one of its calls. Each lane serves one connection.
 
-ghost use Rattle.rtsp_lock.specs.Calls.{IsSeatOf, SameSeat};
-
 use crate::failing_devices::{Answers, Counted, Failing, NEVER, Ports, Requests};
-use crate::world::tone;
+use crate::world::{serve, tone};
 use rtsp_content::Table;
-use rtsp_engine::{Asker, Desk, ServeEnd, TURNS};
-use rtsp_lock::{BookLock, BookSeat, open};
+use rtsp_engine::{Asker, ServeEnd, TURNS};
+use rtsp_lock::open;
 use rtsp_server::{BookHandle, Lane, LaneTurn, PoolEnd, run_pool, whole_of};
-use rtspd::{NoPlays, StandingClock};
 use std::alloc::Global;
 use std::net::{Net, TcpListener, TcpStream};
 use std::process::Abort;
@@ -63,38 +60,6 @@ struct OneConnection {
     report: Arc<Mutex<Report>>,
 }
 
-// Lends all parts to a desk, and serves the connection.
-fn serve_lent<'a, R: Wait>(
-    rt: &'a R,
-    alloc: Global,
-    seat: &'a mut BookSeat,
-    lock: &'a BookLock,
-    binder: &'a mut Ports,
-    words: &'a mut Counted,
-    clock: &'a mut StandingClock,
-    plays: &'a mut NoPlays,
-    table: &'a Table,
-    asker: Asker,
-    requests: &mut Requests,
-    answers: &mut Answers,
-) -> ServeEnd
-    requires { IsSeatOf seat.old lock.now }
-    ensures { SameSeat seat.old seat.new }
-{
-    let mut desk = Desk {
-        rt,
-        seat,
-        lock,
-        binder,
-        words,
-        clock,
-        plays,
-        table,
-        asker,
-    };
-    desk.serve(alloc, requests, answers, TURNS)
-}
-
 // Serves a connection from a handle of the book.
 fn serve_from<R: Wait>(
     rt: &R,
@@ -109,19 +74,18 @@ fn serve_from<R: Wait>(
     let mut answers = Answers::new(alloc, failing);
     let mut binder = Ports::new(failing);
     let mut words = Counted::new(failing);
-    let end = serve_lent(
+    let end = serve(
         rt,
         alloc,
         &mut handle.seat,
         &handle.lock,
         &mut binder,
         &mut words,
-        &mut StandingClock,
-        &mut NoPlays,
         table,
         asker,
         &mut requests,
         &mut answers,
+        TURNS,
     );
     let Answers { said, .. } = answers;
     Report {

@@ -9,6 +9,8 @@ mod command_lines;
 #[cfg(test)]
 mod connections;
 #[cfg(test)]
+mod conversations;
+#[cfg(test)]
 mod end_of_stream;
 #[cfg(test)]
 mod failing_devices;

@@ -1,15 +1,11 @@
 //! A pool of lanes over devices that tell what they were asked. Each lane has one connection.
 
-ghost use Rattle.rtsp_lock.specs.Calls.{IsSeatOf, SameSeat};
-
-use crate::world::tone;
+use crate::world::{serve, tone};
 use rtsp_content::Table;
-use rtsp_engine::{Asker, BindFault, Binder, Connection, Desk, Words};
-use rtsp_grammar::MessageFault;
-use rtsp_lock::{BookLock, BookSeat, open};
+use rtsp_engine::{Asker, BindFault, Binder, CountedReader, CountedWriter, ServeEnd, TURNS, Words};
+use rtsp_lock::open;
 use rtsp_server::{BookHandle, Lane, LaneTurn, PoolEnd, run_pool, whole_of};
-use rtsp_state::Room;
-use rtspd::{CountedWords, NoPlays, StandingClock};
+use rtspd::CountedWords;
 use std::alloc::Global;
 use std::net::{Net, TcpListener, TcpStream};
 use std::process::Abort;
@@ -73,38 +69,6 @@ struct OneSetup {
     ids: u64,
 }
 
-// Lends all parts to a desk, and pushes the request.
-fn push_lent<'a, R: Wait, B: Binder>(
-    rt: &'a R,
-    alloc: Global,
-    seat: &'a mut BookSeat,
-    lock: &'a BookLock,
-    binder: &'a mut B,
-    words: &'a mut CountedWords,
-    clock: &'a mut StandingClock,
-    plays: &'a mut NoPlays,
-    table: &'a Table,
-    asker: Asker,
-    input: &mut Connection,
-    room: &mut Room,
-) -> Result<(), MessageFault>
-    requires { IsSeatOf seat.old lock.now }
-    ensures { SameSeat seat.old seat.new }
-{
-    let mut desk = Desk {
-        rt,
-        seat,
-        lock,
-        binder,
-        words,
-        clock,
-        plays,
-        table,
-        asker,
-    };
-    desk.push(alloc, input, SETUP.as_bytes(), room)
-}
-
 // Whether the request is answered with 200.
 fn is_set_up<R: Wait, B: Binder>(
     rt: &R,
@@ -115,25 +79,21 @@ fn is_set_up<R: Wait, B: Binder>(
     table: &Table,
     asker: Asker,
 ) -> bool {
-    let mut clock = StandingClock;
-    let mut plays = NoPlays;
-    let mut input = Connection::new(alloc);
-    let mut room = Room::new(alloc);
-    let pushed = push_lent(
+    let mut said: Vec<u8> = Vec::new(alloc);
+    let end = serve(
         rt,
         alloc,
         &mut handle.seat,
         &handle.lock,
         binder,
         words,
-        &mut clock,
-        &mut plays,
         table,
         asker,
-        &mut input,
-        &mut room,
+        &mut CountedReader::new(SETUP.as_bytes()),
+        &mut CountedWriter::new(&mut said),
+        TURNS,
     );
-    pushed.is_ok() && room.as_bytes().starts_with(b"RTSP/2.0 200 OK\r\n")
+    end == ServeEnd::Closed && said.as_slice().starts_with(b"RTSP/2.0 200 OK\r\n")
 }
 
 impl OneSetup {

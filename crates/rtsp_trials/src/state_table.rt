@@ -10,7 +10,7 @@ use std::process::Abort;
 use std::test::Fail;
 
 // What a cell of the table says.
-#[derive(Clone, Copy, Debug, PartialEq, Eq)]
+#[derive(Clone, Copy, PartialEq, Eq)]
 enum Cell {
     // A response of this status.
     Is(u16),
@@ -116,7 +116,7 @@ fn walk(
         let request = request(alloc, (method, uri), id, "npt=2-", body)?;
         let view = kept.book().session(*session);
         let found = cell_of(alloc, &request, view.as_ref(), table)?;
-        assert_eq!(rt; Some(found), expected, "{method} of {uri}, {name}");
+        assert!(rt; Some(found) == expected, "{method} of {uri}, {name}");
     }
     assert!(rt; fields.next().is_none(), "{row}");
     Ok(())

@@ -1,14 +1,19 @@
 //! What the tests share: the example configuration, a book with sessions in each state, and requests.
 
+ghost use Rattle.rtsp_lock.specs.Calls.{IsSeatOf, SameSeat};
+
 use rtsp_book::{
     Admitted, ChannelHold, Commit, Kept, Life, PlainBook, Play, Receipt, Refusal, Step,
 };
 use rtsp_content::Table;
+use rtsp_engine::{Asker, Binder, ByteIn, ByteOut, Desk, ServeEnd, Words};
 use rtsp_grammar::{HeadersBuilder, Method, Request, Text, Version};
+use rtsp_lock::{BookLock, BookSeat};
 use rtsp_record::{Id, Stream, Whole};
 use rtsp_state::{Room, SessionKey, SetupPlan, Status, StepPlan};
-use rtspd::EXAMPLE;
+use rtspd::{EXAMPLE, NoPlays, StandingClock};
 use std::alloc::{AllocError, Global};
+use std::sync::Wait;
 use std::test::Fail;
 
 const TRANSPORT: &[u8] = b"RTP/AVP/TCP;unicast;interleaved=0-1";
@@ -42,6 +47,37 @@ pub fn stream(presentation: u16, track: u16, ssrc: u32) -> Stream {
         rtp_port: 0,
         rtcp_port: 0,
     }
+}
+
+/// Serves a connection at the moment 0, over these devices and with at most so many reads.
+pub fn serve<R: Wait, B: Binder, W: Words, I: ByteIn, O: ByteOut>(
+    rt: &R,
+    alloc: Global,
+    seat: &mut BookSeat,
+    lock: &BookLock,
+    binder: &mut B,
+    words: &mut W,
+    table: &Table,
+    asker: Asker,
+    reader: &mut I,
+    writer: &mut O,
+    turns: u64,
+) -> ServeEnd
+    requires { IsSeatOf seat.old lock.now }
+    ensures { SameSeat seat.old seat.new }
+{
+    let mut desk = Desk {
+        rt,
+        seat,
+        lock,
+        binder,
+        words,
+        clock: &mut StandingClock,
+        plays: &mut NoPlays,
+        table,
+        asker,
+    };
+    desk.serve(alloc, reader, writer, turns)
 }
 
 // A session whose id is its number.

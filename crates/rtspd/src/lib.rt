@@ -24,6 +24,3 @@ pub use example::EXAMPLE;
 pub use exit::Exit;
 pub use port_set::PortSet;
 pub use running::{run_program, run_words};
-
-#[cfg(test)]
-mod tests;

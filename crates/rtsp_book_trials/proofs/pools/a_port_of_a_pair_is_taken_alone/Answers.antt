@@ -1,7 +1,7 @@
 use Rattle.std.proofs.Common.{◌≡◌, ◌&&◌, true, ap, ◌∙◌, arith}
 use Rattle.rtsp_record.specs.declared.holdings.Whole.{Whole}
 use Rattle.rtsp_pools.specs.Pools.{is_free_port}
-use Rattle.rtsp_pools.proofs.tests.a_port_of_a_pair_is_taken_alone.Goals as goal
+use Rattle.rtsp_book_trials.proofs.pools.a_port_of_a_pair_is_taken_alone.Goals as goal
 
 pub take-requires-clause-in_whole : goal.take-requires-clause-in_whole
 take-requires-clause-in_whole g c =
