@@ -31,7 +31,7 @@ fn is_seen<R: Wait>(rt: &R, lock: &BookLock, seat: &mut BookSeat) -> bool
     requires { IsSeatOf seat.old lock.now }
     ensures { SameSeat seat.old seat.new }
 {
-    let Some(shown) = seat.look(rt, lock, Name::Id(3)) else {
+    let Some(shown) = seat.look(rt, lock, Name::Id(103)) else {
         return false;
     };
     let phase = seat.phase(rt, lock, 3);
@@ -44,7 +44,7 @@ fn no_other_is_seen<R: Wait>(rt: &R, lock: &BookLock, seat: &mut BookSeat) -> bo
     ensures { SameSeat seat.old seat.new }
 {
     seat.look(rt, lock, Name::Number(3)).is_some()
-        && seat.look(rt, lock, Name::Id(2)).is_none()
+        && seat.look(rt, lock, Name::Id(3)).is_none()
         && seat.phase(rt, lock, 4).is_none()
 }
 
@@ -201,11 +201,11 @@ fn opening(session: u64) -> Step
     Step::Open(life(session))
 }
 
-// A session whose id is its number.
+// A session whose id is its number and 100.
 fn life(session: u64) -> Life {
     Life {
         session,
-        id: Id::new(session as u128),
+        id: Id::new(u128::from(session) + 100),
         conn: 1,
         expires: 60_000,
     }
