@@ -185,7 +185,11 @@ fn receiver(rt: &HostRuntime) -> io::Result<UdpSocket> {
 }
 
 // Hands the play of the session over to the pacers.
-fn hand_over(rt: &HostRuntime, bells: &Bells, outlet: &Arc<Outlet>) -> Result<(), AllocError> {
+fn hand_over<R: Wait + AllocGlobal>(
+    rt: &R,
+    bells: &Bells,
+    outlet: &Arc<Outlet>,
+) -> Result<(), AllocError> {
     let mut plays = NotedPlays::new(rt.alloc());
     plays.note(rt.alloc(), 2, 5, b"rtsp://h/tone")?;
     plays.settle(true);

@@ -10,7 +10,10 @@ use rtsp_lock::{LockBook, open};
 use rtsp_record::write_journal;
 use rtsp_server::whole_of;
 use rtsp_undo::{book_text, rewind};
-use rtspd::{CountedWords, Exit, PortSet, run_words};
+use rtspd::{CountedWords, EXAMPLE, Exit, PortSet, run_words};
+use std::alloc::{AllocError, Global};
+use std::process::Abort;
+use std::sync::Wait;
 use std::test::Fail;
 
 const OPTIONS: &str = "OPTIONS * RTSP/2.0\r\nCSeq: 1\r\n\r\n";
@@ -96,16 +99,21 @@ struct Conversation {
 }
 
 // All of these texts as one.
-fn joined(rt: &HostRuntime, texts: &[&str]) -> Result<Vec<u8>, Fail> {
-    let mut whole: Vec<u8> = Vec::new(rt.alloc());
+fn joined(alloc: Global, texts: &[&str]) -> Result<Vec<u8>, AllocError> {
+    let mut whole: Vec<u8> = Vec::new(alloc);
     for text in texts {
         whole.extend_from_slice(text.as_bytes())?;
     }
     Ok(whole)
 }
 
-// Serves the first connection of the example's server, with at most so many reads.
-fn served(rt: &HostRuntime, table: &Table, input: &[u8], turns: u64) -> Result<Conversation, Fail> {
+// Serves the first connection of a server, with at most so many reads.
+fn served<R: AllocGlobal + Wait + Abort>(
+    rt: &R,
+    table: &Table,
+    input: &[u8],
+    turns: u64,
+) -> Result<Conversation, Fail> {
     let whole = whole_of(table);
     let (lock, mut seat) = open(rt.alloc(), &whole)?;
     let mut binder = PortSet::open(rt.alloc(), whole.first_port, whole.pairs)?;
@@ -134,8 +142,11 @@ fn served(rt: &HostRuntime, table: &Table, input: &[u8], turns: u64) -> Result<C
     Ok(Conversation { said, kept, end })
 }
 
-fn conversation(rt: &HostRuntime, texts: &[&str]) -> Result<Conversation, Fail> {
-    served(rt, &tone(rt)?, joined(rt, texts)?.as_slice(), TURNS)
+// Serves one of the example's server.
+fn converse<R: AllocGlobal + Wait + Abort>(rt: &R, texts: &[&str]) -> Result<Conversation, Fail> {
+    let table = Table::read(rt.alloc(), EXAMPLE.as_bytes())?;
+    let input = joined(rt.alloc(), texts)?;
+    served(rt, &table, input.as_slice(), TURNS)
 }
 
 // The book once this many entries are undone.
@@ -162,8 +173,8 @@ fn three_messages_leave_eight_entries(rt: HostRuntime) -> Result<(), Fail> {
         SETUP_ANSWER,
         "RTSP/2.0 200 OK\r\nCSeq: 3\r\n\r\n",
     ];
-    let expected = joined(&rt, answers.as_slice())?;
-    let mut talk = conversation(&rt, [OPTIONS, SETUP, TEARDOWN].as_slice())?;
+    let expected = joined(rt.alloc(), answers.as_slice())?;
+    let mut talk = converse(&rt, [OPTIONS, SETUP, TEARDOWN].as_slice())?;
     assert!(rt; talk.end == ServeEnd::Closed);
     assert!(rt; talk.said.as_slice() == expected.as_slice());
     for _ in 0..8 {
@@ -175,7 +186,7 @@ fn three_messages_leave_eight_entries(rt: HostRuntime) -> Result<(), Fail> {
 
 #[test]
 fn a_first_setup_is_four_entries(rt: HostRuntime) -> Result<(), Fail> {
-    let mut talk = conversation(&rt, [SETUP].as_slice())?;
+    let mut talk = converse(&rt, [SETUP].as_slice())?;
     let mut journal: Vec<u8> = Vec::new(rt.alloc());
     write_journal(&mut journal, talk.kept.journal())?;
     assert!(rt; journal.as_slice() == JOURNAL.as_bytes());
@@ -188,7 +199,7 @@ fn a_first_setup_is_four_entries(rt: HostRuntime) -> Result<(), Fail> {
 
 #[test]
 fn a_refused_setup_leaves_nothing_held(rt: HostRuntime) -> Result<(), Fail> {
-    let mut talk = conversation(&rt, [SETUP, SECOND_SETUP, THIRD_SETUP].as_slice())?;
+    let mut talk = converse(&rt, [SETUP, SECOND_SETUP, THIRD_SETUP].as_slice())?;
     let refused = "RTSP/2.0 453 Not Enough Bandwidth\r\nCSeq: 3\r\n\r\n";
     assert!(rt; talk.said.as_slice().ends_with(refused.as_bytes()));
     assert!(rt; talk.kept.journal().len() == 10);
@@ -203,7 +214,7 @@ fn a_refused_setup_leaves_nothing_held(rt: HostRuntime) -> Result<(), Fail> {
 #[test]
 fn each_refusal_has_its_status(rt: HostRuntime) -> Result<(), Fail> {
     for (request, answer) in REFUSED.iter() {
-        let talk = conversation(&rt, [*request].as_slice())?;
+        let talk = converse(&rt, [*request].as_slice())?;
         assert!(rt; talk.said.as_slice() == answer.as_bytes());
         assert!(rt; talk.kept.journal().is_empty());
     }
@@ -212,7 +223,7 @@ fn each_refusal_has_its_status(rt: HostRuntime) -> Result<(), Fail> {
 
 #[test]
 fn a_bare_line_feed_ends_the_conversation(rt: HostRuntime) -> Result<(), Fail> {
-    let talk = conversation(&rt, ["OPTIONS * RTSP/2.0\n", OPTIONS].as_slice())?;
+    let talk = converse(&rt, ["OPTIONS * RTSP/2.0\n", OPTIONS].as_slice())?;
     assert!(rt; talk.said.as_slice() == b"RTSP/2.0 400 Bad Request\r\n\r\n".as_slice());
     assert!(rt; talk.end == ServeEnd::Fault(MessageFault::BadLine));
     Ok(())
