@@ -6,7 +6,7 @@ use rtsp_content::Table;
 use rtsp_grammar::{HeadersBuilder, Request};
 use rtsp_record::Thing;
 use rtsp_state::{
-    Drawn, Name, Plan, Reply, Room, Screen, SessionKey, SetupPlan, Status, decide,
+    Drawn, Name, Plan, Reply, Room, Screen, SessionKey, SetupPlan, Status, StepPlan, decide,
     law_allowed_is_valid, law_answers_in_order, law_answers_refusal, law_reads_once,
     law_renews_in_steps, law_shows_allowed, law_shows_session, renewal, renewal_refused, screen,
 };
@@ -249,10 +249,20 @@ fn a_play_shows_what_is_played(rt: HostRuntime) -> Result<(), Fail> {
     let written = play_it(alloc, &mut kept, plan)?;
     assert!(rt; written.as_slice() == PLAYED.as_bytes());
     for (refusal, answer) in REFUSED_PLAYS {
-        let written = step_text(alloc, plan, Err(refusal))?;
-        assert!(rt; written.as_slice() == answer.as_bytes(), "{answer}");
+        assert!(rt; is_refused(alloc, plan, refusal, answer)?, "{answer}");
     }
     Ok(())
+}
+
+// Whether this is what a step is answered where it is refused so.
+fn is_refused(
+    alloc: Global,
+    plan: &StepPlan,
+    refusal: Refusal,
+    answer: &str,
+) -> Result<bool, AllocError> {
+    let written = step_text(alloc, plan, Err(refusal))?;
+    Ok(written.as_slice() == answer.as_bytes())
 }
 
 // The session that a request names, where nothing refuses it before.

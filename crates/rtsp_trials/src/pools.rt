@@ -6,7 +6,7 @@ use rtsp_engine::{Asker, BindFault, Binder, CountedReader, CountedWriter, ServeE
 use rtsp_lock::open;
 use rtsp_server::{BookHandle, Lane, LaneTurn, PoolEnd, run_pool, whole_of};
 use rtspd::CountedWords;
-use std::alloc::Global;
+use std::alloc::{AllocError, Global};
 use std::net::{Net, TcpListener, TcpStream};
 use std::process::Abort;
 use std::rt::Clock;
@@ -147,6 +147,17 @@ fn flag(alloc: Global, is_set: bool) -> Result<Arc<AtomicBool>, Fail> {
     Ok(flag)
 }
 
+fn two_lanes(
+    alloc: Global,
+    first: OneSetup,
+    second: OneSetup,
+) -> Result<Vec<OneSetup>, AllocError> {
+    let mut lanes = Vec::new(alloc);
+    lanes.push(first)?;
+    lanes.push(second)?;
+    Ok(lanes)
+}
+
 // Runs two lanes, of which one binds its pair only once the other's SETUP is answered.
 fn run_two<
     R: Threads + Wait + Net<Listener = TcpListener, Stream = TcpStream> + Clock + Abort + Sync,
@@ -165,14 +176,11 @@ fn run_two<
         answered: Arc::try_clone(&two)?,
         ids: 1,
     };
-    let mut lanes = Vec::new(alloc);
-    if is_waiting_first {
-        lanes.push(waiting)?;
-        lanes.push(other)?;
+    let lanes = if is_waiting_first {
+        two_lanes(alloc, waiting, other)?
     } else {
-        lanes.push(other)?;
-        lanes.push(waiting)?;
-    }
+        two_lanes(alloc, other, waiting)?
+    };
     let end = run_pool(rt, alloc, lanes, &lock, &mut seat, table);
     assert!(rt; end == PoolEnd { served: 2, idle: 0 });
     assert!(rt; one.load(Ordering::SeqCst) && two.load(Ordering::SeqCst));

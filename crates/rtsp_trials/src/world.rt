@@ -50,14 +50,14 @@ pub fn stream(presentation: u16, track: u16, ssrc: u32) -> Stream {
 }
 
 /// Serves a connection at the moment 0, over these devices and with at most so many reads.
-pub fn serve<R: Wait, B: Binder, W: Words, I: ByteIn, O: ByteOut>(
-    rt: &R,
+pub fn serve<'a, R: Wait, B: Binder, W: Words, I: ByteIn, O: ByteOut>(
+    rt: &'a R,
     alloc: Global,
-    seat: &mut BookSeat,
-    lock: &BookLock,
-    binder: &mut B,
-    words: &mut W,
-    table: &Table,
+    seat: &'a mut BookSeat,
+    lock: &'a BookLock,
+    binder: &'a mut B,
+    words: &'a mut W,
+    table: &'a Table,
     asker: Asker,
     reader: &mut I,
     writer: &mut O,
