@@ -43,9 +43,10 @@ fn no_other_is_seen<R: Wait>(rt: &R, lock: &BookLock, seat: &mut BookSeat) -> bo
     requires { IsSeatOf seat.old lock.now }
     ensures { SameSeat seat.old seat.new }
 {
-    seat.look(rt, lock, Name::Number(3)).is_some()
-        && seat.look(rt, lock, Name::Id(3)).is_none()
-        && seat.phase(rt, lock, 4).is_none()
+    let mut found = seat.look(rt, lock, Name::Number(3));
+    let lives = found.is_some();
+    seat.look_into(rt, lock, Name::Id(3), &mut found);
+    lives && found.is_none() && seat.phase(rt, lock, 4).is_none()
 }
 
 // The journal has one entry, in which this actor opens this session.

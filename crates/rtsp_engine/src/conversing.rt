@@ -82,8 +82,10 @@ fn respond_named<R: Wait, B: Binder, W: Words, C: Clock, P: Plays>(
     ensures err { OnErr result (OnlyFinds (devices B.calls W.calls C.tells P.calls) (service desk.old) request.entry (state desk.old) (state desk.new)) }
     ensures mute { OnErr result (room.new.text ≡ room.old.text) }
 {
+    let mut found = None;
+    let conn = desk.asker.conn;
     let name = request.session_name();
-    let mut found = look(desk.rt, desk.seat, desk.lock, desk.asker.conn, name);
+    look(desk.rt, desk.seat, desk.lock, conn, name, &mut found);
     let moment = desk.clock.now();
     respond_found(alloc, desk, uri, request, moment, &mut found, room)
 }

@@ -23,21 +23,22 @@ fn lock_name(conn: u64, name: Name) -> LockName
     }
 }
 
-// The living session of a name.
+// Puts the living session of a name into the place.
 pub(crate) fn look<R: Wait>(
     rt: &R,
     seat: &mut BookSeat,
     lock: &BookLock,
     conn: u64,
     name: Option<Name>,
-) -> Option<SessionView>
+    found: &mut Option<SessionView>,
+)
     requires { IsSeatOf seat.old lock.now }
     ensures same { SameSeat seat.old seat.new }
-    ensures looks { Looks conn name result (seat_view seat.old) (seat_view seat.new) }
+    ensures looks { Looks conn name found.new (seat_view seat.old) (seat_view seat.new) }
 {
     match name {
-        Some(name) => seat.look(rt, lock, lock_name(conn, name)),
-        None => None,
+        Some(name) => seat.look_into(rt, lock, lock_name(conn, name), found),
+        None => *found = None,
     }
 }
 
@@ -72,7 +73,7 @@ fn renew_until<R: Wait>(
             if made.records().is_empty() {
                 return Ok(());
             }
-            *found = look(rt, seat, lock, conn, request.session_name());
+            look(rt, seat, lock, conn, request.session_name(), found);
             Ok(())
         }
         Err(refusal) => Err(renewal_refused(request, view, refusal)),

@@ -1,7 +1,7 @@
 use Rattle.std.proofs.Common.{ap, refl, []}
 use Rattle.rtsp_book.specs.Kept.{History}
 use Rattle.rtsp_lock.proofs.Answering.{Lawful, view_is, same_is, after, unnoted, look_leaves, look_draws_none, looks}
-use Rattle.rtsp_lock.proofs.handles.BookSeat.look.Goals as goal
+use Rattle.rtsp_lock.proofs.handles.BookSeat.look_into.Goals as goal
 
 pub returns-clause-looked : goal.returns-clause-looked
 returns-clause-looked g c =
