@@ -3,7 +3,7 @@
 ghost use Rattle.rtsp_record.specs.Choices.{HasPorts};
 ghost use Rattle.rtsp_book.specs.Replies.{IsAskable};
 
-use crate::world::{OVER_CHANNELS, OVER_PORTS, SMALL};
+use crate::world::{NARROW, OVER_CHANNELS, OVER_PORTS, SMALL};
 use rtsp_book::{
     BookRep, Chain, ChannelHold, Commit, Kept, Life, PlainBook, Receipt, SessionView, Step, Tally,
     law_giving_back, law_granted,
@@ -241,11 +241,7 @@ fn a_stream_takes_the_place_of_one_of_its_track(rt: HostRuntime) -> Result<(), F
 
 #[test]
 fn an_old_stream_stays_where_the_uplink_has_no_room(rt: HostRuntime) -> Result<(), Fail> {
-    let narrow = Whole {
-        uplink: 80_000,
-        ..SMALL
-    };
-    let kept = with_stream(rt.alloc(), &narrow)?;
+    let kept = with_stream(rt.alloc(), &NARROW)?;
     let expected = "NoBandwidth\n\
         session 2 00000000000000000000000000000001 1 60000 ready:0:0\n\
         hold 2 3 rate 80000\n\

@@ -23,6 +23,7 @@ fn has_last_seventy(pool: &PairPool) -> bool {
         && pool.least_free(5_398) == Some(5_398)
         && pool.least_free(5_399).is_none()
         && pool.free_count() == 70
+        && !pool.is_free(4_998)
         && !pool.is_free(5_258)
         && !pool.is_free(5_261)
         && !pool.is_free(5_400)
@@ -54,8 +55,23 @@ const TWO_PAIRS: Whole = Whole {
     journal: 64,
 };
 
+// The least free pair is found from a port on, and a pair that is given back is free again.
+#[test]
+fn pairs_are_taken_and_given(rt: HostRuntime) -> Result<(), AllocError> {
+    let mut pool = PairPool::open(rt.alloc(), &TWO_PAIRS)?;
+    assert!(rt; pool.least_free(0) == Some(5_000));
+    pool.take(5_000);
+    assert!(rt; pool.least_free(5_001) == Some(5_002));
+    pool.take(5_002);
+    assert!(rt; pool.least_free(0).is_none());
+    pool.give(5_000);
+    assert!(rt; pool.free_count() == 1);
+    Ok(())
+}
+
 fn has_one_port(pool: &PairPool) -> bool {
     pool.free_ports() == 1
+        && !pool.is_free_port(4_999)
         && pool.is_free_port(5_001)
         && !pool.is_free_port(5_003)
         && !pool.is_free_port(5_004)
@@ -99,6 +115,23 @@ fn channels_are_free_by_connection(rt: HostRuntime) -> Result<(), AllocError> {
     Ok(())
 }
 
+fn has_channel_0(pool: &ChanPool, conn: u64) -> bool {
+    !pool.is_free(conn, 0) && pool.has_held(conn) && pool.least_or_wish(conn, None) == Some(2)
+}
+
+// Channel 0 of one connection and of another are held beside each other.
+#[test]
+fn a_channel_of_one_connection_is_free_on_another(rt: HostRuntime) -> Result<(), AllocError> {
+    let mut pool = ChanPool::open(rt.alloc());
+    pool.take(1, 0)?;
+    assert!(rt; has_channel_0(&pool, 1) && pool.is_free(2, 0));
+    pool.take(2, 0)?;
+    assert!(rt; has_channel_0(&pool, 1) && has_channel_0(&pool, 2));
+    pool.give(1, 0);
+    assert!(rt; pool.is_free(1, 0) && has_channel_0(&pool, 2));
+    Ok(())
+}
+
 #[test]
 fn bits_of_the_uplink_are_taken_and_given(rt: HostRuntime) {
     let mut pool = RatePool::open(&WHOLE);
@@ -106,4 +139,6 @@ fn bits_of_the_uplink_are_taken_and_given(rt: HostRuntime) {
     assert!(rt; pool.held() == 80_000);
     pool.give(30_000);
     assert!(rt; pool.free_count() == 110_000);
+    pool.take(110_000);
+    assert!(rt; pool.held() == 160_000 && pool.free_count() == 0);
 }

@@ -4,7 +4,7 @@ ghost use Rattle.rtsp_record.specs.Choices.{HasPorts, IsWish};
 ghost use Rattle.rtsp_book.specs.Replies.{IsAskable};
 
 use crate::books::{Asked, WITH_STREAM, step};
-use crate::world::{OVER_CHANNELS, SMALL};
+use crate::world::{NARROW, OVER_CHANNELS, SMALL};
 use rtsp_book::{
     BookRep, Chain, ChannelHold, Commit, Kept, Life, PlainBook, Play, Receipt, Startup, Step,
 };
@@ -85,8 +85,10 @@ impl TwoBooks {
 }
 
 // Whether both answer and print alike at each step after a session with a stream over a pair.
-fn stay_alike(alloc: Global, steps: &[Asked]) -> Result<bool, Fail> {
-    let mut both = TwoBooks::open(alloc, &SMALL)?;
+fn stay_alike(alloc: Global, whole: &Whole, steps: &[Asked]) -> Result<bool, Fail>
+    requires { HasPorts whole.now }
+{
+    let mut both = TwoBooks::open(alloc, whole)?;
     Ok(both.stay_alike(WITH_STREAM.as_slice())? && both.stay_alike(steps)?)
 }
 
@@ -103,8 +105,15 @@ fn expiry_and_exchange_leave_both_books_alike(rt: HostRuntime) -> Result<(), Fai
         Asked::Channels(2, 4),
         Asked::Commit(2, 4, OVER_CHANNELS),
     ];
-    assert!(rt; stay_alike(rt.alloc(), expiry.as_slice())?);
-    assert!(rt; stay_alike(rt.alloc(), exchange.as_slice())?);
+    assert!(rt; stay_alike(rt.alloc(), &SMALL, expiry.as_slice())?);
+    assert!(rt; stay_alike(rt.alloc(), &SMALL, exchange.as_slice())?);
+    Ok(())
+}
+
+#[test]
+fn a_refused_exchange_leaves_both_books_alike(rt: HostRuntime) -> Result<(), Fail> {
+    let exchange = [Asked::Rate(2, 4)];
+    assert!(rt; stay_alike(rt.alloc(), &NARROW, exchange.as_slice())?);
     Ok(())
 }
 

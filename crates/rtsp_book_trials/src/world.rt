@@ -15,6 +15,12 @@ pub const SMALL: Whole = Whole {
     journal: 1_000,
 };
 
+/// The same with bandwidth for one stream.
+pub const NARROW: Whole = Whole {
+    uplink: 80_000,
+    ..SMALL
+};
+
 /// The stream of the first track, to ports of the player.
 pub const OVER_PORTS: Stream = Stream {
     presentation: 0,

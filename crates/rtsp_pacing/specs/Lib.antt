@@ -1,3 +1,4 @@
 pub mod Wheel
 pub mod Noted
 pub mod Bells
+pub mod Plays

@@ -5,7 +5,7 @@ ghost use Rattle.rtsp_pacing.specs.Bells.{bell_of};
 
 use crate::noted::NewPlay;
 use std::alloc::{AllocError, Global};
-use std::mem;
+use std::collections::VecDeque;
 use std::rt::Clock;
 use std::sync::{Condvar, Mutex, Wait};
 use std::time::Duration;
@@ -13,8 +13,16 @@ use std::time::Duration;
 // What a pacer has to hear.
 #[derive(Drop)]
 struct Inbox {
-    plays: Vec<NewPlay>,
+    plays: VecDeque<NewPlay>,
     is_stopped: bool,
+}
+
+// What a pacer hears. Of several plays the one that was handed over first comes first.
+#[derive(Drop)]
+pub(crate) enum Heard {
+    Play(NewPlay),
+    Nothing,
+    Stop,
 }
 
 /// What wakes a pacer.
@@ -29,7 +37,7 @@ impl Bell {
     fn new(alloc: Global, room: usize) -> Result<Bell, AllocError> {
         Ok(Bell {
             inbox: Mutex::new(Inbox {
-                plays: Vec::with_capacity(alloc, room)?,
+                plays: VecDeque::with_capacity(alloc, room)?,
                 is_stopped: false,
             }),
             rung: Condvar::new(),
@@ -38,19 +46,13 @@ impl Bell {
 
     // Hands a play over. Whether there was room for it.
     pub(crate) fn ring<R: Wait>(&self, rt: &R, play: NewPlay) -> bool {
-        let is_kept = self.inbox.lock(rt).plays.push(play).is_ok();
+        let is_kept = self.inbox.lock(rt).plays.push_back(play).is_ok();
         self.rung.notify_one();
         is_kept
     }
 
-    // Waits for so long, or until there is something to hear. The plays are put into an empty
-    // list. Whether the pacer goes on.
-    pub(crate) fn hear<R: Wait + Clock>(
-        &self,
-        rt: &R,
-        wait: Duration,
-        plays: &mut Vec<NewPlay>,
-    ) -> bool {
+    // Waits for so long, or until there is something to hear.
+    pub(crate) fn hear<R: Wait + Clock>(&self, rt: &R, wait: Duration) -> Heard {
         let mut inbox = self.inbox.lock(rt);
         if !wait.is_zero() {
             let (heard, _) = self.rung.wait_timeout_while(rt, inbox, wait, |inbox| {
@@ -58,8 +60,13 @@ impl Bell {
             });
             inbox = heard;
         }
-        mem::swap(&mut inbox.plays, plays);
-        !inbox.is_stopped
+        if inbox.is_stopped {
+            return Heard::Stop;
+        }
+        match inbox.plays.pop_front() {
+            Some(play) => Heard::Play(play),
+            None => Heard::Nothing,
+        }
     }
 
     /// Ends the pacer.
@@ -69,8 +76,8 @@ impl Bell {
     }
 }
 
-// 2^64 divided by the golden ratio. The numbers of sessions come in steps, since each SETUP and each
-// connection draws several: by their remainders alone one pacer would have them all.
+// 2^64 divided by the golden ratio. The numbers of sessions come in steps, since each SETUP and
+// each connection draws several: by their remainders alone one pacer would have them all.
 const SPREAD: u64 = 0x9E37_79B9_7F4A_7C15;
 
 /// The bells of all pacers. A session's plays are all sent by one of them.
@@ -80,8 +87,9 @@ pub struct Bells {
 }
 
 impl Bells {
-    /// The bells of so many pacers, for so many sessions. All memory for handing plays over is
-    /// taken here, as long as no session begins more plays than the pacer can hear.
+    /// The bells of so many pacers, for so many sessions. Memory for a play of each session is
+    /// taken here, so handing one over takes none, unless sessions begin plays faster than a pacer
+    /// hears.
     pub fn new(alloc: Global, pacers: usize, sessions: u16) -> Result<Bells, AllocError>
         ensures { IfOk result (λ b. vec_len b.bells ≡ pacers) }
     {

@@ -2,8 +2,8 @@
 //!
 //! A lane notes each play that is begun, in `noted`, and hands it over to the pacer that has the
 //! session, by its `bell`. A pacer is a thread that runs `pace`: it sleeps until the next moment of
-//! its `wheel` at which a play has something due, and takes the turn of each play there (`play`).
-//! The packets go the `ways` of their streams.
+//! its `wheel` at which one of its `plays` has something due, and takes the turn of each play there
+//! (`play`). The packets go the `ways` of their streams.
 
 #![tactic(auto)]
 
@@ -13,6 +13,7 @@ mod noted;
 mod noting;
 mod pacing;
 mod play;
+mod plays;
 mod sink;
 mod ways;
 mod wheel;
@@ -22,4 +23,5 @@ pub use bell::{Bell, Bells};
 pub use desk::{Paced, PacerParts};
 pub use noted::NotedPlays;
 pub use pacing::{SLOTS_AT_ONCE, pace};
+pub use plays::PacerPlays;
 pub use wheel::SLOTS;

@@ -2,15 +2,15 @@
 
 ghost use Rattle.rtsp_lock.specs.Calls.{IsSeatOf};
 
+use crate::bell::Heard;
 use crate::desk::{Paced, PacerDesk, PacerParts};
 use crate::noted::NewPlay;
 use crate::play::{Next, PacedPlay};
+use crate::plays::PacerPlays;
 use crate::wheel::Wheel;
 use rtsp_lock::BookSeat;
 use rtsp_sockets::RunningClock;
-use slab::Slab;
 use std::alloc::Global;
-use std::collections::BTreeMap;
 use std::rt::Clock;
 use std::sync::Wait;
 use std::time::Duration;
@@ -22,22 +22,13 @@ pub const SLOTS_AT_ONCE: u32 = 8;
 // For how long a pacer without plays sleeps, in milliseconds.
 const IDLE: u64 = 1_000;
 
-// A play in the wheel, and the key of the play that was linked to its slot before it.
-#[derive(Drop)]
-struct Linked {
-    play: PacedPlay,
-    before: Option<usize>,
-}
-
-// The plays of a pacer.
+// What a pacer does its turns with.
 #[derive(Drop)]
 struct Pacing<'a, R> {
     alloc: Global,
     desk: PacerDesk<'a, R>,
     wheel: Wheel,
-    plays: Slab<Linked>,
-    // The play of each session that was taken over last.
-    latest: BTreeMap<u64, usize>,
+    plays: PacerPlays,
 }
 
 impl<R: Wait + Clock> Pacing<'_, R> {
@@ -56,23 +47,18 @@ impl<R: Wait + Clock> Pacing<'_, R> {
         let Some(view) = self.desk.look(session) else {
             return;
         };
-        if let Some(key) = self.latest.get(&session)
-            && let Some(linked) = self.plays.get_mut(*key)
-            && linked.play.is_of(&view)
+        if let Some(latest) = self.plays.latest(session)
+            && latest.is_of(&view)
         {
-            linked.play.ask_again(asked);
+            latest.ask_again(asked);
             return;
         }
         let Some((play, due)) = PacedPlay::begin(&mut self.desk, asked, &view) else {
             return;
         };
-        let Ok(key) = self.plays.insert(Linked { play, before: None }) else {
+        let Some(key) = self.plays.take(play) else {
             return;
         };
-        if self.latest.insert(session, key).is_err() {
-            self.plays.try_remove(key);
-            return;
-        }
         self.desk.paced.plays = self.desk.paced.plays.saturating_add(1);
         self.link(key, due);
     }
@@ -80,16 +66,6 @@ impl<R: Wait + Clock> Pacing<'_, R> {
     fn link(&mut self, key: usize, due: u64) {
         if let Some(linked) = self.plays.get_mut(key) {
             linked.before = self.wheel.link(key, due);
-        }
-    }
-
-    // Drops a play.
-    fn drop_play(&mut self, key: usize) {
-        if let Some(linked) = self.plays.try_remove(key) {
-            let session = linked.play.session();
-            if self.latest.get(&session) == Some(&key) {
-                self.latest.remove(&session);
-            }
         }
     }
 
@@ -106,7 +82,7 @@ impl<R: Wait + Clock> Pacing<'_, R> {
             next = linked.before;
             match linked.play.turn(self.alloc, &mut self.desk) {
                 Next::At(due) => self.link(key, due),
-                Next::Never => self.drop_play(key),
+                Next::Never => self.plays.remove(key),
             }
         }
     }
@@ -127,12 +103,14 @@ impl<R: Wait + Clock> Pacing<'_, R> {
 /// sent at the moment that counts from the beginning of its play, so that being late at one makes
 /// no other late, and only while the session is in that play. At the end of a play the session is
 /// told so, and then the connection that asked for it, by a PLAY_NOTIFY (RFC 7826 section 13.5.1).
-/// Memory for a play is taken when it comes: one for which there is none isn't sent.
+/// Where there is room among the plays, a play needs no memory; where there is neither, it isn't
+/// sent.
 pub fn pace<'a, R: Wait + Clock>(
     rt: &'a R,
     alloc: Global,
     parts: PacerParts<'a>,
     seat: BookSeat,
+    plays: PacerPlays,
 ) -> Paced
     requires { IsSeatOf seat parts.lock.now }
 {
@@ -144,19 +122,14 @@ pub fn pace<'a, R: Wait + Clock>(
         alloc,
         desk,
         wheel,
-        plays: Slab::new(alloc),
-        latest: BTreeMap::new(alloc),
+        plays,
     };
-    let mut heard = Vec::new(alloc);
     for _ in rt.forever() {
         let sleep = pacing.sleep();
-        if !bell.hear(rt, sleep, &mut heard) {
-            break;
-        }
-        for _ in 0..heard.len() {
-            if let Some(asked) = heard.pop() {
-                pacing.take_over(asked);
-            }
+        match bell.hear(rt, sleep) {
+            Heard::Play(asked) => pacing.take_over(asked),
+            Heard::Nothing => {}
+            Heard::Stop => break,
         }
         pacing.turn_due();
     }

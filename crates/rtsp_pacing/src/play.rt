@@ -81,7 +81,8 @@ fn is_past(phase: Phase, unit_ms: u32, moment: u64) -> bool {
 }
 
 impl PacedPlay {
-    // The play that the session is in, and the moment of its first turn. `None` where it is in none.
+    // The play that the session is in, and the moment of its first turn. `None` where it is in
+    // none.
     pub(crate) fn begin<R: Wait>(
         desk: &mut PacerDesk<'_, R>,
         asked: NewPlay,

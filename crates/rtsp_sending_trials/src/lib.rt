@@ -1,4 +1,5 @@
 //! Tests of the crates that send over real sockets of this host. The crate has nothing else.
+
 #![tactic(auto)]
 
 #[cfg(test)]

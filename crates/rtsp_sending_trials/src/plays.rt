@@ -10,7 +10,7 @@ use rtsp_book::{Commit, Life, Play, Step};
 use rtsp_content::Table;
 use rtsp_engine::{Binder, Plays};
 use rtsp_lock::{BookLock, BookSeat, open};
-use rtsp_pacing::{Bells, NotedPlays, Paced, PacerParts, pace};
+use rtsp_pacing::{Bells, NotedPlays, Paced, PacerParts, PacerPlays, pace};
 use rtsp_record::{Id, Stream, Whole};
 use rtsp_sockets::{Media, Outlet, Outlets, PortBinder, PortTable};
 use std::alloc::AllocError;
@@ -153,6 +153,7 @@ fn run<'a, R: Threads + Wait + Clock + AllocGlobal + Sync>(
     rt: &'a R,
     parts: PacerParts<'a>,
     seat: BookSeat,
+    plays: PacerPlays,
     bells: &Bells,
     media: &UdpSocket,
     player: &TcpStream,
@@ -163,7 +164,7 @@ fn run<'a, R: Threads + Wait + Clock + AllocGlobal + Sync>(
         rt,
         move || -> Paced
             requires { IsSeatOf seat parts.lock.now }
-        { pace(rt, rt.alloc(), parts, seat) },
+        { pace(rt, rt.alloc(), parts, seat, plays) },
         || hear(rt, bells, media, player),
     )
 }
@@ -233,7 +234,8 @@ fn a_play_is_sent_and_reported(rt: HostRuntime) -> Result<(), Fail> {
         bell,
         begun,
     };
-    let (paced, heard) = run(&rt, parts, seat, &bells, &media, &player);
+    let plays = PacerPlays::open(rt.alloc(), 4)?;
+    let (paced, heard) = run(&rt, parts, seat, plays, &bells, &media, &player);
     assert!(rt; is_whole(&heard) && is_done(&paced));
     Ok(())
 }

@@ -13,7 +13,7 @@ use crate::sweeper::run_sweeper;
 use mio::net::TcpListener;
 use rtsp_content::Table;
 use rtsp_lock::{BookLock, BookSeat, open};
-use rtsp_pacing::{Bell, Bells, PacerParts, pace};
+use rtsp_pacing::{Bell, Bells, PacerParts, PacerPlays, pace};
 use rtsp_record::Whole;
 use rtsp_sockets::{Media, MediaFault, PortTable};
 use std::alloc::{AllocError, Global};
@@ -77,6 +77,13 @@ struct Parts {
     shared: Arc<Shared>,
 }
 
+// A pacer: which of them it is, and its plays.
+#[derive(Drop)]
+struct OnePacer {
+    number: usize,
+    plays: PacerPlays,
+}
+
 /// A server that listens, and whose threads don't run yet.
 #[derive(Drop)]
 pub struct Server {
@@ -84,7 +91,8 @@ pub struct Server {
     parts: Parts,
     handle: BookHandle,
     lanes: Vec<SocketLane>,
-    pacers: usize,
+    // The plays of each pacer, which has none yet.
+    pacers: Vec<PacerPlays>,
     address: SocketAddr,
 }
 
@@ -134,6 +142,7 @@ fn pace_lent<'a, R: Wait + rt::Clock>(
     media: &'a Media,
     shared: &'a Shared,
     bell: &'a Bell,
+    plays: PacerPlays,
 )
     requires { IsSeatOf seat lock.now }
 {
@@ -146,13 +155,20 @@ fn pace_lent<'a, R: Wait + rt::Clock>(
         bell,
         begun: shared.begun,
     };
-    pace(rt, alloc, parts, seat);
+    pace(rt, alloc, parts, seat, plays);
 }
 
 impl Parts {
     // The body of a pacer's thread.
-    fn pace<R: Wait + rt::Clock>(&self, rt: &R, alloc: Global, number: usize, handle: BookHandle) {
+    fn pace<R: Wait + rt::Clock>(
+        &self,
+        rt: &R,
+        alloc: Global,
+        pacer: OnePacer,
+        handle: BookHandle,
+    ) {
         let BookHandle { lock, seat } = handle;
+        let OnePacer { number, plays } = pacer;
         if let Some(bell) = self.shared.bells.as_slice().get(number) {
             pace_lent(
                 rt,
@@ -163,6 +179,7 @@ impl Parts {
                 &self.media,
                 &self.shared,
                 bell,
+                plays,
             );
         }
     }
@@ -185,17 +202,18 @@ impl Parts {
         alloc: Global,
         handle: BookHandle,
         lanes: Vec<SocketLane>,
-        pacers: usize,
+        pacers: Vec<PacerPlays>,
     ) -> Result<PoolEnd, ServerFault> {
         thread::scope(thread::scope_env(), rt, move |scope| {
             let mut own = handle;
             let mut missing = 0u64;
-            for number in 0..pacers {
+            for (number, plays) in pacers.into_iter().enumerate() {
                 let Some(theirs) = own.split(rt) else {
                     missing = missing.saturating_add(1);
                     continue;
                 };
-                let spawned = scope.spawn(move || self.pace(rt, alloc, number, theirs));
+                let pacer = OnePacer { number, plays };
+                let spawned = scope.spawn(move || self.pace(rt, alloc, pacer, theirs));
                 if spawned.is_err() {
                     missing = missing.saturating_add(1);
                 }
@@ -284,10 +302,19 @@ fn open_lanes<R: Wait + Net + Files<File = File>>(
     Ok(lanes)
 }
 
+// The plays of so many pacers. Any of them may come to have those of all sessions.
+fn open_pacers(alloc: Global, count: usize, sessions: u16) -> Result<Vec<PacerPlays>, AllocError> {
+    let mut pacers = Vec::new(alloc);
+    for _ in 0..count {
+        pacers.push(PacerPlays::open(alloc, usize::from(sessions))?)?;
+    }
+    Ok(pacers)
+}
+
 impl Server {
     /// A server of this configuration, which listens on this address. There are as many lanes as
-    /// the configuration has workers, but no more than the machine has cores, and half as many
-    /// pacers as cores, but at least one. With a number of connections it ends after so many.
+    /// the configuration has workers, and half as many pacers as the machine has cores, but at
+    /// least one. With a number of connections it ends after so many.
     pub fn open<R: Threads + Wait + Net + rt::Clock + Files<File = File>>(
         rt: &R,
         alloc: Global,
@@ -297,14 +324,14 @@ impl Server {
     ) -> Result<Server, ServerFault> {
         let media = Media::open(rt, alloc, &table)?;
         let handle = open_book(alloc, &whole_of(&table))?;
-        let cores = cores(rt);
-        let pacers = (cores / 2).max(1);
+        let count = (cores(rt) / 2).max(1);
+        let pacers = open_pacers(alloc, count, table.server().sessions)?;
         let listener = net::TcpListener::from(TcpListener::bind(rt, address)?);
         let address = listener.local_addr()?;
         let ours = listener.try_clone()?;
-        let shared = share(rt, alloc, &table, ours, connections, pacers)?;
-        let count = usize::from(table.server().workers).min(cores);
-        let lanes = open_lanes(rt, alloc, &shared, &listener, count)?;
+        let shared = share(rt, alloc, &table, ours, connections, count)?;
+        let workers = usize::from(table.server().workers);
+        let lanes = open_lanes(rt, alloc, &shared, &listener, workers)?;
         Ok(Server {
             alloc,
             parts: Parts {

@@ -28,7 +28,7 @@ const LISTENER: Token = Token(usize::MAX);
 
 const WAKER: Token = Token(usize::MAX - 1);
 
-/// The most events that are taken at once.
+// The most events that are taken at once.
 const EVENTS: usize = 256;
 
 /// A lane of sockets: connections of one listener, which other lanes accept from too, each answered

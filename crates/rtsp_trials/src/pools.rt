@@ -1,4 +1,5 @@
-//! A pool of lanes over devices that tell what they were asked. Each lane has one connection.
+//! A pool of lanes over devices that tell what they were asked. Each lane has one connection. A
+//! `run_pool` whose workers take turns (`workers-take-turns`) is refused by one of the two orders.
 
 use crate::world::{serve, tone};
 use rtsp_content::Table;
