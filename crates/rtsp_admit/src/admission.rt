@@ -127,9 +127,9 @@ fn attempt<R: Wait, B: Binder>(
 ///
 /// Returns what was granted, or the refusal of the first step that was refused: Open, HoldRate,
 /// HoldPair, HoldPort or HoldChan, the Return of ports that could not be bound, or Commit. `NoPair`
-/// also means that no free pair, or no free port, could be bound. After a refusal the steps accepted
-/// before are unwound and the ports that were bound are unbound, so nothing of the admission is left,
-/// as long as no other call used its number.
+/// also means that no free pair, or no free port, could be bound. After a refusal the steps
+/// accepted before are unwound and the ports that were bound are unbound, so nothing of the
+/// admission is left, as long as no other call used its number.
 pub fn admit<R: Wait, B: Binder>(
     rt: &R,
     seat: &mut BookSeat,

@@ -28,8 +28,8 @@ pub trait Binder {
     fn unbind(&mut self, admission: u64, pair: u16)
         ensures { Unbound calls admission (Pair pair) self.old self.new };
 
-    /// Binds one port. A port that is bound under this admission already, by itself or in a pair, is
-    /// a fault too.
+    /// Binds one port. A port that is bound under this admission already, by itself or in a pair,
+    /// is a fault too.
     fn bind_port(&mut self, admission: u64, port: u16) -> Result<(), BindFault>
         ensures ok { OnOk result (Bound calls admission (Port port) self.old self.new) }
         ensures err { OnErr result (Failed calls admission (Port port) self.old self.new) };
@@ -58,8 +58,8 @@ fn unbind_ports<B: Binder>(binder: &mut B, ports: &[(u64, u16)])
     }
 }
 
-/// Unbinds what a step freed, each with the admission that it was bound under: the pairs of ports in
-/// order, and then the single ports.
+/// Unbinds what a step freed, each with the admission that it was bound under: the pairs of ports
+/// in order, and then the single ports.
 pub fn unbind_freed<B: Binder>(binder: &mut B, made: &Receipt)
     ensures { UnboundAll B.calls (freed_addresses made.now) binder.old binder.new }
 {

@@ -35,8 +35,8 @@ pub fn law_admitted_address<B: Binder>(ask: &Ask)
     ensures { AdmissionsGainAddress B.calls ask.now }
 {}
 
-/// Where no failure of the binder was counted, the ports granted are the first that were held, and a
-/// refusal is that of a step as it was first asked.
+/// Where no failure of the binder was counted, the ports granted are the first that were held, and
+/// a refusal is that of a step as it was first asked.
 pub fn law_faults_counted<B: Binder>(ask: &Ask)
     ensures { AdmissionsCountFaults B.calls ask.now }
 {}

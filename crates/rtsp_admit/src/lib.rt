@@ -2,14 +2,15 @@
 //!
 //! An admission is a chain of steps: Open where a session is to be opened, HoldRate, HoldPair,
 //! HoldPort or HoldChan, Commit. Ports are bound after they are held; those that can't be bound are
-//! given back, and the next free ones above them are tried. The lock is not kept between the steps, so other
-//! seats act between any two of them, and a bind keeps nobody waiting. At the first refusal the
-//! chain is unwound and nothing of it is left.
+//! given back, and the next free ones above them are tried. The lock is not kept between the steps,
+//! so other seats act between any two of them, and a bind keeps nobody waiting. At the first
+//! refusal the chain is unwound and nothing of it is left.
 //!
 //! The definitions of `specs/` read in this order: Binder (what its calls do), Steps (the steps of
 //! an admission and what is unwound of them), Runs (the calls of an admission, one after another),
-//! Refused (what a refusal leaves), Addresses (what a binder has afterwards), Faults (binds that fail
-//! are counted), Numbers (the numbers that a seat uses), Additions (the records that it makes).
+//! Refused (what a refusal leaves), Addresses (what a binder has afterwards), Faults (binds that
+//! fail are counted), Numbers (the numbers that a seat uses), Additions (the records that it
+//! makes).
 
 #![tactic(auto)]
 

@@ -113,15 +113,17 @@ pub enum Step {
         unit_ms: u32,
         now: u64,
     },
-    /// Ends a play whose last unit is due. `unit_ms` is from 1 to 1,000. It grows. `NoSession`;
-    /// `WrongState` where the session isn't playing; `NothingDue` before that moment.
+    /// Ends a play whose last unit is due: a pacer, behind the last packet of a play. `unit_ms` is
+    /// from 1 to 1,000. It grows. `NoSession`; `WrongState` where the session isn't playing;
+    /// `NothingDue` before that moment.
     Finish {
         session: u64,
         unit_ms: u32,
         now: u64,
     },
-    /// Puts the session's expiry off, for each request in it; to an earlier moment it records
-    /// nothing. It grows. `NoSession`.
+    /// Puts the session's expiry off: a request in it, except TEARDOWN, where that moves the expiry
+    /// by at least the `renewal_step` of the configuration, in milliseconds. To a moment that isn't
+    /// later it records nothing. It grows. `NoSession`.
     Touch {
         session: u64,
         until: u64,
@@ -137,7 +139,8 @@ pub enum Step {
     End {
         session: u64,
     },
-    /// Ends the least session whose expiry is at most `now`. `NothingDue` where there is none.
+    /// Ends the least session whose expiry is at most `now`: the sweeper, each second. `NothingDue`
+    /// where there is none.
     Expire {
         now: u64,
     },

@@ -1,5 +1,6 @@
 //! What the server serves: its configuration, the presentations and tracks in it, and their
 //! description.
+
 #![tactic(auto)]
 
 mod fault;

@@ -96,8 +96,8 @@ fn act_step<R: Wait, B: Binder>(
     }
 }
 
-// Notes a play, acts the step, writes what came of it, and settles the play. It stands apart, so that
-// what is answered at once doesn't pay for the room of the records.
+// Notes a play, acts the step, writes what came of it, and settles the play. It stands apart, so
+// that what is answered at once doesn't pay for the room of the records.
 #[inline(never)]
 fn conduct_step<R: Wait, B: Binder, W: Words, C: Clock, P: Plays>(
     alloc: Global,

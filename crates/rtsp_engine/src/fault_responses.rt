@@ -1,4 +1,5 @@
 //! What is answered where a message cannot be read.
+
 ghost use Rattle.std.specs.Prelude.{◌≡◌};
 ghost use Rattle.rtsp_engine.specs.FaultResponses.{fault_response};
 

@@ -1,8 +1,8 @@
 //! Answers the items of a connection over a seat of a book that others use at the same time.
 //!
-//! `connection` takes the input of a connection in pieces, has each whole item answered, and gathers
-//! what is to be written; `serving` is the loop around it that reads and writes. `conversing`
-//! answers one request from a `Desk`, the parts that are lent to a connection.
+//! `connection` takes the input of a connection in pieces, has each whole item answered, and
+//! gathers what is to be written; `serving` is the loop around it that reads and writes.
+//! `conversing` answers one request from a `Desk`, the parts that are lent to a connection.
 //!
 //! The definitions of `specs/` read in this order: Devices (what clocks, words and plays do), Desk
 //! (what is before and after a request), Renewing, Conducting, Conversing (how one item is

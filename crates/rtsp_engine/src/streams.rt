@@ -1,4 +1,5 @@
 //! What a connection reads from and writes to.
+
 ghost use Rattle.std.specs.Prelude.{◌≡◌, ◌≤◌, ℕ, List, length, take, Option, IfOk, OnOk, OnErr};
 ghost use Rattle.std.specs.Io.KnownBytes.{Appends, ReadConsumes};
 ghost use Rattle.rtsp_engine.specs.Streams.{HasCause, WritesPart};
@@ -47,6 +48,7 @@ pub struct CountedReader<R> {
 }
 
 impl<R> CountedReader<R> {
+    /// Failures of the reader are counted from here on.
     pub fn new(inner: R) -> CountedReader<R>
         ensures { result ≡ record { inner = inner; failed = 0 } }
     {
@@ -78,6 +80,7 @@ pub struct CountedWriter<W> {
 }
 
 impl<W> CountedWriter<W> {
+    /// Failures of the writer are counted from here on.
     pub fn new(inner: W) -> CountedWriter<W>
         ensures { result ≡ record { inner = inner; failed = 0 } }
     {

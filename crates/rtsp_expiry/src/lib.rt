@@ -1,11 +1,11 @@
 //! The end of sessions by time and by the end of a connection.
 //!
 //! A sweep acts one step, Expire or Hangup, again and again: until nothing is due, or until its
-//! limit is reached, so that others get the lock in between. After each step the ports that it freed
-//! are unbound. It takes no memory, and never breaks off for want of it.
+//! limit is reached, so that others get the lock in between. After each step the ports that it
+//! freed are unbound. It takes no memory, and never breaks off for want of it.
 //!
-//! The definitions of `specs/` read in this order: Sweeps (the calls of a sweep, one after another),
-//! Endings (what it ends, and what is there after it).
+//! The definitions of `specs/` read in this order: Sweeps (the calls of a sweep, one after
+//! another), Endings (what it ends, and what is there after it).
 
 #![tactic(auto)]
 

@@ -42,9 +42,9 @@ fn act_all<R: Wait, B: Binder>(
     }
 }
 
-/// Ends sessions whose expiry is at most `now`, in milliseconds, the least number first, and unbinds
-/// the ports that each frees. It ends at most `limit` sessions; then there may be more. Otherwise
-/// none that has expired is left in the journal last seen.
+/// Ends sessions whose expiry is at most `now`, in milliseconds, the least number first, and
+/// unbinds the ports that each frees. It ends at most `limit` sessions; then there may be more.
+/// Otherwise none that has expired is left in the journal last seen.
 pub fn sweep<R: Wait, B: Binder>(
     rt: &R,
     seat: &mut BookSeat,
@@ -62,10 +62,10 @@ pub fn sweep<R: Wait, B: Binder>(
     act_all(rt, seat, lock, binder, &Step::Expire { now }, limit)
 }
 
-/// Takes leave of a connection that has ended: ends the sessions that hold channels of it, takes its
-/// startup numbers away from the others, the least session first, and unbinds the ports that each
-/// frees. It takes at most `limit` steps; then there may be more. Otherwise no session is on the
-/// connection in the journal last seen.
+/// Takes leave of a connection that has ended: ends the sessions that hold channels of it, takes
+/// its startup numbers away from the others, the least session first, and unbinds the ports that
+/// each frees. It takes at most `limit` steps; then there may be more. Otherwise no session is on
+/// the connection in the journal last seen.
 pub fn hang_up<R: Wait, B: Binder>(
     rt: &R,
     seat: &mut BookSeat,

@@ -26,6 +26,7 @@ pub struct Head {
 impl Head {
     ghost use Rattle.rtsp_grammar.specs.Item.{message_of};
 
+    /// The whole message. Whether the body is as long as the headers say is not looked at.
     pub fn with_body(self, body: Text) -> Item
         ensures { result ≡ message_of self.start self.headers body }
     {

@@ -1,4 +1,5 @@
 //! Messages and interleaved frames of RTSP 2.0, read and written exactly by their grammar.
+
 #![tactic(auto)]
 
 mod content_length;

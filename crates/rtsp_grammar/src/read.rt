@@ -17,7 +17,7 @@ use crate::message::Item;
 use rtsp_text::Text;
 use std::alloc::Global;
 
-// The bytes that a head may have, with the empty lines before it.
+/// The bytes that a head may have, with the empty lines before it.
 pub const HEAD_LIMIT: usize = 8192;
 
 // How many bytes of empty lines there are at the front.

@@ -12,10 +12,10 @@ use std::marker::Model;
 
 /// A book with indexes. A record, and a look-up by number, id or startup number, cost the same
 /// however many sessions live, and so do the choices and sums; of a record that opens or closes a
-/// session or moves its expiry, a part grows with the logarithm of their number. `due` and `on_conn`
-/// cost the same where they answer `None`. Where they find a session, and in `next_session`, all
-/// sessions are gone through: by their numbers and expiries alone, but for `on_conn`, which reads
-/// each row.
+/// session or moves its expiry, a part grows with the logarithm of their number. `due` and
+/// `on_conn` cost the same where they answer `None`. Where they find a session, and in
+/// `next_session`, all sessions are gone through: by their numbers and expiries alone, but for
+/// `on_conn`, which reads each row.
 ///
 /// The parts stand on the heap, so a book is moved as one address.
 #[derive(Drop)]

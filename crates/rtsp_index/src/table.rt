@@ -185,8 +185,8 @@ impl SessionTable {
         least
     }
 
-    /// The least number of a session whose expiry is at this moment or before, in milliseconds. None
-    /// at once where there is no such session; else it looks at the expiries of all.
+    /// The least number of a session whose expiry is at this moment or before, in milliseconds.
+    /// None at once where there is no such session; else it looks at the expiries of all.
     pub(crate) fn due(&self, moment: u64) -> Option<u64>
         ensures { result ≡ expired_in moment (entries (sessions_in self.now)) }
     {

@@ -21,8 +21,8 @@ fn phase_of<B: BookRep>(book: &B, session: u64) -> Option<Phase>
 }
 
 impl BookSeat {
-    /// The phase of the session of this number as it is now, if it is alive. Unlike `look` it copies
-    /// nothing else of the session.
+    /// The phase of the session of this number as it is now, if it is alive. Unlike `look` it
+    /// copies nothing else of the session.
     pub fn phase<R: Wait>(&mut self, rt: &R, lock: &BookLock, session: u64) -> Option<Phase>
         requires { IsSeatOf self.old lock.now }
         ensures same { SameSeat self.old self.new }

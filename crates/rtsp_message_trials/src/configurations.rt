@@ -23,7 +23,7 @@ a=control:b\r
 
 const NAME_OF_64: &str = "abcdefghijklmnopqrstuvwxyz0123456789-_abcdefghijklmnopqrstuvwxyz";
 
-/// The fault of a text, if any.
+// The fault of a text, if any.
 fn fault_of(alloc: Global, text: &str) -> Option<TableFault> {
     match Table::read(alloc, text.as_bytes()) {
         Ok(_) => None,
@@ -31,7 +31,7 @@ fn fault_of(alloc: Global, text: &str) -> Option<TableFault> {
     }
 }
 
-/// The fault of the example with a part of it replaced.
+// The fault of the example with a part of it replaced.
 fn fault_with(alloc: Global, old: &str, new: &str) -> Result<Option<TableFault>, AllocError> {
     let text = EXAMPLE.replacen(alloc, old, new, 1)?;
     Ok(fault_of(alloc, text.as_str()))
@@ -271,7 +271,7 @@ fn keeps_every_limit(rt: HostRuntime) -> Result<(), AllocError> {
     Ok(())
 }
 
-/// A configuration with this many presentations, the first of which has this many tracks.
+// A configuration with this many presentations, the first of which has this many tracks.
 fn with_counts(alloc: Global, presentations: u16, tracks: u16) -> Result<String, AllocError> {
     let mut text = String::from_str(
         alloc,

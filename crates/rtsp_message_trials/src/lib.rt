@@ -1,5 +1,6 @@
 //! Tests of the public names of rtsp_text and of the crates of messages, media and packets, in
 //! modules by subject. The crate has nothing else.
+
 #![tactic(auto)]
 
 #[cfg(test)]

@@ -12,7 +12,7 @@ fn unit() -> UnitLength {
     UnitLength::new(20)
 }
 
-/// The units that a header takes of ten seconds in units of 20 ms, from a halt at their beginning.
+// The units that a header takes of ten seconds in units of 20 ms, from a halt at their beginning.
 fn taken(text: &[u8]) -> Result<Result<(u32, u32), OutOfMedia>, RangeFault> {
     Ok(resolve(read_range(text)?, 0, unit(), UNITS))
 }

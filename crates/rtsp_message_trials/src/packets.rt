@@ -161,7 +161,8 @@ fn a_packet_and_its_frame(rt: HostRuntime) -> Result<(), Fail> {
     Ok(())
 }
 
-// A moment, what a turn comes to then, how many packets are sent by then, and when the next one is due.
+// A moment, what a turn comes to then, how many packets are sent by then, and when the next one is
+// due.
 type Turned = (u64, Turn, usize, Option<u64>);
 
 // Of one track, whose third packet can't be sent the first time.

@@ -1,5 +1,6 @@
 //! The Range header of RTSP 2.0 in normal play time (RFC 7826, sections 4.4.2 and 18.40): read,
 //! turned into units of media, and written.
+
 #![tactic(auto)]
 
 mod fault;

@@ -11,10 +11,10 @@ const NANOS_PER_SECOND: u128 = 1_000_000_000;
 
 const NANOS_PER_MILLI: u128 = 1_000_000;
 
-/// The most digits of seconds or hours.
+// The most digits of seconds or hours.
 const SECONDS_DIGITS: usize = 19;
 
-/// The most digits after the point.
+// The most digits after the point.
 const FRACTION_DIGITS: usize = 9;
 
 /// A time of normal play time, exactly as it was written.

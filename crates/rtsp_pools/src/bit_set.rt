@@ -19,7 +19,7 @@ pub(crate) struct BitSet {
 }
 
 impl BitSet {
-    /// The empty set.
+    // The empty set.
     fn empty(alloc: Global, limit: usize) -> Result<Self, AllocError>
         requires { limit ≤ 2 ^ 16 }
         ensures limit { IfOk result (λ s. s.limit ≡ limit) }

@@ -2,11 +2,12 @@
 //! takes it back; and the text of a journal.
 //!
 //! The definitions of `specs/` read in this order: Records (inverses), Tables and Books (the book,
-//! and what a record makes of it), Sums (what is counted over a book), Choices (the least of what is
-//! free), Rules (when a record is allowed), Sound (what is true of the book of every legal journal),
-//! Journals (a journal undone, or with entries left out), LastWord (the book in a journal's own
-//! words), Moments (how far a play is), JournalText and what follows it (the text of a journal, and
-//! its faults).
+//! and what a record makes of it), Sums (what is counted over a book), Choices (the least of what
+//! is free), Rules (when a record is allowed), Sound (what is true of the book of every legal
+//! journal), Journals (a journal undone, or with entries left out), LastWord (the book in a
+//! journal's own words), Moments (how far a play is), JournalText and what follows it (the text of
+//! a journal, and its faults).
+
 #![tactic(auto)]
 
 mod changes;

@@ -68,7 +68,7 @@ impl Phase {
         }
     }
 
-    /// The units sent in earlier plays, modulo 2^32.
+    // The units sent in earlier plays, modulo 2^32.
     fn sent_before(&self) -> u32
         ensures { result ≡ sent_before self.now }
     {

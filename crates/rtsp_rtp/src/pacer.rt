@@ -78,9 +78,9 @@ impl Pacer {
         session == self.play.session && phase == self.play.phase()
     }
 
-    /// Sends what is due at a moment, in milliseconds, and unsent: by unit, and then in the order of
-    /// the presentation's tracks. What was sent is never sent again. The session's phase is that at
-    /// the moment. `packet` is room to make packets in: what it holds counts for nothing, and a
+    /// Sends what is due at a moment, in milliseconds, and unsent: by unit, and then in the order
+    /// of the presentation's tracks. What was sent is never sent again. The session's phase is that
+    /// at the moment. `packet` is room to make packets in: what it holds counts for nothing, and a
     /// caller that keeps it from turn to turn saves clearing it.
     pub fn turn<S: Sink>(
         &mut self,

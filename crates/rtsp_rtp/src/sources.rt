@@ -11,8 +11,8 @@ use rtsp_content::{Presentation, Track};
 use rtsp_sessions::SessionView;
 use std::marker::Model;
 
-/// The sources of a play, at most 8, in the order of the presentation's tracks. It is of fixed size.
-/// The count stands beside the first of them, since each turn looks at both.
+/// The sources of a play, at most 8, in the order of the presentation's tracks. It is of fixed
+/// size. The count stands beside the first of them, since each turn looks at both.
 #[derive(Drop)]
 pub struct Sources {
     len: usize,

@@ -87,6 +87,7 @@ impl SessionView {
         self.expires
     }
 
+    /// Whether it plays, and where in the media it is, in units.
     pub fn phase(&self) -> Phase
         ensures { result ≡ self.now.1.phase }
     {

@@ -2,8 +2,8 @@
 //! waits but for a lock.
 //!
 //! `outlet` is the writing side of a connection, over `pending`, the bytes that wait to be written;
-//! `outlets` are those of all connections. `ports` are the sockets of ports that are bound. `words` and
-//! `clock` are the system's words and moments, `media` the files of the tracks.
+//! `outlets` are those of all connections. `ports` are the sockets of ports that are bound. `words`
+//! and `clock` are the system's words and moments, `media` the files of the tracks.
 
 #![tactic(auto)]
 

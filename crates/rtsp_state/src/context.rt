@@ -52,6 +52,7 @@ pub fn has_track(track: u16, streams: &[Stream]) -> bool
     streams.iter().any(|s| s.track == track)
 }
 
+/// How many units a presentation has, and how many milliseconds each lasts.
 pub fn timing_of(presentation: &Presentation) -> Timing
     ensures { result ≡ timing_of presentation.now }
 {
@@ -61,7 +62,8 @@ pub fn timing_of(presentation: &Presentation) -> Timing
     }
 }
 
-/// The moment at which a session ends if nothing renews it, in milliseconds. The timeout is in seconds.
+/// The moment at which a session ends if nothing renews it, in milliseconds. The timeout is in
+/// seconds.
 #[tactic(auto, unfolding(crate::specs::Context::expiry))]
 pub fn expiry(moment: u64, timeout: u32) -> u64
     ensures { result ≡ expiry moment timeout }

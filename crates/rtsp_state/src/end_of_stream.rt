@@ -19,17 +19,17 @@ use rtsp_npt::UnitLength;
 use rtsp_record::Phase;
 use std::alloc::{AllocError, Global};
 
-/// A play that has reached its stop, as its PLAY_NOTIFY reports it.
+// A play that has reached its stop, as its PLAY_NOTIFY reports it.
 #[derive(Debug, Drop)]
 struct EndedPlay {
     cseq: u32,
     session: u128,
-    /// The number of the PLAY.
+    // The number of the PLAY.
     play_cseq: u32,
-    /// The unit that it stopped before.
+    // The unit that it stopped before.
     stop: u32,
     unit_ms: UnitLength,
-    /// How many units were sent, in earlier plays too.
+    // How many units were sent, in earlier plays too.
     sent: u32,
     info: RtpInfo,
 }

@@ -45,7 +45,7 @@ fn header_name(of: Field) -> &'static [u8]
     }
 }
 
-// Begins a header.
+/// Begins a header.
 pub fn put_name(room: &mut Room, of: Field)
     requires { 18 ≤ room.old.spare }
     ensures text { room.new.text ≡ room.old.text ++ header_name of }
@@ -54,7 +54,7 @@ pub fn put_name(room: &mut Room, of: Field)
     room.put(header_name(of));
 }
 
-// Ends a line, or the headers.
+/// Ends a line, or the headers.
 pub fn put_end(room: &mut Room)
     requires { 2 ≤ room.old.spare }
     ensures text { room.new.text ≡ room.old.text ++ 13 ∷ 10 ∷ [] }
@@ -63,7 +63,7 @@ pub fn put_end(room: &mut Room)
     room.put(b"\r\n");
 }
 
-// Writes a fixed part of a value.
+/// Writes a fixed part of a value.
 #[tactic(auto, using(crate::proofs::RoomLemmas::word_most))]
 pub fn put_word(room: &mut Room, of: Word)
     requires { word_room of ≤ room.old.spare }
@@ -97,6 +97,7 @@ fn put_given(room: &mut Room, of: Field, value: &[u8])
     put_end(room);
 }
 
+/// CSeq: the number of the request.
 #[tactic(auto, using(crate::proofs::MessageLemmas::line_of))]
 pub fn put_cseq(room: &mut Room, cseq: u32)
     requires { 30 ≤ room.old.spare }
@@ -130,6 +131,7 @@ fn put_opened_value(room: &mut Room, id: u128, timeout: u32)
     room.put_decimal(timeout);
 }
 
+/// Session, where the request opened it: its id, and its timeout in seconds.
 #[tactic(auto, using(crate::proofs::MessageLemmas::line_of))]
 pub fn put_opened(room: &mut Room, id: u128, timeout: u32)
     requires { 71 ≤ room.old.spare }
@@ -141,7 +143,8 @@ pub fn put_opened(room: &mut Room, id: u128, timeout: u32)
     put_end(room);
 }
 
-// The line that tells all methods and the end of the headers: one text, since each OPTIONS is answered with it.
+// The line that tells all methods and the end of the headers: one text, since each OPTIONS is
+// answered with it.
 #[tactic(auto, unfolding(crate::specs::Words::name_of_field, crate::specs::Words::text_of))]
 fn public_end() -> &'static [u8]
     ensures text { result.now ≡ header_text public_line ++ 13 ∷ 10 ∷ [] }
@@ -150,6 +153,7 @@ fn public_end() -> &'static [u8]
     b"Public: OPTIONS, DESCRIBE, SETUP, PLAY, PAUSE, TEARDOWN, GET_PARAMETER, SET_PARAMETER\r\n\r\n"
 }
 
+/// Public: all methods; and the end of the headers.
 pub fn put_public_end(room: &mut Room)
     requires { 99 ≤ room.old.spare }
     ensures text { room.new.text ≡ room.old.text ++ (header_text public_line ++ 13 ∷ 10 ∷ []) }
@@ -158,6 +162,7 @@ pub fn put_public_end(room: &mut Room)
     room.put(public_end());
 }
 
+/// Allow: the methods that are valid in every state.
 pub fn put_allow(room: &mut Room)
     requires { 67 ≤ room.old.spare }
     ensures text { room.new.text ≡ room.old.text ++ header_text allow_line }
@@ -166,6 +171,7 @@ pub fn put_allow(room: &mut Room)
     put_fixed(room, Field::Allow, Word::AlwaysMethods);
 }
 
+/// Unsupported: these option tags, with commas between them.
 pub fn put_unsupported(room: &mut Room, tags: &[u8])
     requires { length tags.now + 20 ≤ room.old.spare }
     ensures text { room.new.text ≡ room.old.text ++ header_text (unsupported_line tags.now) }
@@ -188,6 +194,7 @@ fn put_granted_value(room: &mut Room, address: Thing, stream: &Stream)
     }
 }
 
+/// Transport, as it is granted over an address: ports or channels. A rate is none.
 #[tactic(auto, using(crate::proofs::MessageLemmas::line_of))]
 pub fn put_transport(room: &mut Room, address: Thing, stream: &Stream)
     requires { 108 ≤ room.old.spare }
@@ -199,6 +206,7 @@ pub fn put_transport(room: &mut Room, address: Thing, stream: &Stream)
     put_end(room);
 }
 
+/// Accept-Ranges: normal play time, and no other.
 pub fn put_accept_ranges(room: &mut Room)
     requires { 23 ≤ room.old.spare }
     ensures text { room.new.text ≡ room.old.text ++ header_text accept_ranges_line }
@@ -217,6 +225,7 @@ fn put_properties_value(room: &mut Room, unit_ms: UnitLength)
     put_word(room, Word::Immutable);
 }
 
+/// Media-Properties: a play may begin at any unit, and the media never change.
 #[tactic(auto, using(crate::proofs::MessageLemmas::line_of))]
 pub fn put_properties(room: &mut Room, unit_ms: UnitLength)
     requires { 77 ≤ room.old.spare }
@@ -228,6 +237,7 @@ pub fn put_properties(room: &mut Room, unit_ms: UnitLength)
     put_end(room);
 }
 
+/// Media-Range: the whole of the media, in normal play time.
 #[tactic(auto, using(crate::proofs::MessageLemmas::line_of))]
 pub fn put_media_range(room: &mut Room, timing: Timing)
     requires { 67 ≤ room.old.spare }
@@ -239,6 +249,7 @@ pub fn put_media_range(room: &mut Room, timing: Timing)
     put_end(room);
 }
 
+/// Range, in normal play time, from a unit to the one after the last.
 #[tactic(auto, using(crate::proofs::MessageLemmas::line_of))]
 pub fn put_range(room: &mut Room, from: u32, stop: u32, unit_ms: UnitLength)
     requires { 67 ≤ room.old.spare }
@@ -250,6 +261,7 @@ pub fn put_range(room: &mut Room, from: u32, stop: u32, unit_ms: UnitLength)
     put_end(room);
 }
 
+/// Seek-Style: RAP, whatever was asked for.
 pub fn put_seek_style(room: &mut Room)
     requires { 23 ≤ room.old.spare }
     ensures text { room.new.text ≡ room.old.text ++ header_text seek_line }
@@ -268,6 +280,7 @@ fn put_base_value(room: &mut Room, base: &MediaBase)
     room.put(slash);
 }
 
+/// Content-Base: what the names of the tracks are joined to.
 #[tactic(auto, using(crate::proofs::MessageLemmas::line_of))]
 pub fn put_base(room: &mut Room, base: &MediaBase)
     requires { length base.now + 20 ≤ room.old.spare }
@@ -279,6 +292,7 @@ pub fn put_base(room: &mut Room, base: &MediaBase)
     put_end(room);
 }
 
+/// Content-Type, of a body that the server writes.
 pub fn put_type(room: &mut Room, media: Word)
     requires { word_room media + 20 ≤ room.old.spare }
     ensures text { room.new.text ≡ room.old.text ++ header_text (type_line media) }
@@ -287,6 +301,7 @@ pub fn put_type(room: &mut Room, media: Word)
     put_fixed(room, Field::ContentType, media);
 }
 
+/// Content-Length, in bytes.
 #[tactic(auto, using(crate::proofs::MessageLemmas::line_of))]
 pub fn put_length(room: &mut Room, body: &[u8])
     requires { 40 ≤ room.old.spare }
@@ -310,7 +325,7 @@ fn put_shown_session(room: &mut Room, session: Option<u128>)
     }
 }
 
-// The number of the request, and the session.
+/// The number of the request, and the session.
 #[tactic(auto, using(crate::proofs::MessageLemmas::headers_first))]
 pub fn put_response_start(room: &mut Room, start: ResponseStart)
     requires { 82 ≤ room.old.spare }
@@ -321,7 +336,8 @@ pub fn put_response_start(room: &mut Room, start: ResponseStart)
     put_shown_session(room, start.session);
 }
 
-// The first line of a response to what is done, and the name of its next header: one text, since nearly all begin so.
+// The first line of a response to what is done, and the name of its next header: one text, since
+// nearly all begin so.
 #[tactic(auto, unfolding(crate::specs::FixedText::status_line, crate::specs::FixedText::header_name, crate::specs::Words::name_of_field))]
 fn done_start() -> &'static [u8]
     ensures text { result.now ≡ status_line statuses.Success ++ header_name fields.CSeq }
@@ -330,7 +346,7 @@ fn done_start() -> &'static [u8]
     b"RTSP/2.0 200 OK\r\nCSeq: "
 }
 
-// The first line of a response to what is done, the number of the request, and the session.
+/// The first line of a response to what is done, the number of the request, and the session.
 pub fn put_done_start(room: &mut Room, start: ResponseStart)
     requires { 142 ≤ room.old.spare }
     ensures text { room.new.text ≡ room.old.text ++ (status_line statuses.Success ++ headers_text (start_lines start)) }

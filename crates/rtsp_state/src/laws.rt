@@ -8,9 +8,9 @@ pub fn law_reads_once()
     ensures { ReadsOnce }
 {}
 
-/// A renewal moves the end of its session by the configuration's step at least. After a request that renews, the
-/// session ends later than the timeout from then, less the step. With the step 1 its end is the later of the one that
-/// it had and the timeout from then.
+/// A renewal moves the end of its session by the configuration's step at least. After a request
+/// that renews, the session ends later than the timeout from then, less the step. With the step 1
+/// its end is the later of the one that it had and the timeout from then.
 pub fn law_renews_in_steps()
     ensures { RenewsInSteps }
 {}

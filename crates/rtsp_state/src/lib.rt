@@ -1,5 +1,6 @@
-//! The conversation of RTSP 2.0's play profile (RFC 7826) as pure functions: what a request is refused for, what it
-//! asks of the book of sessions, and how it is answered.
+//! The conversation of RTSP 2.0's play profile (RFC 7826) as pure functions: what a request is
+//! refused for, what it asks of the book of sessions, and how it is answered.
+
 #![tactic(auto)]
 
 mod context;

@@ -9,7 +9,7 @@ use std::alloc::{AllocError, Global};
 use std::marker::Model;
 use url::{Position, Url};
 
-/// The URI as it is kept: as its parser gave it, or the text of one that needs no parser.
+// The URI as it is kept: as its parser gave it, or the text of one that needs no parser.
 #[derive(Debug, Drop)]
 enum Written {
     Parsed(Url),
@@ -17,7 +17,7 @@ enum Written {
 }
 
 impl Written {
-    /// The URI without query and fragment.
+    // The URI without query and fragment.
     fn bare(&self) -> &[u8]
         ensures { result.now ≡ written_text self.now }
     {

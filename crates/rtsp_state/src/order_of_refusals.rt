@@ -1,5 +1,5 @@
-//! The order of refusals, as far as it needs no session: what a request asks, or why it is refused. In order: CSeq,
-//! version, method, Require, URI, and the form of the session's name.
+//! The order of refusals, as far as it needs no session: what a request asks, or why it is refused.
+//! In order: CSeq, version, method, Require, URI, and the form of the session's name.
 
 ghost use Rattle.std.specs.Prelude.{◌≡◌, codes, option_map, Some, None};
 ghost use Rattle.rtsp_text.specs.Slices.{texts};
@@ -54,7 +54,7 @@ fn version_rule(version: &Version) -> Result<(), Fault>
     }
 }
 
-/// Refuses option tags where there are some.
+// Refuses option tags where there are some.
 fn unless_unknown(alloc: Global, tags: &[&[u8]]) -> Result<(), Fault>
     ensures { Gives result (unless_unknown (texts tags.now)) }
 {
@@ -89,7 +89,7 @@ fn takes_star(method: Method) -> bool
     matches!(method, Method::GetParameter | Method::SetParameter)
 }
 
-/// What the path of a plain URI names. Only what is found is copied.
+// What the path of a plain URI names. Only what is found is copied.
 fn plain_media(alloc: Global, table: &Table, text: &[u8], path: &[u8]) -> Result<Target, Fault>
     ensures { Gives result (target_at (with_slash text.now) (find_of table.now path.now)) }
 {
@@ -106,7 +106,7 @@ fn plain_media(alloc: Global, table: &Table, text: &[u8], path: &[u8]) -> Result
     }
 }
 
-/// What the path of any other URI names.
+// What the path of any other URI names.
 fn parsed_media(alloc: Global, table: &Table, text: &[u8]) -> Result<Target, Fault>
     ensures { Gives result (media_of table.now (uri_of text.now)) }
 {

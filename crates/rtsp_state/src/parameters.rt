@@ -12,7 +12,7 @@ use crate::words::{Word, text_of};
 use rtsp_npt::write_time;
 use std::alloc::{AllocError, Global};
 
-/// The most names in a body.
+// The most names in a body.
 const NAME_LIMIT: usize = 64;
 
 // More than the line of a parameter takes: its name, a time, and CR LF.
@@ -58,7 +58,8 @@ fn parameter_of(name: &[u8]) -> Result<Parameter, Fault>
     Err(Fault::Refused(Status::ParameterNotUnderstood))
 }
 
-/// The parameters that a body names, in order. More than 64 names, and a name that is not known, are refused.
+/// The parameters that a body names, in order. More than 64 names, and a name that is not known,
+/// are refused.
 pub fn parameters_in(alloc: Global, body: &[u8]) -> Result<Vec<Parameter>, Fault>
     ensures { GivesBy (λ v. v.items) result (parameters_in 64 body.now) }
 {
@@ -80,6 +81,7 @@ pub fn parameters_in(alloc: Global, body: &[u8]) -> Result<Vec<Parameter>, Fault
     }
 }
 
+/// Whether the position is asked for, which is refused as 454 without a living session.
 pub fn has_position(names: &[Parameter]) -> bool
     ensures { result ≡ list_any is_position names.now }
 {

@@ -6,28 +6,28 @@ ghost use Rattle.rtsp_state.specs.PlainUri.{is_host_byte, is_path_byte, may_foll
 
 use rtsp_text::number_of;
 
-/// A byte of a plain host: it is in lower case.
+// A byte of a plain host: it is in lower case.
 fn is_host_byte(byte: u8) -> bool
     ensures { result ≡ is_host_byte byte }
 {
     matches!(byte, b'a'..=b'z' | b'0'..=b'9' | b'-' | b'.')
 }
 
-/// A byte of a plain path, which is never escaped.
+// A byte of a plain path, which is never escaped.
 fn is_path_byte(byte: u8) -> bool
     ensures { result ≡ is_path_byte byte }
 {
     matches!(byte, b'a'..=b'z' | b'0'..=b'9' | b'-' | b'.' | b'A'..=b'Z' | b'_' | b'/')
 }
 
-/// Whether a path may have this byte right behind the other: a segment begins with no dot.
+// Whether a path may have this byte right behind the other: a segment begins with no dot.
 fn may_follow(before: u8, byte: u8) -> bool
     ensures { result ≡ may_follow before byte }
 {
     is_path_byte(byte) && !(before == b'/' && byte == b'.')
 }
 
-/// Whether the text is a plain path: a slash, and bytes that may follow each other.
+// Whether the text is a plain path: a slash, and bytes that may follow each other.
 fn is_plain_path(path: &[u8]) -> bool
     ensures { result ≡ is_plain_path path.now }
 {
@@ -44,7 +44,7 @@ fn is_plain_path(path: &[u8]) -> bool
     true
 }
 
-/// How many bytes at the front can be a host.
+// How many bytes at the front can be a host.
 fn host_length(text: &[u8]) -> usize
     ensures within { result ≤ length text.now }
     ensures named { list_all is_host_byte (take result text.now) ≡ true }
@@ -57,14 +57,14 @@ fn host_length(text: &[u8]) -> usize
     text.len()
 }
 
-/// Whether the first digit is a zero.
+// Whether the first digit is a zero.
 fn begins_with_zero(digits: &[u8]) -> bool
     ensures { result ≡ (slice_index digits.now 0 == 48) }
 {
     matches!(digits, [b'0', ..])
 }
 
-/// Whether the digits write a port, without a leading zero.
+// Whether the digits write a port, without a leading zero.
 fn is_port(digits: &[u8]) -> bool
     ensures { IsTrue result → (n : ℕ) × (n < 2 ^ 16) × (digits.now ≡ decimal n) }
 {
@@ -74,7 +74,7 @@ fn is_port(digits: &[u8]) -> bool
     }
 }
 
-/// What follows a port, or the whole text where it begins with no colon.
+// What follows a port, or the whole text where it begins with no colon.
 fn after_port(text: &[u8]) -> Option<&[u8]>
     ensures { IfSome result (λ rest. FollowsPort text.now rest.now) }
 {

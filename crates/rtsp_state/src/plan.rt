@@ -73,6 +73,7 @@ impl Model for RtpInfo {
 }
 
 impl RtpInfo {
+    /// No streams yet. It takes no memory.
     pub fn new(alloc: Global) -> RtpInfo
         ensures { result ≡ [] }
     {
@@ -81,6 +82,7 @@ impl RtpInfo {
         }
     }
 
+    /// Adds the next stream of the table. It is refused where there is no memory for it.
     pub fn push(&mut self, stream: StreamInfo) -> Result<(), AllocError>
         ensures { OnOk result (self.new ≡ self.old ++ stream ∷ []) }
     {
@@ -88,6 +90,7 @@ impl RtpInfo {
         Ok(())
     }
 
+    /// The streams, in the order in which they were added.
     pub fn as_slice(&self) -> &[StreamInfo]
         ensures { result.now ≡ self.now }
     {

@@ -20,7 +20,7 @@ use rtsp_npt::{OutOfMedia, Range, RangeFault, read_range, resolve};
 use rtsp_record::Stream;
 use std::alloc::Global;
 
-// The units to be played: from `from`, or the session's point if it is missing, up to `stop`.
+/// The units to be played: from `from`, or the session's point if it is missing, up to `stop`.
 #[derive(Clone, Copy, Debug)]
 pub struct Units {
     pub from: Option<u32>,
@@ -37,7 +37,7 @@ fn fault_of(fault: RangeFault) -> Fault
     }
 }
 
-/// The range of a Range header; without one it is the rest of the media.
+// The range of a Range header; without one it is the rest of the media.
 fn range_in(value: Option<&[u8]>) -> Result<Range, Fault>
     ensures { result ≡ range_in (option_map (λ v. v.now) value.entry) }
 {
@@ -88,7 +88,7 @@ fn units_asked(
     units_in(range, resolve(range, resume, unit_ms, presentation.units()))
 }
 
-/// The stream of a track.
+// The stream of a track.
 fn stream_of(track: usize, streams: &[Stream]) -> Option<Stream>
     ensures { result ≡ stream_of track streams.now }
 {

@@ -28,7 +28,7 @@ fn put_status_headers(room: &mut Room, status: Status)
     }
 }
 
-// A response that has its first headers alone.
+/// A response that has its first headers alone.
 pub fn write_plain(room: &mut Room, start: ResponseStart, status: Status)
     requires { 144 ≤ room.old.spare }
     ensures text { room.new.text ≡ room.old.text ++ response_text (response status (start_lines start) []) }
@@ -39,7 +39,7 @@ pub fn write_plain(room: &mut Room, start: ResponseStart, status: Status)
     put_end(room);
 }
 
-// The response that refuses by a status.
+/// The response that refuses by a status.
 pub fn write_refused(room: &mut Room, start: ResponseStart, status: Status)
     requires { 211 ≤ room.old.spare }
     ensures text { room.new.text ≡ room.old.text ++ response_text (refused start (faults.Refused status)) }
@@ -51,7 +51,7 @@ pub fn write_refused(room: &mut Room, start: ResponseStart, status: Status)
     put_end(room);
 }
 
-// The response that refuses option tags.
+/// The response that refuses option tags.
 pub fn write_unsupported(room: &mut Room, start: ResponseStart, tags: &[u8])
     requires { length tags.now + 164 ≤ room.old.spare }
     ensures text { room.new.text ≡ room.old.text ++ response_text (refused start (faults.Unsupported tags.now)) }
@@ -63,7 +63,7 @@ pub fn write_unsupported(room: &mut Room, start: ResponseStart, tags: &[u8])
     put_end(room);
 }
 
-// What a refused step is answered by: a session that is gone isn't shown.
+/// What a refused step is answered by: a session that is gone isn't shown.
 pub fn refusal_of(start: ResponseStart, refusal: Refusal) -> (ResponseStart, Status)
     ensures { refused result.0 (faults.Refused result.1) ≡ refusal_response start refusal }
 {
@@ -73,7 +73,7 @@ pub fn refusal_of(start: ResponseStart, refusal: Refusal) -> (ResponseStart, Sta
     }
 }
 
-// The response to a refused step.
+/// The response to a refused step.
 pub fn write_refused_step(room: &mut Room, start: ResponseStart, refusal: Refusal)
     requires { 211 ≤ room.old.spare }
     ensures text { room.new.text ≡ room.old.text ++ response_text (refusal_response start refusal) }

@@ -11,7 +11,8 @@ use crate::response_start::ResponseStart;
 use rtsp_book::{Refusal, SessionView};
 use rtsp_content::Table;
 
-// A new end of a session, where it is later than the old one by the step at least. All in milliseconds.
+// A new end of a session, where it is later than the old one by the step at least. All in
+// milliseconds.
 fn later_by(step: u32, expires: u64, until: u64) -> Option<u64>
     requires { 1 ≤ step }
     ensures { result ≡ later_by step expires until }
@@ -23,9 +24,10 @@ fn later_by(step: u32, expires: u64, until: u64) -> Option<u64>
     }
 }
 
-/// The moment to which a request renews the living session that it names, before it is decided: by the timeout of the
-/// configuration, for every method but TEARDOWN, where that moves the session's end by the configuration's step at
-/// least. Milliseconds. Where that step of the book (`Touch`) is refused, the request ends with `renewal_refused`.
+/// The moment to which a request renews the living session that it names, before it is decided: by
+/// the timeout of the configuration, for every method but TEARDOWN, where that moves the session's
+/// end by the configuration's step at least. Milliseconds. Where that step of the book (`Touch`) is
+/// refused, the request ends with `renewal_refused`.
 #[tactic(auto, unfolding(crate::specs::Renewal::renewal))]
 pub fn renewal(
     request: &ParsedRequest<'_>,

@@ -1,4 +1,5 @@
-//! A request as it is read once: its number, its method, what it is about, and the session that it names.
+//! A request as it is read once: its number, its method, what it is about, and the session that it
+//! names.
 
 ghost use Rattle.std.specs.Prelude.{◌≡◌};
 
@@ -21,7 +22,8 @@ pub enum Target {
     Track(MediaBase, u16, u16),
 }
 
-/// How a request names a session: by its id, or by a startup number of the connection (RFC 7826 section 18.33).
+/// How a request names a session: by its id, or by a startup number of the connection (RFC 7826
+/// section 18.33).
 #[derive(Clone, Copy, Debug, PartialEq, Eq)]
 pub enum Name {
     Id(u128),

@@ -65,7 +65,7 @@ fn put_next(room: &mut Room, stream: &StreamInfo, sent: u32)
     put_stream(room, stream, sent);
 }
 
-// The streams, with commas between them.
+/// The streams, with commas between them.
 pub fn put_info_value(room: &mut Room, streams: &[StreamInfo], sent: u32)
     requires { info_room streams.now ≤ room.old.spare }
     ensures text { room.new.text ≡ room.old.text ++ info_text streams.now sent }
@@ -80,7 +80,7 @@ pub fn put_info_value(room: &mut Room, streams: &[StreamInfo], sent: u32)
     }
 }
 
-// The header, where so many units were sent in earlier plays.
+/// The header, where so many units were sent in earlier plays.
 #[tactic(auto, using(crate::proofs::MessageLemmas::line_of))]
 pub fn put_info(room: &mut Room, streams: &[StreamInfo], sent: u32)
     requires { info_room streams.now + 20 ≤ room.old.spare }
@@ -98,7 +98,7 @@ fn stream_size(stream: &StreamInfo) -> usize
     stream.url.as_bytes().len().saturating_add(55)
 }
 
-// The room that the streams of RTP-Info may need, or the greatest number.
+/// The room that the streams of RTP-Info may need, or the greatest number.
 pub fn info_size(streams: &[StreamInfo]) -> usize
     ensures { result ≡ min (info_room streams.now) (2 ^ 64 - 1) }
 {

@@ -31,9 +31,9 @@ fn parsed<'a>(cseq: u32, asked: Asked, request: &'a Request) -> ParsedRequest<'a
     }
 }
 
-/// Reads a request, once: its response where one of the places of the order of refusals that need no session refuses
-/// it, or what it asks. In order: CSeq (400, which shows none), version (505), method (501), Require (400, 551), URI
-/// (400, 404), and the form of the session's name (400, 454).
+/// Reads a request, once: its response where one of the places of the order of refusals that need
+/// no session refuses it, or what it asks. In order: CSeq (400, which shows none), version (505),
+/// method (501), Require (400, 551), URI (400, 404), and the form of the session's name (400, 454).
 #[tactic(auto, unfolding(crate::specs::Screen::screen))]
 pub fn screen<'a>(
     alloc: Global,

@@ -36,7 +36,7 @@ fn may_set_up(alloc: Global, presentation: u16, view: Option<&SessionView>) -> R
     )
 }
 
-/// The transport that a client gets.
+// The transport that a client gets.
 fn pick_of(specs: &[Spec], peer: u32) -> Pick
     ensures { result ≡ pick_of peer specs.now }
 {

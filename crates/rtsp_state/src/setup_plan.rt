@@ -1,4 +1,5 @@
-//! A track that is to be set up: what is known of its admission before anything is drawn, and the whole ask.
+//! A track that is to be set up: what is known of its admission before anything is drawn, and the
+//! whole ask.
 
 ghost use Rattle.std.specs.Prelude.{◌≡◌};
 ghost use Rattle.rtsp_record.specs.Choices.{IsWish};
@@ -20,8 +21,8 @@ pub struct SessionKey {
 /// The session that a track is set up in.
 #[derive(Clone, Copy, Debug)]
 pub enum SetupSession {
-    /// One that is opened: the moment at which it ends if nothing renews it, in milliseconds, and the startup number
-    /// that the client gave it (RFC 7826 section 18.33).
+    /// One that is opened: the moment at which it ends if nothing renews it, in milliseconds, and
+    /// the startup number that the client gave it (RFC 7826 section 18.33).
     New { expires: u64, startup: Option<u32> },
     /// One that lives.
     Living(SessionKey),
@@ -34,7 +35,8 @@ pub enum Delivery {
     Udp { rtp_port: u16, rtcp_port: u16 },
     /// By UDP, RTP and RTCP both to this one port (RFC 5761).
     Mux { port: u16 },
-    /// Over the connection, on the even channel that the player wishes and the next, where it named one.
+    /// Over the connection, on the even channel that the player wishes and the next, where it named
+    /// one.
     Interleaved { wish: Option<ChannelPair> },
 }
 
@@ -56,8 +58,8 @@ pub struct SetupPlan {
     pub timing: Timing,
 }
 
-/// What is drawn for an admission: the connection's number, the session's key where one is opened (a living session
-/// keeps its own), the admission's number, and the words of the stream.
+/// What is drawn for an admission: the connection's number, the session's key where one is opened
+/// (a living session keeps its own), the admission's number, and the words of the stream.
 #[derive(Clone, Copy, Debug)]
 pub struct Drawn {
     pub conn: u64,

@@ -101,9 +101,9 @@ pub fn shown_id(view: Option<&SessionView>) -> Option<u128>
     }
 }
 
-/// The plan of a request, from the living session that it names, if it names one: a response, a step, or an admission,
-/// each with what its response shows. The peer is the player's IPv4 address, and the moment is in milliseconds. The
-/// session is as it is after its renewal.
+/// The plan of a request, from the living session that it names, if it names one: a response, a
+/// step, or an admission, each with what its response shows. The peer is the player's IPv4 address,
+/// and the moment is in milliseconds. The session is as it is after its renewal.
 #[tactic(auto, unfolding(crate::specs::StateTable::decide))]
 pub fn decide(
     alloc: Global,

@@ -5,6 +5,7 @@ ghost use Rattle.rtsp_state.specs.Status.{code, status_of};
 
 use rtsp_book::Refusal;
 
+/// The status of a response: `Success`, or why a request is refused.
 #[derive(Clone, Copy, Debug, PartialEq, Eq)]
 pub enum Status {
     Success,
@@ -27,6 +28,7 @@ pub enum Status {
     OptionNotSupported,
 }
 
+/// The number of a status, of three digits.
 pub fn code(status: Status) -> u16
     ensures { result ≡ code status }
 {

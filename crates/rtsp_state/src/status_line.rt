@@ -34,7 +34,7 @@ fn status_line(status: Status) -> &'static [u8]
     }
 }
 
-// Writes the first line.
+/// Writes the first line.
 pub fn put_status_line(room: &mut Room, status: Status)
     requires { 60 ≤ room.old.spare }
     ensures text { room.new.text ≡ room.old.text ++ status_line status }

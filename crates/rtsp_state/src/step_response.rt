@@ -72,7 +72,7 @@ fn paused_at(at: u32, phase: Option<Phase>) -> u32
     }
 }
 
-// What is played, and how many units were sent in earlier plays.
+/// What is played, and how many units were sent in earlier plays.
 #[derive(Clone, Copy)]
 pub struct Played {
     from: u32,

@@ -7,7 +7,7 @@ use std::alloc::{AllocError, Global};
 use std::str;
 use url::{ParseError, Url};
 
-/// The rtsp URL that a text spells, or `None`.
+// The rtsp URL that a text spells, or `None`.
 fn read_url(alloc: Global, text: &str) -> Result<Option<Url>, AllocError>
     ensures { IfOk result (λ url. url ≡ rtsp_url text.now) }
 {

@@ -44,7 +44,7 @@ pub fn put_joined(out: &mut Vec<u8>, parts: &[&[u8]]) -> Result<(), AllocError>
     Ok(())
 }
 
-/// The values of the headers of a name.
+// The values of the headers of a name.
 fn values_of<'a>(
     alloc: Global,
     headers: &'a Headers,

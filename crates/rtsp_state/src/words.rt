@@ -23,6 +23,7 @@ pub enum Field {
     ContentLength,
 }
 
+/// The name of a header, without the colon.
 #[tactic(auto, unfolding(crate::specs::Words::name_of_field))]
 pub fn name_of_field(of: Field) -> &'static [u8]
     ensures { result.now ≡ name_of_field of }
@@ -69,6 +70,7 @@ pub enum Word {
     LineEnd,
 }
 
+/// The bytes of a fixed part.
 #[tactic(auto, unfolding(crate::specs::Words::text_of))]
 pub fn text_of(of: Word) -> &'static [u8]
     ensures { result.now ≡ text_of of }

@@ -1,5 +1,6 @@
 //! Texts of bytes, read and written: classes of bytes, trimming, splitting, decimal and hexadecimal
 //! numbers, and what a writer that appends leaves.
+
 #![tactic(auto)]
 
 mod append;

@@ -6,7 +6,7 @@ ghost use Rattle.rtsp_transport.specs.Channels.{pair_at, pair_of};
 use rtsp_text::{number_of, split_once};
 use std::marker::Model;
 
-/// The most digits of a channel.
+// The most digits of a channel.
 const CHANNEL_DIGITS: usize = 3;
 
 /// Two channels of an interleaved connection: an even one of at most 254 for RTP, and the next for

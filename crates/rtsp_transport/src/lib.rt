@@ -1,4 +1,5 @@
 //! The header values of RTSP 2.0 for transports, sessions, numbers of requests and option tags.
+
 #![tactic(auto)]
 
 mod address;

@@ -7,9 +7,9 @@ ghost use Rattle.rtsp_transport.specs.Reads.{IsMalformed};
 use crate::fault::TextFault;
 use rtsp_text::number_of;
 
-/// The most digits of a startup number.
+// The most digits of a startup number.
 const STARTUP_DIGITS: usize = 8;
-/// The most digits of a CSeq.
+// The most digits of a CSeq.
 const CSEQ_DIGITS: usize = 9;
 
 // A number of 1 to so many digits.

@@ -13,9 +13,9 @@ use crate::fault::TextFault;
 use rtsp_text::{split_once, write_hex_u128};
 use std::alloc::AllocError;
 
-/// The most bytes of a session's name.
+// The most bytes of a session's name.
 const NAME_LIMIT: usize = 256;
-/// The digits of an identifier of this server.
+// The digits of an identifier of this server.
 const ID_DIGITS: usize = 32;
 
 fn is_session_byte(byte: u8) -> bool

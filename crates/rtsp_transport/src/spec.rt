@@ -189,6 +189,7 @@ impl Spec {
         })
     }
 
+    /// The specifications that these parts spell, in order. One malformed part refuses all.
     pub fn read_each(alloc: Global, parts: &[&[u8]]) -> Result<Vec<Spec>, TextFault>
         ensures { GivesBy OutOfMemory (λ v. v.items) result (specs_of (texts parts.now)) }
     {

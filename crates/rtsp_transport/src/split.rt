@@ -8,7 +8,7 @@ use std::alloc::{AllocError, Global};
 
 const QUOTE: u8 = b'"';
 
-// The quotes of the text are in pairs.
+/// Whether the quotes of the text are in pairs.
 pub fn is_closed(text: &[u8]) -> bool
     ensures { result ≡ is_closed false text.now }
 {
@@ -21,7 +21,7 @@ pub fn is_closed(text: &[u8]) -> bool
     !inside
 }
 
-// The parts round the separators outside quotes.
+/// The parts round the separators outside quotes.
 pub fn split(alloc: Global, text: &[u8], separator: u8) -> Result<Vec<&[u8]>, AllocError>
     ensures { IfOk result (λ parts. texts parts.items ≡ split false separator text.now) }
 {

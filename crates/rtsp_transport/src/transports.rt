@@ -15,7 +15,7 @@ use crate::spec::Spec;
 use crate::split::{is_closed, split};
 use std::alloc::Global;
 
-/// The most specifications of a header.
+// The most specifications of a header.
 const SPEC_LIMIT: usize = 16;
 
 #[tactic(auto, unfolding(crate::specs::TransportReading::transports_of))]

@@ -26,7 +26,8 @@ const ENDED: &str = "00000000000000000000000000000004";
 
 const PEER: u32 = 0x7f00_0001;
 
-// A session, its id, a method, a Range, a body, and the response to the request of the example's presentation.
+// A session, its id, a method, a Range, a body, and the response to the request of the example's
+// presentation.
 type Row = (
     u64,
     &'static str,

@@ -1,8 +1,9 @@
 //! What the command line takes and refuses, and how programs end.
+
 use rtspd::{CommandLine, Exit, read_words};
 use std::alloc::AllocError;
 
-/// The words of a line, which are parted by spaces.
+// The words of a line, which are parted by spaces.
 fn words_of<'a>(rt: &HostRuntime, line: &'a str) -> Result<Vec<&'a str>, AllocError> {
     let mut words = Vec::new(rt.alloc());
     for word in line.split(' ') {
@@ -13,7 +14,7 @@ fn words_of<'a>(rt: &HostRuntime, line: &'a str) -> Result<Vec<&'a str>, AllocEr
     Ok(words)
 }
 
-/// The words are this command line, or none.
+// The words are this command line, or none.
 fn is_read(
     rt: &HostRuntime,
     line: &str,
@@ -179,7 +180,7 @@ fn refusals(rt: HostRuntime) -> Result<(), AllocError> {
     Ok(())
 }
 
-/// The entries that `audit --journal a --back N` undoes.
+// The entries that `audit --journal a --back N` undoes.
 fn back_of(rt: &HostRuntime, number: &str) -> Result<Option<u64>, AllocError> {
     let words = ["audit", "--journal", "a", "--back", number];
     match read_words(rt.alloc(), words.as_slice())? {

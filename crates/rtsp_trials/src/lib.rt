@@ -1,5 +1,6 @@
 //! Tests of the public names of the crates in which messages and sessions meet, from rtsp_state up
 //! to rtspd, in modules by subject. The crate has nothing else.
+
 #![tactic(auto)]
 
 #[cfg(test)]

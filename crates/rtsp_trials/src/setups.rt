@@ -21,8 +21,8 @@ const DRAWN: Drawn = Drawn {
     rtptime: 0,
 };
 
-// The transport that a player offers, the address that is asked for, its ports, what it is given, and the transport
-// that it is told.
+// The transport that a player offers, the address that is asked for, its ports, what it is given,
+// and the transport that it is told.
 type Row = (&'static str, Wanted, (u16, u16), Thing, &'static str);
 
 const SET_UP: [Row; 3] = [

@@ -34,8 +34,8 @@ const STATES: [(&str, u64, &str); 8] = [
     ("Playing elsewhere", 7, "00000000000000000000000000000007"),
 ];
 
-// A method, a URI, a body (a bar where there is none), and a cell for each of the states: a status, a step of the
-// session, or the admission of a track.
+// A method, a URI, a body (a bar where there is none), and a cell for each of the states: a status,
+// a step of the session, or the admission of a track.
 const TABLE: [&str; 28] = [
     "OPTIONS       *               |         200   200   200   200   200   200   200   200",
     "OPTIONS       rtsp://h/tone   |         200   200   200   200   200   200   200   200",

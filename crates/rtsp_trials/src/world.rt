@@ -1,4 +1,5 @@
-//! What the tests share: the example configuration, a book with sessions in each state, and requests.
+//! What the tests share: the example configuration, a book with sessions in each state, and
+//! requests.
 
 ghost use Rattle.rtsp_lock.specs.Calls.{IsSeatOf, SameSeat};
 
@@ -156,9 +157,9 @@ fn finish(kept: &mut Kept<PlainBook>, session: u64) -> Result<(), Refusal> {
     Ok(())
 }
 
-/// Sessions in each state, by their numbers: 1 has no stream; 2 is Ready, 3 is Playing and 4 Ended, each with a stream
-/// of the first track; 5 is Playing with streams of both tracks; 6 is Ready and 7 Playing, each with a stream of another
-/// presentation.
+/// Sessions in each state, by their numbers: 1 has no stream; 2 is Ready, 3 is Playing and 4 Ended,
+/// each with a stream of the first track; 5 is Playing with streams of both tracks; 6 is Ready and
+/// 7 Playing, each with a stream of another presentation.
 pub fn sessions(alloc: Global) -> Result<Kept<PlainBook>, Fail> {
     let mut kept: Kept<PlainBook> = Kept::open(alloc, &WIDE)?;
     for session in 1..8 {
@@ -177,7 +178,8 @@ pub fn sessions(alloc: Global) -> Result<Kept<PlainBook>, Fail> {
     Ok(kept)
 }
 
-/// A request with CSeq 1, a Session header where it isn't empty, the transport, and a Range header where it isn't empty.
+/// A request with CSeq 1, a Session header where it isn't empty, the transport, and a Range header
+/// where it isn't empty.
 pub fn request(
     alloc: Global,
     line: (&str, &str),
@@ -203,7 +205,8 @@ pub fn request(
     })
 }
 
-/// What a SETUP is answered where it is made, where the uplink is full, and where it is refused by this status.
+/// What a SETUP is answered where it is made, where the uplink is full, and where it is refused by
+/// this status.
 pub fn setup_texts(
     alloc: Global,
     plan: &SetupPlan,

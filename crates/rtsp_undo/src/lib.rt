@@ -1,9 +1,12 @@
-//! Journals replayed, undone and with entries left out, the book printed, and the laws over whole journals.
+//! Journals replayed, undone and with entries left out, the book printed, and the laws over whole
+//! journals.
 //!
-//! The definitions of `specs/` read in this order: Laws (what holds of every legal journal), Pools (what is held and
-//! what is free, counted), Replays (why a journal is refused, and what is left of one that is undone), Strands
-//! (journals compared session by session), BookText (the book as it is printed). What a journal is, when it is legal and
-//! what is left without some entries is defined in rtsp_record.
+//! The definitions of `specs/` read in this order: Laws (what holds of every legal journal), Pools
+//! (what is held and what is free, counted), Replays (why a journal is refused, and what is left of
+//! one that is undone), Strands (journals compared session by session), BookText (the book as it is
+//! printed). What a journal is, when it is legal and what is left without some entries is defined
+//! in rtsp_record.
+
 #![tactic(auto)]
 
 mod laws;

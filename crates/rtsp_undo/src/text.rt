@@ -19,9 +19,10 @@ use rtsp_text::all_or_nothing;
 use sessions::{Held, write_sessions};
 use std::alloc::AllocError;
 
-/// Writes the text of the book at the end: for each living session its lines, by ascending number, and then the bits
-/// per second and the pairs of ports that are held and that are free; where a port is held by itself, also how many are,
-/// and how many nothing covers. A refused one leaves the bytes as they were.
+/// Writes the text of the book at the end: for each living session its lines, by ascending number,
+/// and then the bits per second and the pairs of ports that are held and that are free; where a
+/// port is held by itself, also how many are, and how many nothing covers. A refused one leaves the
+/// bytes as they were.
 pub fn book_text<B: BookRep>(out: &mut Vec<u8>, kept: &Kept<B>) -> Result<(), AllocError>
     ensures ok { OnOk result (out.new.items ≡ out.old.items ++ book_text kept.now.whole (book_of kept.now.journal)) }
     ensures err { OnErr result (out.new.items ≡ out.old.items) }

@@ -1,4 +1,5 @@
 //! The command line.
+
 ghost use Rattle.std.specs.Prelude.{◌≡◌, IfOk, false, map, option_map, option_and_then};
 ghost use Rattle.clap.specs.Words.{app_of, rule_of, with_rule, subcommand_rows_of, rows_of, found_of};
 ghost use Rattle.clap.specs.declared.builder.command.Command.TheViews.{out-Command as fields_of};
@@ -182,7 +183,7 @@ fn command<'a>(alloc: Global) -> Result<Command<'a>, AllocError>
     Ok(command)
 }
 
-/// What `clap` makes of the words, or `None` where it refuses them.
+// What `clap` makes of the words, or `None` where it refuses them.
 fn matches_of<'a>(alloc: Global, words: &'a [&'a str]) -> Result<Option<ArgMatches<'a>>, AllocError>
     ensures { IfOk result (Says (map (λ w. w.now) words.entry.now)) }
 {

@@ -1,4 +1,5 @@
 //! How a program ends.
+
 ghost use Rattle.std.specs.Prelude.{◌≡◌};
 ghost use Rattle.rtspd.specs.Exits.{status_of};
 

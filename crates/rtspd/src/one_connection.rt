@@ -14,7 +14,7 @@ use rtsp_server::whole_of;
 use std::alloc::Global;
 use std::sync::Wait;
 
-/// The address of the player at standard input: 127.0.0.1.
+// The address of the player at standard input: 127.0.0.1.
 const PEER: u32 = 0x7f00_0001;
 
 /// A server of one connection: its book has one seat, and no time passes.

@@ -1,5 +1,6 @@
 //! The programs, by their command lines: a conversation over standard input and output, the audit
 //! of a journal, and the server.
+
 use crate::command_line::{CommandLine, read_words};
 use crate::example::EXAMPLE;
 use crate::exit::Exit;

@@ -1,4 +1,5 @@
 //! The program that serves the connections of a socket.
+
 use crate::exit::Exit;
 use crate::running::read_table;
 use rtsp_engine::{ByteOut, CountedWriter, StreamFault};
@@ -12,7 +13,7 @@ use std::rt::Files;
 use std::sync::Wait;
 use std::thread::Threads;
 
-/// The port that is listened on where no address is named, on 127.0.0.1.
+// The port that is listened on where no address is named, on 127.0.0.1.
 const PORT: u16 = 8_554;
 
 // The address to listen on.

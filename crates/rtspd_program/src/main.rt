@@ -1,4 +1,5 @@
 //! The program `rtspd`: its work is done by the library of that name.
+
 #![tactic(auto)]
 
 use rtspd::{Exit, run_program};

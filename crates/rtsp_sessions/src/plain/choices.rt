@@ -94,7 +94,7 @@ pub(super) fn least_port(whole: &Whole, rows: &[SessionView], from: u32) -> Opti
     least(whole, rows, UdpPorts::Port, from)
 }
 
-/// The least free even pair of channels of the connection, by its first.
+// The least free even pair of channels of the connection, by its first.
 fn least_chan(rows: &[SessionView], conn: u64) -> Option<u8>
     requires in_order { InOrder rows.now }
     requires few { length rows.now < 2 ^ 32 }

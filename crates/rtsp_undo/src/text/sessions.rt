@@ -1,4 +1,5 @@
-//! The lines of the sessions of a book. Each function appends; after a refusal a part may be at the end.
+//! The lines of the sessions of a book. Each function appends; after a refusal a part may be at the
+//! end.
 
 ghost use Rattle.std.specs.Prelude.{◌≡◌, ℕ, ◌+◌, ◌≤◌, ◌<◌, ◌^◌, ◌++◌, length, take, None, IfOk, OnOk, OnErr, nat_le};
 ghost use Rattle.std.specs.List.{flat_map};
@@ -129,7 +130,8 @@ fn next_view<B: BookRep>(book: &B, from: u64) -> Option<SessionView>
     }
 }
 
-/// The lines of all sessions of a book, of which none is above `last`; and what they hold of the UDP ports.
+/// The lines of all sessions of a book, of which none is above `last`; and what they hold of the
+/// UDP ports.
 pub(super) fn write_sessions<B: BookRep>(
     out: &mut Vec<u8>,
     book: &B,
