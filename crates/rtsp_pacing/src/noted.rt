@@ -58,6 +58,8 @@ impl NotedPlays {
         ensures begun { self.new.begun.items ≡ [] }
         ensures noted { self.new.noted ≡ self.old.noted }
     {
+        // The play that was begun first is handed over first.
+        self.begun.reverse();
         while let Some(noted) = self.begun.pop() {
             if let Some(bell) = bells.of(noted.session)
                 && let Ok(outlet) = Arc::try_clone(outlet)

@@ -338,7 +338,8 @@ impl Client {
     }
 
     /// Whether the player has been silent for too long, or has owed the rest of a message for too
-    /// long. Where it has set a track up, its session may live that long without a request.
+    /// long. Where it has asked for a track to be set up, a session may live that long without a
+    /// request.
     pub(crate) fn is_overdue(&self, now: u64, timeout: u64) -> bool {
         if self.stage != Stage::Open {
             return false;

@@ -21,7 +21,8 @@ pub const ANSWERS: usize = 32 * 1_024;
 /// A connection isn't read while more bytes than this wait to be written to it.
 pub const PAUSE: usize = 128 * 1_024;
 
-/// A connection without a session that has said nothing for so long is closed.
+/// A connection that has said nothing for so long is closed. One on which a track was to be set up
+/// may be silent for as long as a session lives, if that is longer.
 pub const SILENCE_LIMIT: u64 = 60_000;
 
 /// A connection that has begun a message and not finished it for so long is closed.
