@@ -59,7 +59,7 @@ def many(server: Server, count: int) -> List[socket.socket]:
     return [server.socket() for _ in range(count)]
 
 
-@serving_test(limit=60, is_timed=True)
+@serving_test(limit=60, is_alone=True)
 def ten_thousand_idle_connections(checks: Checks) -> None:
     """A new connection is answered within 50 ms beside them; above the greatest number one is closed at once."""
     _, hard = resource.getrlimit(resource.RLIMIT_NOFILE)
@@ -95,7 +95,7 @@ def ten_thousand_idle_connections(checks: Checks) -> None:
         checks.same("the descriptors afterwards", before, server.descriptors_fall_to(before, 15.0))
 
 
-@serving_test(limit=40, is_timed=True)
+@serving_test(limit=40, is_alone=True)
 def a_byte_a_second_on_a_thousand_connections(checks: Checks) -> None:
     """Beside them, and at last on them, half of the answers come within 100 ms."""
     with Server(checks) as server:

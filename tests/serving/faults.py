@@ -8,22 +8,24 @@ from typing import Dict
 from checks import Failed
 
 # Of each kind calls are counted, and those from the first to the last are refused with an error's number.
-KINDS = "memory", "receive", "send", "datagram", "bind", "words", "accept"
+KINDS = "memory", "receive", "send", "datagram", "bind", "words", "accept", "thread"
 PLAN = struct.Struct("@4L")
 FOR_EVER = (1 << 63) - 1
 
 LIBRARY = r"""
 #define _GNU_SOURCE
+#include <dlfcn.h>
 #include <errno.h>
 #include <fcntl.h>
 #include <link.h>
+#include <pthread.h>
 #include <stdlib.h>
 #include <sys/mman.h>
 #include <sys/socket.h>
 #include <sys/syscall.h>
 #include <unistd.h>
 
-enum { MEMORY, RECEIVE, SEND, DATAGRAM, BIND, WORDS, ACCEPT, KINDS };
+enum { MEMORY, RECEIVE, SEND, DATAGRAM, BIND, WORDS, ACCEPT, THREAD, KINDS };
 
 /* As many random bytes are read at once. */
 enum { POOL = 32 };
@@ -104,6 +106,12 @@ ssize_t read(int fd, void *to, size_t size) {
 
 int accept4(int fd, struct sockaddr *address, socklen_t *size, int flags) {
     return is_refused(ACCEPT) ? -1 : syscall(SYS_accept4, fd, address, size, flags);
+}
+
+/* It returns the error's number, and makes a thread by the C library's own function, which is the next one. */
+int pthread_create(pthread_t *made, const pthread_attr_t *how, void *(*body)(void *), void *with) {
+    int (*next)(pthread_t *, const pthread_attr_t *, void *(*)(void *), void *) = dlsym(RTLD_NEXT, "pthread_create");
+    return is_refused(THREAD) ? (int)plans[THREAD].error : next(made, how, body, with);
 }
 """
 

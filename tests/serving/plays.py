@@ -10,7 +10,7 @@ import sys
 import threading
 import time
 import wave
-from typing import Callable, Dict, List, Optional
+from typing import Callable, Dict, List, NamedTuple, Optional
 
 from checks import EXAMPLES, Checks
 from rtsp_client.connection import Connection
@@ -19,9 +19,9 @@ from rtsp_client.rtp import Reception
 from rtsp_client.sound import SAMPLES
 
 from .runner import serving_test
-from .server import HERE, TONE, Presentation, Server, Track, is_alive, is_free, lease
+from .server import HERE, TONE, Presentation, Server, Track, is_alive, is_free, lease, leases
+from .witness import Punctuality, Witness
 
-AT_MOST_LATE = 40.0
 # A packet that is sent before the PAUSE is answered may come after that answer, in seconds.
 UNDER_WAY = 0.1
 
@@ -71,7 +71,15 @@ def notice_fits(checks: Checks, where: str, player: Player, cseq: int) -> None:
     checks.same(f"{where}: its headers", wanted, notice.headers)
 
 
-def play_with_a_pause(checks: Checks, server: Server, way: Way) -> None:
+class Played(NamedTuple):
+    """What came of a track over its two plays, and how many packets of it came in the first."""
+
+    where: str
+    came: Reception
+    first: int
+
+
+def play_with_a_pause(checks: Checks, server: Server, way: Way) -> List[Played]:
     """Ten seconds of tone with a pause in them."""
     where = way.value
     player = server.player(way)
@@ -97,13 +105,9 @@ def play_with_a_pause(checks: Checks, server: Server, way: Way) -> None:
     checks.that(f"{where}: the play ends", player.listen(12.0))
     for stream, track in zip(streams, TONE.tracks):
         numbers_fit(checks, f"{where}, {track.name}", stream, track, TONE.units)
-        came = stream.reception
-        for part in came.packets[: sent[0]], came.packets[sent[0] :]:
-            late = sorted(came.late(part))
-            most = late[(len(late) - 1) * 99 // 100] if late else 0.0
-            checks.that(f"{where}, {track.name}: 99 % at most {AT_MOST_LATE} ms late", most <= AT_MOST_LATE, most)
     notice_fits(checks, where, player, cseq)
     player.tear_down()
+    return [Played(f"{where}, {it.track.uri}", it.reception, count) for it, count in zip(streams, sent)]
 
 
 def side_by_side(checks: Checks, *parts: Callable[[], None]) -> None:
@@ -122,12 +126,17 @@ def side_by_side(checks: Checks, *parts: Callable[[], None]) -> None:
         thread.join()
 
 
-@serving_test(limit=40, is_timed=True)
+@serving_test(limit=40, is_alone=True)
 def players_at_once(checks: Checks) -> None:
     """One over UDP, one over one port and one over its connection, each with ten seconds of tone and a pause in them."""
-    with Server(checks) as server:
-        tasks = [lambda way=way: play_with_a_pause(checks, server, way) for way in Way]
+    with Witness() as witness, Server(checks) as server:
+        played: List[Played] = []
+        tasks = [lambda way=way: played.extend(play_with_a_pause(checks, server, way)) for way in Way]
         side_by_side(checks, *tasks)
+        punctuality = Punctuality(checks, witness.stalls())
+        for where, came, first in played:
+            punctuality.judge(f"{where}, before the pause", came, came.packets[:first])
+            punctuality.judge(f"{where}, after it", came, came.packets[first:])
 
 
 def samples_of(path: os.PathLike) -> List[List[int]]:
@@ -142,7 +151,8 @@ def samples_of(path: os.PathLike) -> List[List[int]]:
 @serving_test(limit=40, is_timed=True)
 def the_player_of_the_examples(checks: Checks) -> None:
     """examples/play: the samples that it writes are the file's; a refusal is one line; ^C tears down."""
-    with Server(checks) as server:
+    # The bandwidth of the four players, which is that of a track for each pair.
+    with Server(checks, uplink=4 * TONE.whole_rate) as server:
 
         def heard(*words: str) -> None:
             out = server.path / f"heard{''.join(words)}.wav"
@@ -160,6 +170,9 @@ def the_player_of_the_examples(checks: Checks) -> None:
             checks.that(f"{where}: the samples are the file's", samples_of(out) == wanted)
 
         side_by_side(checks, heard, lambda: heard("--mux"), lambda: heard("--tcp"), lambda: stopped(checks, server))
+        talk = server.connect()
+        checks.same("pairs and bandwidth that are free again", 8, len(leases(talk, f"{server.uri}/a", 8)))
+        talk.close()
         done = subprocess.run([EXAMPLES / "play", f"{server.uri}x"], capture_output=True, text=True, timeout=20)
         came = done.returncode, done.stderr
         checks.same("play of what isn't there", (1, "play: DESCRIBE was answered 404 Not Found\n"), came)
@@ -174,7 +187,7 @@ def the_player_of_the_examples(checks: Checks) -> None:
 
 
 def stopped(checks: Checks, server: Server) -> None:
-    """A player that is stopped by ^C has counted, and its session is gone."""
+    """A player that is stopped by ^C has counted; that its session is gone is seen by what is free afterwards."""
     pipes = {"stdout": subprocess.PIPE, "stderr": subprocess.PIPE, "text": True}
     with subprocess.Popen([EXAMPLES / "play", server.uri], **pipes) as running:
         first = running.stdout.readline()

@@ -1,4 +1,4 @@
-"""Runs the tests side by side, each in a process of its own with a limit of time, some of them up to three times."""
+"""Runs the tests, most of them side by side, each in a process of its own with a limit of time, some several times."""
 import os
 import pathlib
 import queue
@@ -12,20 +12,22 @@ from typing import Callable, Dict, List, NamedTuple, NoReturn, Set
 
 from checks import Checks, Failed, run
 
-# So many tests at once: more would disturb those that measure time.
+# So many tests at once: more would disturb those that wait for seconds to pass.
 SIDE_BY_SIDE = 6
 # A test that measures time is tried so often before it fails, since the machine has other work.
-TRIES = 3
+TRIES = 5
 
 
 class Test(NamedTuple):
-    """A test: what it does, in how many seconds it has to end, how often it is tried, whether it takes a minute."""
+    """A test: what it does, in how many seconds it has to end, how often it is tried, whether it takes a minute, and
+    whether it holds milliseconds, for which nothing may run beside it."""
 
     name: str
     test: Callable[[Checks], None]
     limit: int
     tries: int
     is_long: bool
+    is_alone: bool
 
 
 TESTS: Dict[str, Test] = {}
@@ -35,11 +37,12 @@ GRACE = 10
 running_tests: Set[int] = set()
 
 
-def serving_test(limit: int, is_timed: bool = False, is_long: bool = False):
+def serving_test(limit: int, is_timed: bool = False, is_long: bool = False, is_alone: bool = False):
     """Marks a function as a test; its name is the test's."""
 
     def marked(test: Callable[[Checks], None]) -> Callable[[Checks], None]:
-        TESTS[test.__name__] = Test(test.__name__, test, limit, TRIES if is_timed else 1, is_long)
+        tries = TRIES if is_timed or is_alone else 1
+        TESTS[test.__name__] = Test(test.__name__, test, limit, tries, is_long, is_alone)
         return test
 
     return marked
@@ -97,19 +100,23 @@ def tell(checks: Checks, outcome: Outcome) -> None:
         print("".join(f"  {line}\n" for line in outcome.said.splitlines()), end="", flush=True)
 
 
-def run_all(script: pathlib.Path, checks: Checks) -> None:
-    """Runs all tests, the longest first; with RTSPD_FAST those that take no minute."""
-    chosen = [test for test in TESTS.values() if not (test.is_long and os.environ.get("RTSPD_FAST"))]
+def run_beside(script: pathlib.Path, checks: Checks, chosen: List[Test], side_by_side: int) -> None:
+    """Runs tests, the longest first, so many at once."""
     waiting: "queue.Queue[Test]" = queue.Queue()
     outcomes: "queue.Queue[Outcome]" = queue.Queue()
     for test in sorted(chosen, key=lambda it: -it.limit):
         waiting.put(test)
-    threads: List[threading.Thread] = []
-    for _ in range(SIDE_BY_SIDE):
-        threads.append(threading.Thread(target=work, args=(script, waiting, outcomes), daemon=True))
-        threads[-1].start()
+    for _ in range(side_by_side):
+        threading.Thread(target=work, args=(script, waiting, outcomes), daemon=True).start()
     for _ in chosen:
         tell(checks, outcomes.get())
+
+
+def run_all(script: pathlib.Path, checks: Checks) -> None:
+    """Runs all tests, with RTSPD_FAST those that take no minute: last, one by one, those that hold milliseconds."""
+    chosen = [test for test in TESTS.values() if not (test.is_long and os.environ.get("RTSPD_FAST"))]
+    run_beside(script, checks, [test for test in chosen if not test.is_alone], SIDE_BY_SIDE)
+    run_beside(script, checks, [test for test in chosen if test.is_alone], 1)
 
 
 def run_one(test: Test) -> NoReturn:

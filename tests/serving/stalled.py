@@ -1,9 +1,12 @@
 """Players that don't read: what becomes of them, and that nobody else notices."""
+import contextlib
 import multiprocessing
+import select
 import socket
 import threading
 import time
-from typing import List
+from multiprocessing.sharedctypes import Synchronized
+from typing import Iterator, List
 
 from checks import Checks
 from rtsp_client.connection import Refused
@@ -11,9 +14,9 @@ from rtsp_client.messages import Message, Reader, written
 from rtsp_client.player import Player, Way
 
 from .runner import serving_test
-from .server import Presentation, Server, Track, is_alive
+from .server import HERE, Presentation, Server, Track, is_alive
+from .witness import Punctuality, Witness
 
-AT_MOST_LATE = 40.0
 # When a player that reads nothing has to be gone, in seconds after its PLAY.
 GONE_AFTER, GONE_BEFORE = 10.0, 13.0
 TONE_OF_A_MINUTE = Presentation(units=3000)
@@ -38,10 +41,10 @@ def ended_at(server: Server, stalled: Player, before: int, began: float) -> floa
     return time.monotonic() - began
 
 
-@serving_test(limit=45, is_timed=True)
+@serving_test(limit=45, is_alone=True)
 def a_player_that_never_reads(checks: Checks) -> None:
     """It is gone after ten seconds, and its session; beside it another one hears every packet on time."""
-    with Server(checks, TONE_OF_A_MINUTE) as server:
+    with Witness() as witness, Server(checks, TONE_OF_A_MINUTE) as server:
         reader = played(server, 1 << 18)
         stalled = played(server, 4096)
         began = time.monotonic()
@@ -56,12 +59,12 @@ def a_player_that_never_reads(checks: Checks) -> None:
         checks.same("its session has ended", False, is_alive(talk, server.uri, stalled.session or ""))
         talk.close()
         listening.join()
+        punctuality = Punctuality(checks, witness.stalls())
         for stream in reader.streams:
             came = stream.reception
             checks.that("the other one has played all the while", len(came.packets) >= 50 * (GONE_BEFORE + 1))
             checks.same("the other one: gaps and repeats", (0, 0), (came.gaps, came.repeats))
-            late = came.lateness()
-            checks.that(f"the other one: 99 % at most {AT_MOST_LATE} ms late", late.most_of_99 <= AT_MOST_LATE, late)
+            punctuality.judge("the other one", came, came.packets)
         reader.tear_down()
         stalled.close()
 
@@ -148,40 +151,84 @@ def one_that_asks_and_doesnt_read(checks: Checks) -> None:
 
 
 FLOODS = 8
-IN_ONE_FLOOD = 300
+# The server reads at most so many bytes of a connection in one visit (crates/rtsp_server/src/limits.rt).
+IN_ONE_VISIT = 16 * 4096
+# A new connection waits for the rest of a turn, is accepted in the next and answered in the one after: three turns. It
+# may lose some more where the machine has other work.
+TURNS_AT_MOST = 6
+NEW_ONES, FLOODED_FOR = 40, 8.0
+# Small segments: with the loopback's of 64 KiB the system lets a buffer run empty before it asks for more.
+SEGMENT = 1400
+REQUEST = written("OPTIONS * RTSP/2.0", [("CSeq", "1")])
 
 
-def flood(server: Server) -> None:
-    """Asks without end, and reads what is answered."""
-    talk = server.socket()
-    block = written("OPTIONS * RTSP/2.0", [("CSeq", "1")]) * IN_ONE_FLOOD
-    reader = Reader()
+def flood(port: int, came: Synchronized) -> None:
+    """Asks without end, so that requests always wait to be read, and counts the bytes of the answers."""
+    talk = socket.socket()
+    talk.setsockopt(socket.IPPROTO_TCP, socket.TCP_MAXSEG, SEGMENT)
+    # What waits here goes on by itself while this process doesn't run.
+    talk.setsockopt(socket.SOL_SOCKET, socket.SO_SNDBUF, 4 * MEGABYTES)
+    talk.setsockopt(socket.SOL_SOCKET, socket.SO_RCVBUF, 4 * MEGABYTES)
+    talk.connect((HERE, port))
+    talk.setblocking(False)
+    block, piece, at = memoryview(REQUEST * 10_000), bytearray(MEGABYTES), 0
+    poll = select.poll()
+    poll.register(talk, select.POLLIN | select.POLLOUT)
     while True:
-        talk.sendall(block)
-        left = IN_ONE_FLOOD
-        while left > 0:
-            left -= len(list(reader.take(talk.recv(1 << 16))))
+        for _, events in poll.poll():
+            if events & select.POLLIN:
+                came.value += talk.recv_into(piece)
+            if events & select.POLLOUT:
+                at = (at + talk.send(block[at:])) % len(block)
 
 
-@serving_test(limit=30, is_timed=True)
-def one_that_floods(checks: Checks) -> None:
-    """Eight connections ask without end and read: a new one is answered soon."""
-    with Server(checks) as server:
-        floods = [multiprocessing.Process(target=flood, args=(server,), daemon=True) for _ in range(FLOODS)]
-        for process in floods:
-            process.start()
+@contextlib.contextmanager
+def flooded(server: Server) -> Iterator[List[Synchronized]]:
+    """Connections that flood, each in a process of its own: of each how many bytes of answers have come."""
+    counts = [multiprocessing.Value("Q", 0, lock=False) for _ in range(FLOODS)]
+    floods = [multiprocessing.Process(target=flood, args=(server.port, it), daemon=True) for it in counts]
+    for process in floods:
+        process.start()
+    try:
         time.sleep(0.5)
-        took = []
-        for _ in range(40):
-            began = time.monotonic()
-            server.answers("a new connection")
-            took.append((time.monotonic() - began) * 1000)
-        checks.same("how many still flood", FLOODS, sum(process.is_alive() for process in floods))
+        yield counts
+        server.checks.same("how many still flood", FLOODS, sum(process.is_alive() for process in floods))
+    finally:
         for process in floods:
             process.kill()
             process.join()
-        middle = sorted(took)[len(took) // 2]
-        checks.that("half of the new connections are answered within 100 ms", middle <= 100, middle)
+
+
+def octets_of_an_answer(server: Server) -> int:
+    talk = server.socket()
+    talk.sendall(REQUEST)
+    octets = len(talk.recv(4096))
+    talk.close()
+    return octets
+
+
+@serving_test(limit=40, is_alone=True)
+def one_that_floods(checks: Checks) -> None:
+    """Eight connections of one lane ask without end and read: a new one is answered after a few visits to each.
+
+    It is told by how much of the flood is answered meanwhile, which neither a slow server nor a busy machine changes.
+    """
+    with Server(checks, workers=1) as server:
+        in_one_turn = FLOODS * IN_ONE_VISIT // len(REQUEST) * octets_of_an_answer(server)
+        with flooded(server) as counts:
+            before, until = sum(it.value for it in counts), time.monotonic() + FLOODED_FOR
+            answered = 0
+            while answered < NEW_ONES and time.monotonic() < until:
+                try:
+                    server.answers("a new connection")
+                except Refused as why:
+                    checks.that("a new connection is answered", False, why)
+                    break
+                answered += 1
+            flooded_by = sum(it.value for it in counts) - before
+        checks.that("they flood", flooded_by > in_one_turn, flooded_by)
+        turns = flooded_by / in_one_turn / max(answered, 1)
+        checks.that(f"turns of a lane for a new connection, at most {TURNS_AT_MOST}", turns <= TURNS_AT_MOST, turns)
 
 
 @serving_test(limit=20)
