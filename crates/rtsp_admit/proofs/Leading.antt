@@ -1,8 +1,9 @@
 -- What a seat's own entries leave under an admission, where ended sessions may be forgotten with what the seat did in them.
-use Rattle.std.proofs.Common.{◌≡◌, ◌≢◌, ◌⊎◌, ◌==◌, ℕ, zero, suc, ◌+◌, ◌-◌, ◌≤◌, Bool, true, false, cond, List, [], ◌∷◌, ◌++◌, length, drop, refl, sym, ◌∙◌, ap, subst, arith, inl, inr, ⊎_elim, append-nil, append_assoc, length-append, eq-eqb, ne_eqb}
+use Rattle.std.proofs.Common.{◌≡◌, ◌≢◌, ◌==◌, ℕ, suc, ◌+◌, ◌-◌, ◌≤◌, ◌<◌, Bool, true, false, cond, List, [], ◌∷◌, ◌++◌, length, drop, refl, sym, ◌∙◌, ap, subst, arith, inl, inr, ⊎_elim, append-nil, append_assoc, length-append, eq-eqb, ne_eqb}
 use Rattle.std.specs.Prelude.{Option, None, filter}
 use Rattle.std.specs.List.{AllByRecursion}
 use Rattle.std.specs.FinMap.{get, empty}
+use Rattle.std.proofs.lemmas.Bool.{cases_lt}
 use Rattle.std.proofs.lemmas.List.{drop-append-le}
 use Rattle.std.proofs.lemmas.List.Elements.{filter-append}
 use Rattle.std.proofs.Math.ListN.{drop_of_length-le}
@@ -107,12 +108,6 @@ behind : (by a : ℕ) (e : Entry) (t : Bool) (l : List Entry) → OnlyOf by (con
 behind by a e true l h = h.1
 behind by a e false l h = h
 
--- one number is at most the other, or above it
-either_side : (k n : ℕ) → (k ≤ n) ⊎ (n + 1 ≤ k)
-either_side zero n = inl (omega arith)
-either_side (suc k) zero = inr (omega arith)
-either_side (suc k) (suc n) = ⊎_elim (λ (h : k ≤ n). inl (omega (arith, h))) (λ (h : n + 1 ≤ k). inr (omega (arith, h))) (either_side k n)
-
 -- What stands under an admission after entries of its session.
 
 pub quiet_rows : (a : ℕ) (x y : Option Thing) (j : List Entry) (o : Option Session) → count a j ≡ 0 → Within a x y o → Within a x y (row_after (records_of j) o)
@@ -144,7 +139,7 @@ module _ (by a : ℕ) where
 
   -- one more entry of the seat
   pub leads_one : (x y x' y' : Option Thing) (own : List Entry) (e : Entry) → ((o : Option Session) → Within a x y o → Within a x' y' (effect e.change o)) → Leads x y own → Leads x' y' (own ++ e ∷ [])
-  leads_one x y x' y' own e step leads j before k o none is only h = ⊎_elim there gone (either_side k (length own))
+  leads_one x y x' y' own e step leads j before k o none is only h = ⊎_elim gone there (cases_lt (length own) k)
     where
       there : k ≤ length own → Within a x' y' (row_after (records_of j) o)
       there le =
@@ -162,7 +157,7 @@ module _ (by a : ℕ) where
           subst (Within a x' y') (sym ends) (quiet_rows a x' y' s.last (effect e.change (row_after (records_of s.first) o)) quiet (step (row_after (records_of s.first) o) first))
 
       -- where none of them is left there is no Hold or Add
-      gone : length own + 1 ≤ k → Within a x' y' (row_after (records_of j) o)
+      gone : length own < k → Within a x' y' (row_after (records_of j) o)
       gone more =
           let size = length-append own (e ∷ []) in
           let empty : drop k (own ++ e ∷ []) ≡ [] = drop_of_length-le (own ++ e ∷ []) (omega (arith, more, size)) in
@@ -200,59 +195,69 @@ own_no_add by s a (e ∷ j) h =
 row_is : (j : List Entry) (s : ℕ) → get (book_of j) s ≡ row_after (records_of (strand s j)) None
 row_is j s = strand_row s (records_of j) empty ∙ ap (row_after (filter (λ r. session_of r == s) (records_of j))) (get-none s) ∙ ap (λ rs. row_after rs None) (sym (records-filter (λ r. session_of r == s) j))
 
--- what is left under the admission after a journal whose Holds and Adds under it are among those that the seat added
-pub left_of : (by s a : ℕ) (x y : Option Thing) (mine more j : List Entry) → LeftOf (mine ++ more) (entries_of by j) → AllByRecursion (IsOwn by s a) more → Part (uses a j) (uses a more) → Leads by a x y more → Left s a x y j
-left_of by s a x y mine more j left owns part leads = record { others = others; own = own; no_add = own_no_add by s a j all }
-  where
-    p : Entry → Bool
-    p e = is_use_of a e.change
+-- What is left under the admission after a journal whose Holds and Adds under it are among those that the seat added in the session.
 
-    here : Entry → Bool
-    here e = session_of e.change == s
+abbrev is_use : ℕ → Entry → Bool
+is_use a e = is_use_of a e.change
 
-    ours : Entry → Bool
-    ours e = e.actor == by
+abbrev is_in : ℕ → Entry → Bool
+is_in s e = session_of e.change == s
 
-    all : AllByRecursion (IsOwn by s a) (uses a j)
-    all = all_part (IsOwn by s a) (uses a j) (uses a more) part (all_filter (IsOwn by s a) p more owns)
+abbrev is_by : ℕ → Entry → Bool
+is_by by e = e.actor == by
 
-    others : (q : ℕ) → q ≢ s → Within a None None (get (book_of j) q)
-    others q ne =
-        let none : count a (strand q j) ≡ 0 = ap length (filters p (λ (e : Entry). session_of e.change == q) j ∙ other_strand by s a q (uses a j) ne all) in
-        subst (Within a None None) (sym (row_is j q)) (quiet_rows a None None (strand q j) None none tt)
+module _ (by s a : ℕ) (more j : List Entry) (owns : AllByRecursion (IsOwn by s a) more) (part : Part (uses a j) (uses a more)) where
+  -- all Holds and Adds are the seat's own
+  uses_own : AllByRecursion (IsOwn by s a) (uses a j)
+  uses_own = all_part (IsOwn by s a) (uses a j) (uses a more) part (all_filter (IsOwn by s a) (is_use a) more owns)
 
-    only : OnlyOf by (uses a (strand s j))
-    only = subst (OnlyOf by) (sym (filters p here j)) (own_only by s a (filter here (uses a j)) (all_filter (IsOwn by s a) here (uses a j) all))
+  -- so no other session has any
+  none_elsewhere : (q : ℕ) → q ≢ s → Within a None None (get (book_of j) q)
+  none_elsewhere q ne =
+      let none : count a (strand q j) ≡ 0 = ap length (filters (is_use a) (is_in q) j ∙ other_strand by s a q (uses a j) ne uses_own) in
+      subst (Within a None None) (sym (row_is j q)) (quiet_rows a None None (strand q j) None none tt)
 
-    old : List Entry
-    old = strand s mine
+  -- those in the session are the seat's
+  strand_own : OnlyOf by (uses a (strand s j))
+  strand_own = subst (OnlyOf by) (sym (filters (is_use a) (is_in s) j)) (own_only by s a (filter (is_in s) (uses a j)) (all_filter (IsOwn by s a) (is_in s) (uses a j) uses_own))
 
-    mine_is : entries_of by (strand s j) ≡ drop (left.cut s) (old ++ more)
-    mine_is = filters ours here j ∙ (left.strands s ∙ ap (drop (left.cut s)) (filter-append here mine more ∙ ap (λ (l : List Entry). old ++ l) (own_strand by s a more owns)))
+  -- and no more than were added
+  strand_few : count a (entries_of by (strand s j)) ≤ count a more
+  strand_few =
+      let first = part_length (uses a j) (uses a more) part in
+      let second = filter_shorter (is_in s) (uses a j) in
+      let third = filter_shorter (is_by by) (filter (is_in s) (uses a j)) in
+      let same : count a (entries_of by (strand s j)) ≡ length (filter (is_by by) (filter (is_in s) (uses a j))) = ap length (filters (is_use a) (is_by by) (strand s j) ∙ ap (filter (is_by by)) (filters (is_use a) (is_in s) j)) in
+      omega (arith, first, second, third, same)
 
-    -- no more Holds and Adds than were added
-    few : count a (entries_of by (strand s j)) ≤ count a more
-    few =
-        let first = part_length (uses a j) (uses a more) part in
-        let second = filter_shorter here (uses a j) in
-        let third = filter_shorter ours (filter here (uses a j)) in
-        let same : count a (entries_of by (strand s j)) ≡ length (filter ours (filter here (uses a j))) = ap length (filters p ours (strand s j) ∙ ap (filter ours) (filters p here j)) in
-        omega (arith, first, second, third, same)
+  module _ (x y : Option Thing) (mine : List Entry) (left : LeftOf (mine ++ more) (entries_of by j)) (leads : Leads by a x y more) where
+    -- the seat's entries of the session are what it had and added there, from the cut on
+    strand_is : entries_of by (strand s j) ≡ drop (left.cut s) (strand s mine ++ more)
+    strand_is =
+        filters (is_by by) (is_in s) j
+        ∙ (left.strands s ∙ ap (drop (left.cut s)) (filter-append (is_in s) mine more ∙ ap (λ (l : List Entry). strand s mine ++ l) (own_strand by s a more owns)))
 
-    own : Within a x y (get (book_of j) s)
-    own = subst (Within a x y) (sym (row_is j s)) (⊎_elim short long (either_side (left.cut s) (length old)))
-      where
-        short : left.cut s ≤ length old → Within a x y (row_after (records_of (strand s j)) None)
-        short le =
-            let before = drop (left.cut s) old in
-            let is : entries_of by (strand s j) ≡ before ++ more = mine_is ∙ drop-append-le (left.cut s) old more le in
-            let size : count a (entries_of by (strand s j)) ≡ count a before + count a more = ap (count a) is ∙ (ap length (filter-append p before more) ∙ length-append (uses a before) (uses a more)) in
-            let le_few = few in
-            leads (strand s j) before 0 None (omega (arith, size, le_few)) is only tt
+    -- a cut through what it had leaves all that was added, and nothing of the admission before it
+    cut_before : left.cut s ≤ length (strand s mine) → Within a x y (row_after (records_of (strand s j)) None)
+    cut_before le =
+        let before = drop (left.cut s) (strand s mine) in
+        let is : entries_of by (strand s j) ≡ before ++ more = strand_is ∙ drop-append-le (left.cut s) (strand s mine) more le in
+        let size : count a (entries_of by (strand s j)) ≡ count a before + count a more = ap (count a) is ∙ (ap length (filter-append (is_use a) before more) ∙ length-append (uses a before) (uses a more)) in
+        let few = strand_few in
+        leads (strand s j) before 0 None (omega (arith, size, few)) is strand_own tt
 
-        long : length old + 1 ≤ left.cut s → Within a x y (row_after (records_of (strand s j)) None)
-        long le =
-            let k = left.cut s - length old in
-            let cut : left.cut s ≡ length old + k = omega (arith, le) in
-            let is : entries_of by (strand s j) ≡ drop k more = mine_is ∙ (ap (λ n. drop n (old ++ more)) cut ∙ drop-append-add old more k) in
-            leads (strand s j) [] k None refl is only tt
+    -- a cut through what was added leaves the rest of that
+    cut_within : length (strand s mine) < left.cut s → Within a x y (row_after (records_of (strand s j)) None)
+    cut_within lt =
+        let k = left.cut s - length (strand s mine) in
+        let cut : left.cut s ≡ length (strand s mine) + k = omega (arith, lt) in
+        let is : entries_of by (strand s j) ≡ drop k more = strand_is ∙ (ap (λ n. drop n (strand s mine ++ more)) cut ∙ drop-append-add (strand s mine) more k) in
+        leads (strand s j) [] k None refl is strand_own tt
+
+    -- either way no more is left than the seat's own entries leave
+    pub left_of : Left s a x y j
+    left_of = record {
+      others = none_elsewhere;
+      own = subst (Within a x y) (sym (row_is j s)) (⊎_elim cut_within cut_before (cases_lt (length (strand s mine)) (left.cut s)));
+      no_add = own_no_add by s a j uses_own;
+    }

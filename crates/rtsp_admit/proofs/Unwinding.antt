@@ -271,7 +271,7 @@ module _ {B : Type 0} (calls : Calls B) (ask : Ask) where
       let journal = run.unwinds.journal in
       let part : Part (uses a journal) (uses a keeps.more) = subst (λ (l : List Entry). Part l (uses a keeps.more)) end.seen (subst (Part (uses a u.seen)) end.same alone) in
       let found : LeftOf (v.mine ++ keeps.more) (entries_of v.actor journal) = subst (λ (n : ℕ). LeftOf (v.mine ++ keeps.more) (entries_of n journal)) keeps.actor (subst (λ (m : List Entry). LeftOf m (entries_of w.actor journal)) keeps.mine run.unwinds.found.mine) in
-      let left = left_of v.actor ask.session a (chain_left ask cause).first (chain_left ask cause).second v.mine keeps.more journal found keeps.own part (keeps.leads [] (leads_none v.actor a)) in
+      let left = left_of v.actor ask.session a keeps.more journal keeps.own part (chain_left ask cause).first (chain_left ask cause).second v.mine found (keeps.leads [] (leads_none v.actor a)) in
       let gone = gone_after cause run.answer w u run.unwinds (second_is calls ask cause s run.broken run.fails) left in
       let legal = run.unwinds.stays.stands.legal in
       record {

@@ -174,7 +174,7 @@ pub record Kept_as (k k' : History) : Type 0 where
   pub up : k.next ≤ k'.next
 
 -- a look leaves the book as it is
-pub look_leaves : (k : History) → Kept_as k k
+look_leaves : (k : History) → Kept_as k k
 look_leaves k = record { journal = refl; whole = refl; rounds = refl; up = le_refl k.next }
 
 -- a draw, accepted or refused
@@ -314,9 +314,17 @@ same_leaves v v1 k k' held same =
       rounds = same.rounds ∙ sym (ap (λ (x : View). x.found_rounds) held);
     })
 
--- a look draws none
-pub look_draws_none : (v v' v1 : View) (k : History) → v1 ≡ held_as v k → v' ≡ settled v1 → v'.drawn ≡ v.drawn
-look_draws_none v v' v1 k held put =
+-- a look puts back the book that it found, as it was
+pub only_looks : {v v1 v' : View} (k : History) → v1 ≡ held_as v k → v' ≡ settled v1 → k ≡ history v.whole k.journal k.next k.rounds → IsLegal k.whole k.journal → length k.journal + owed (book_of k.journal) ≤ k.whole.journal → Fits v.whole k.journal k.next k.rounds v
+    → Looked v v'
+only_looks {v = v} {v1 = v1} {v' = v'} k held put value legal limit fits =
+    let a = after v v' v1 v1 k k [] held (unnoted v v1 k held) put (same_is k.journal k.journal refl) in
+    let lawful : Lawful k = record { legal = legal; limit = limit } in
+    looks v v' k k a.0 (ap (λ (h : History). h.whole) value) lawful lawful fits (look_leaves k)
+
+-- and draws no number
+pub look_draws_none : (v v1 v' : View) (k : History) → v1 ≡ held_as v k → v' ≡ settled v1 → v'.drawn ≡ v.drawn
+look_draws_none v v1 v' k held put =
     let a = after v v' v1 v1 k k [] held (unnoted v v1 k held) put (same_is k.journal k.journal refl) in
     a.1 ∙ (ap (λ (l : List ℕ). v.drawn ++ l) (numbers_none k.next k.next refl) ∙ append-nil v.drawn)
 
