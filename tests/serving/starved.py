@@ -73,6 +73,10 @@ def is_sent_if_answered(checks: Checks, server: Server, faults: Faults, number: 
         player.connection.wait(SOON, lambda: len(came) >= ENOUGH)
         checks.that(f"packets come without allocation {number} and those after it", len(came) >= ENOUGH, len(came))
     faults.stop()
+    # The server may have ended the connection, which the session outlives.
+    talk = server.connect()
+    talk.ask("TEARDOWN", server.uri, [("Session", player.session or "")])
+    talk.close()
     player.close()
     return is_answered
 
