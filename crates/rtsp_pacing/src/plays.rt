@@ -1,6 +1,7 @@
 //! The plays of a pacer.
 
-ghost use Rattle.std.specs.Prelude.{◌+◌, ℕ, IfOk, IsSome};
+ghost use Rattle.std.specs.Prelude.{◌≡◌, ◌+◌, ℕ, IfOk, IfSome, IsSome, Some, None};
+ghost use Rattle.slab.specs.Slab.{get};
 ghost use Rattle.rtsp_pacing.specs.Plays.{HasRoom};
 
 use crate::play::PacedPlay;
@@ -39,6 +40,7 @@ impl PacerPlays {
     // memory; then the play is dropped.
     pub(crate) fn take(&mut self, play: PacedPlay) -> Option<usize>
         ensures taken { HasRoom self.old 1 → IsSome result }
+        ensures kept { IfSome result (λ key. get self.new.plays key ≡ Some (record { play = play; before = None })) }
         ensures room { (n : ℕ) → HasRoom self.old (n + 1) → HasRoom self.new n }
     {
         let session = play.session();
