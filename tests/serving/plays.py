@@ -18,6 +18,7 @@ from rtsp_client.player import Player, Stream, Way
 from rtsp_client.rtp import Reception
 from rtsp_client.sound import SAMPLES
 
+from .relay import Relay
 from .runner import serving_test
 from .server import HERE, TONE, Presentation, Server, Track, is_alive, is_free, lease, leases
 from .witness import Punctuality, Witness
@@ -187,16 +188,19 @@ def the_player_of_the_examples(checks: Checks) -> None:
 
 
 def stopped(checks: Checks, server: Server) -> None:
-    """A player that is stopped by ^C has counted; that its session is gone is seen by what is free afterwards."""
+    """A player that is stopped by ^C pauses, tears its session down, and has counted."""
     pipes = {"stdout": subprocess.PIPE, "stderr": subprocess.PIPE, "text": True}
-    with subprocess.Popen([EXAMPLES / "play", server.uri], **pipes) as running:
-        first = running.stdout.readline()
-        checks.same("play: its first line", "playing 0.000 to 10.000 s over UDP; ^C ends it\n", first)
-        time.sleep(0.5)
-        running.send_signal(signal.SIGINT)
-        said, complaint = running.communicate(timeout=10)
+    with Relay(server.port) as relay:
+        uri = server.uri.replace(f":{server.port}/", f":{relay.port}/")
+        with subprocess.Popen([EXAMPLES / "play", uri], **pipes) as running:
+            first = running.stdout.readline()
+            checks.same("play: its first line", "playing 0.000 to 10.000 s over UDP; ^C ends it\n", first)
+            time.sleep(0.5)
+            running.send_signal(signal.SIGINT)
+            said, complaint = running.communicate(timeout=10)
         checks.same("play, after ^C", (0, ""), (running.returncode, complaint))
         checks.same("play, after ^C: it has counted", 2, len(re.findall(r"(?m)^track [ab]: .* 0 repeats", said)))
+        checks.same("play, after ^C: its last requests", ["PLAY", "PAUSE", "TEARDOWN"], relay.methods()[-3:])
 
 
 ONE_PORT = ("Transport", 'RTP/AVP;unicast;dest_addr=":9";RTCP-mux')
