@@ -48,9 +48,17 @@ presentation_path-false p path h (inr slash) =
       | inr other ↦ false≢true (sym h ∙ rw (other, (bytes_eq-Decides path (presentation_path p ++ codes "/")).1 slash) refl)
     ]
 
+-- an element that passes stands there, where places are counted from i
+pub record PassesAt {X : Type 0} (test : X → Bool) (i : ℕ) (xs : List X) (j : ℕ) : Type 0 where
+  pub index : ℕ
+  pub element : X
+  pub counted : j ≡ i + index
+  pub stands : slice_get xs index ≡ Some element
+  pub passes : test element ≡ true
+
 -- the place of an element that passes, counted from i, or none that passes
 abbrev pub Places : {X : Type 0} → (X → Bool) → ℕ → List X → Option ℕ → Type 0
-Places {X} test i xs (Some j) = (k : ℕ) × (x : X) × (j ≡ i + k) × (slice_get xs k ≡ Some x) × (test x ≡ true)
+Places {X} test i xs (Some j) = PassesAt test i xs j
 Places {X} test i xs None = (k : ℕ) (x : X) → slice_get xs k ≡ Some x → test x ≡ false
 
 none_behind : {X : Type 0} (test : X → Bool) (y : X) (xs : List X) → test y ≡ false → ((k : ℕ) (x : X) → slice_get xs k ≡ Some x → test x ≡ false)
@@ -59,25 +67,51 @@ none_behind test y xs fails all zero x there = let same : y ≡ x = cc in ap tes
 none_behind test y xs fails all (suc k) x there = all k x there
 
 places-behind : {X : Type 0} (test : X → Bool) (i : ℕ) (y : X) (xs : List X) (r : Option ℕ) → test y ≡ false → Places test (i + 1) xs r → Places test i (y ∷ xs) r
-places-behind test i y xs (Some j) fails (k, x, at, there, pass) = (suc k, x, omega arith, there, pass)
+places-behind test i y xs (Some j) fails h = record {
+  index = suc h.index;
+  element = h.element;
+  counted = omega (arith, h.counted);
+  stands = h.stands;
+  passes = h.passes;
+}
 places-behind test i y xs None fails all = none_behind test y xs fails all
 
 pub position_from-places : {X : Type 0} (test : X → Bool) (i : ℕ) (xs : List X) → Places test i xs (position_from test i xs)
 position_from-places test i [] = λ k x there. absurd (cc)
 position_from-places test i (y ∷ xs) =
     elim (cases_Bool (test y)) [
-      | inl pass ↦ rw pass (0, y, omega arith, refl, pass)
+      | inl pass ↦ rw pass (here pass)
       | inr fails ↦ rw fails (places-behind test i y xs (position_from test (i + 1) xs) fails (position_from-places test (i + 1) xs))
-    ]
+    ] where
+  here : test y ≡ true → PassesAt test i (y ∷ xs) i
+  here pass = record { index = 0; element = y; counted = omega arith; stands = refl; passes = pass }
 
 -- no path of the presentation, and of none of its tracks
 abbrev pub IsElsewhere : PresentationValue → List ℕ → Type 0
 IsElsewhere p path = (¬ IsPathOf p path) × ((j : ℕ) (t : TrackValue) → slice_get p.tracks j ≡ Some t → path ≢ track_path p t)
 
+-- the presentation there, where they are counted from i, has the path
+pub record NamesPresentationFrom (i : ℕ) (ps : List PresentationValue) (path : List ℕ) (n : ℕ) : Type 0 where
+  pub index : ℕ
+  pub presentation : PresentationValue
+  pub counted : n ≡ i + index
+  pub stands : slice_get ps index ≡ Some presentation
+  pub path_is : IsPathOf presentation path
+
+-- the track of that index of the presentation there, where they are counted from i, has the path
+pub record NamesTrackFrom (i : ℕ) (ps : List PresentationValue) (path : List ℕ) (n j : ℕ) : Type 0 where
+  pub index : ℕ
+  pub presentation : PresentationValue
+  pub track : TrackValue
+  pub counted : n ≡ i + index
+  pub stands : slice_get ps index ≡ Some presentation
+  pub track_stands : slice_get presentation.tracks j ≡ Some track
+  pub path_is : path ≡ track_path presentation track
+
 -- what the path names among presentations that are counted from i
 abbrev pub NamesFrom : ℕ → List PresentationValue → List ℕ → Found → Type 0
-NamesFrom i ps path (Presentation n) = (k : ℕ) × (p : PresentationValue) × (n ≡ i + k) × (slice_get ps k ≡ Some p) × IsPathOf p path
-NamesFrom i ps path (Track n j) = (k : ℕ) × (p : PresentationValue) × (t : TrackValue) × (n ≡ i + k) × (slice_get ps k ≡ Some p) × (slice_get p.tracks j ≡ Some t) × (path ≡ track_path p t)
+NamesFrom i ps path (Presentation n) = NamesPresentationFrom i ps path n
+NamesFrom i ps path (Track n j) = NamesTrackFrom i ps path n j
 NamesFrom i ps path Nothing = (k : ℕ) (p : PresentationValue) → slice_get ps k ≡ Some p → IsElsewhere p path
 
 elsewhere-behind : (p : PresentationValue) (ps : List PresentationValue) (path : List ℕ) → IsElsewhere p path → ((k : ℕ) (q : PresentationValue) → slice_get ps k ≡ Some q → IsElsewhere q path)
@@ -86,8 +120,22 @@ elsewhere-behind p ps path here all zero q there = let same : p ≡ q = cc in su
 elsewhere-behind p ps path here all (suc k) q there = all k q there
 
 names-behind : (i : ℕ) (p : PresentationValue) (ps : List PresentationValue) (path : List ℕ) (found : Found) → IsElsewhere p path → NamesFrom (i + 1) ps path found → NamesFrom i (p ∷ ps) path found
-names-behind i p ps path (Presentation n) here (k, q, at, there, is) = (suc k, q, omega arith, there, is)
-names-behind i p ps path (Track n j) here (k, q, t, at, there, track, is) = (suc k, q, t, omega arith, there, track, is)
+names-behind i p ps path (Presentation n) here h = record {
+  index = suc h.index;
+  presentation = h.presentation;
+  counted = omega (arith, h.counted);
+  stands = h.stands;
+  path_is = h.path_is;
+}
+names-behind i p ps path (Track n j) here h = record {
+  index = suc h.index;
+  presentation = h.presentation;
+  track = h.track;
+  counted = omega (arith, h.counted);
+  stands = h.stands;
+  track_stands = h.track_stands;
+  path_is = h.path_is;
+}
 names-behind i p ps path Nothing here all = elsewhere-behind p ps path here all
 
 no_track : (p : PresentationValue) (path : List ℕ) → ((j : ℕ) (t : TrackValue) → slice_get p.tracks j ≡ Some t → is_track_path p path t ≡ false)
@@ -96,9 +144,17 @@ no_track p path all j t there is = false≢true (sym (all j t there) ∙ (bytes_
 
 names-track_or : (i : ℕ) (p : PresentationValue) (ps : List PresentationValue) (path : List ℕ) (r : Option ℕ) (found : Found) → ¬ IsPathOf p path → Places (is_track_path p path) 0 p.tracks r
     → NamesFrom (i + 1) ps path found → NamesFrom i (p ∷ ps) path (track_or i r found)
-names-track_or i p ps path (Some j) found other (k, t, at, there, pass) rest =
-    let same : k ≡ j = omega arith in
-    (0, p, t, omega arith, refl, rw same at there, (bytes_eq-Decides path (track_path p t)).0 pass)
+names-track_or i p ps path (Some j) found other h rest =
+    let same : h.index ≡ j = omega (arith, h.counted) in
+    record {
+      index = 0;
+      presentation = p;
+      track = h.element;
+      counted = omega arith;
+      stands = refl;
+      track_stands = ap (slice_get p.tracks) (sym same) ∙ h.stands;
+      path_is = (bytes_eq-Decides path (track_path p h.element)).0 h.passes;
+    }
 names-track_or i p ps path None found other all rest = names-behind i p ps path found (other, no_track p path all) rest
 
 pub find_from-names : (i : ℕ) (ps : List PresentationValue) (path : List ℕ) → NamesFrom i ps path (find_from i ps path)
@@ -106,16 +162,32 @@ unfolding find_from
 find_from-names i [] path = λ k p there. absurd (cc)
 find_from-names i (p ∷ ps) path =
     elim (cases_Bool (is_presentation_path p path)) [
-      | inl here ↦ rw here (0, p, omega arith, refl, presentation_path-true p path here)
+      | inl bare ↦ rw bare (here bare)
       | inr other ↦
           rw other
           (names-track_or i p ps path (position_from (is_track_path p path) 0 p.tracks) (find_from (i + 1) ps path) (presentation_path-false p path other)
           (position_from-places (is_track_path p path) 0 p.tracks) (find_from-names (i + 1) ps path))
-    ]
+    ] where
+  here : is_presentation_path p path ≡ true → NamesPresentationFrom i (p ∷ ps) path i
+  here is = record { index = 0; presentation = p; counted = omega arith; stands = refl; path_is = presentation_path-true p path is }
 
 names-from_0 : (table : TableValue) (path : List ℕ) (found : Found) → NamesFrom 0 table.presentations path found → Names table path found
-names-from_0 table path (Presentation n) (k, p, at, there, is) = let same : k ≡ n = omega arith in (p, rw same at there, is)
-names-from_0 table path (Track n j) (k, p, t, at, there, track, is) = let same : k ≡ n = omega arith in (p, t, rw same at there, track, is)
+names-from_0 table path (Presentation n) h =
+    let same : h.index ≡ n = omega (arith, h.counted) in
+    record {
+      presentation = h.presentation;
+      stands = ap (slice_get table.presentations) (sym same) ∙ h.stands;
+      path_is = h.path_is;
+    }
+names-from_0 table path (Track n j) h =
+    let same : h.index ≡ n = omega (arith, h.counted) in
+    record {
+      presentation = h.presentation;
+      track = h.track;
+      stands = ap (slice_get table.presentations) (sym same) ∙ h.stands;
+      track_stands = h.track_stands;
+      path_is = h.path_is;
+    }
 names-from_0 table path Nothing all = all
 
 -- what is found is what the path names

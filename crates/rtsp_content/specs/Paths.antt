@@ -39,9 +39,23 @@ find_of table path = find_from 0 table.presentations path
 abbrev pub IsPathOf : PresentationValue → List ℕ → Type 0
 IsPathOf p path = (path ≡ presentation_path p) ⊎ (path ≡ presentation_path p ++ codes "/")
 
+-- the presentation with the index has the path
+pub record NamesPresentation (table : TableValue) (path : List ℕ) (i : ℕ) : Type 0 where
+  pub presentation : PresentationValue
+  pub stands : slice_get table.presentations i ≡ Some presentation
+  pub path_is : IsPathOf presentation path
+
+-- the track with the index j of the presentation with the index i has the path
+pub record NamesTrack (table : TableValue) (path : List ℕ) (i j : ℕ) : Type 0 where
+  pub presentation : PresentationValue
+  pub track : TrackValue
+  pub stands : slice_get table.presentations i ≡ Some presentation
+  pub track_stands : slice_get presentation.tracks j ≡ Some track
+  pub path_is : path ≡ track_path presentation track
+
 -- the path is that of what was found; nothing is found where it is no path of the table
 abbrev pub Names : TableValue → List ℕ → Found → Type 0
-Names table path (Presentation i) = (p : PresentationValue) × (slice_get table.presentations i ≡ Some p) × IsPathOf p path
-Names table path (Track i j) = (p : PresentationValue) × (t : TrackValue) × (slice_get table.presentations i ≡ Some p) × (slice_get p.tracks j ≡ Some t) × (path ≡ track_path p t)
+Names table path (Presentation i) = NamesPresentation table path i
+Names table path (Track i j) = NamesTrack table path i j
 Names table path Nothing = (i : ℕ) (p : PresentationValue) → slice_get table.presentations i ≡ Some p
     → (¬ IsPathOf p path) × ((j : ℕ) (t : TrackValue) → slice_get p.tracks j ≡ Some t → path ≢ track_path p t)

@@ -109,10 +109,17 @@ fated text (Err fault) (inl (inl h)) = record { k = h.1.has.blank; kind = lined 
 fated text (Err fault) (inl (inr h)) = record { k = h.1.has.blank; kind = lined h.1.open_end.lines stops; shape = open_shape text h.1.message h.1.has h.1.open_end; fate = (h.0, h.1.long) }
 fated text (Err fault) (inr h) = fated_rule text fault h
 
--- two frames at one place are one
-four : (a b c d e f : ℕ) (xs ys : List ℕ) → 36 ∷ a ∷ b ∷ c ∷ xs ≡ 36 ∷ d ∷ e ∷ f ∷ ys → (a ≡ d) × (b ≡ e) × (c ≡ f) × (xs ≡ ys)
-four a b c d e f xs ys h = (cc, cc, cc, cc)
+-- the parts of two frames are the same
+record IsSameFront (a b c : ℕ) (xs : List ℕ) (d e f : ℕ) (ys : List ℕ) : Type 0 where
+  channel : a ≡ d
+  high : b ≡ e
+  low : c ≡ f
+  bytes : xs ≡ ys
 
+same_front : (a b c d e f : ℕ) (xs ys : List ℕ) → 36 ∷ a ∷ b ∷ c ∷ xs ≡ 36 ∷ d ∷ e ∷ f ∷ ys → IsSameFront a b c xs d e f ys
+same_front a b c d e f xs ys h = record { channel = cc; high = cc; low = cc; bytes = cc }
+
+-- two frames at one place are one
 same_length_front : (xs ys a b : List ℕ) → length xs ≡ length ys → xs ++ a ≡ ys ++ b → xs ≡ ys
 same_length_front xs ys a b l e = sym (take_at xs a (length ys) l) ∙ ap (take (length ys)) e ∙ take_at ys b (length ys) refl
 
@@ -125,9 +132,9 @@ same_number m n p q h l = omega arith
 same_frame : (f g : Frame) (x y : List ℕ) → IsFrame f → IsFrame g → frame_text f ++ x ≡ frame_text g ++ y → f ≡ g
 unfolding frame_of
 same_frame f g x y p q e =
-    let h = four _ _ _ _ _ _ (f.payload ++ x) (g.payload ++ y) e in
-    let l : length f.payload ≡ length g.payload = same_number (length f.payload) (length g.payload) p.payload q.payload h.1 h.2 in
-    ap (λ (c : ℕ). frame_of c f.payload) h.0 ∙ ap (frame_of g.channel) (same_length_front f.payload g.payload x y l h.3)
+    let h = same_front _ _ _ _ _ _ (f.payload ++ x) (g.payload ++ y) e in
+    let l : length f.payload ≡ length g.payload = same_number (length f.payload) (length g.payload) p.payload q.payload h.high h.low in
+    ap (λ (c : ℕ). frame_of c f.payload) h.channel ∙ ap (frame_of g.channel) (same_length_front f.payload g.payload x y l h.bytes)
 
 abbrev done : (item : Item) (n : ℕ) → Result (Item × ℕ) MessageFault
 done item n = Ok (item, n)

@@ -19,7 +19,7 @@ use Rattle.rtsp_grammar.specs.declared.message.Item.{Item}
 use Rattle.rtsp_grammar.specs.declared.fault.MessageFault.{MessageFault}
 use Rattle.rtsp_grammar.specs.declared.fault.MessageFault.TheVariants.{BadLine, BadHeader, HeadTooLong, UriTooLong, BodyTooLong, BadLength, OutOfMemory}
 use Rattle.rtsp_grammar.proofs.HeadRules.{head_reads}
-use Rattle.rtsp_grammar.proofs.ItemLemmas.{head_found}
+use Rattle.rtsp_grammar.proofs.ItemLemmas.{begins_more, head_found}
 use Rattle.rtsp_grammar.proofs.LongerLemmas.{stays}
 use Rattle.rtsp_grammar.proofs.ScanLemmas.{place_more}
 use Rattle.rtsp_grammar.proofs.StreamLemmas.{keeps_items, goes_on}
@@ -42,10 +42,6 @@ short_of (a ∷ b ∷ []) (c ∷ d ∷ more) lt = absurd (omega (arith, lt))
 short_of (a ∷ b ∷ c ∷ []) [] lt = tt
 short_of (a ∷ b ∷ c ∷ []) (d ∷ more) lt = absurd (omega (arith, lt))
 short_of (a ∷ b ∷ c ∷ d ∷ frame) more lt = omega (arith, lt)
-
-begins_more : (xs ys : List ℕ) → BeginsFrame xs → BeginsFrame (xs ++ ys)
-begins_more [] ys h = absurd h
-begins_more (x ∷ xs) ys h = h
 
 pub frame_short : (text : List ℕ) (n : ℕ) → IsBlank text n → n < 8192 → BeginsFrame (drop n text) → IsShortOf text (n + frame_len (drop n text))
 frame_short text n b lt begins more short = inl (inl (record {

@@ -65,7 +65,7 @@ pub folds_reads : (lines : List (List ℕ)) → FoldRule lines (unfold_lines lin
 unfolding unfold_lines
 folds_reads lines = go (unfolded lines) (joined_is_read lines) where
   limit : (unfolded_lines : List (List ℕ)) (t : Bool) → nat_lt 64 (length unfolded_lines) ≡ t → AreJoined lines unfolded_lines → FoldRule lines (cond t (Err HeadTooLong) (Ok unfolded_lines))
-  limit unfolded_lines true e h = inl (refl, (unfolded_lines, h, ltb-true _ _ e))
+  limit unfolded_lines true e h = inl (refl, record { unfolded_lines = unfolded_lines; joined = h; many = ltb-true _ _ e })
   limit unfolded_lines false e h = (h, ltb-false _ _ e)
 
   go : (r : Result (List (List ℕ)) MessageFault) → Joined lines r → FoldRule lines (r >>= λ unfolded_lines. cond (nat_lt 64 (length unfolded_lines)) (Err HeadTooLong) (Ok unfolded_lines))
@@ -107,9 +107,9 @@ folds_only lines (Ok unfolded_lines) h =
     let short : nat_lt 64 (length unfolded_lines) ≡ false = le-ltb 64 (length unfolded_lines) h.1 in
     rw (e, short) refl
 folds_only lines (Err fault) (inl h) =
-    let unfolded_lines = h.1.0 in
-    let e : unfolded lines ≡ Ok unfolded_lines = ap unfolded_or_bad (joined_folded lines unfolded_lines h.1.1) in
-    let long : nat_lt 64 (length unfolded_lines) ≡ true = lt-ltb 64 (length unfolded_lines) h.1.2 in
+    let unfolded_lines = h.1.unfolded_lines in
+    let e : unfolded lines ≡ Ok unfolded_lines = ap unfolded_or_bad (joined_folded lines unfolded_lines h.1.joined) in
+    let long : nat_lt 64 (length unfolded_lines) ≡ true = lt-ltb 64 (length unfolded_lines) h.1.many in
     let f = sym h.0 in
     rw (e, long) (ap Err f)
 folds_only lines (Err fault) (inr h) =

@@ -24,18 +24,18 @@ use Rattle.rtsp_grammar.proofs.StartLemmas.{start_reads, start_only}
 value_reads : (value : List ℕ) → ValueRule value (length_of_value value)
 value_reads value = go (is_length value) (nat_lt 65536 (number_of value)) refl refl where
   go : (x y : Bool) → is_length value ≡ x → nat_lt 65536 (number_of value) ≡ y → ValueRule value (cond x (cond y (Err BodyTooLong) (Ok (number_of value))) (Err BadLength))
-  go true true e l = inl (refl, e, ltb-true _ _ l)
-  go true false e l = (e, refl, ltb-false _ _ l)
+  go true true e l = inl (refl, record { written = e; many = ltb-true _ _ l })
+  go true false e l = record { written = e; number = refl; few = ltb-false _ _ l }
   go false y e l = inr (refl, e)
 
 value_only : (value : List ℕ) (r : Result ℕ MessageFault) → ValueRule value r → length_of_value value ≡ r
 value_only value (Ok n) h =
-    let is = h.0 in
-    let short : nat_lt 65536 (number_of value) ≡ false = le-ltb 65536 (number_of value) h.2 in
-    rw (is, short) (ap Ok (sym h.1))
+    let is = h.written in
+    let short : nat_lt 65536 (number_of value) ≡ false = le-ltb 65536 (number_of value) h.few in
+    rw (is, short) (ap Ok (sym h.number))
 value_only value (Err fault) (inl h) =
-    let is = h.1 in
-    let long : nat_lt 65536 (number_of value) ≡ true = lt-ltb 65536 (number_of value) h.2 in
+    let is = h.1.written in
+    let long : nat_lt 65536 (number_of value) ≡ true = lt-ltb 65536 (number_of value) h.1.many in
     rw (is, long) (ap Err (sym h.0))
 value_only value (Err fault) (inr h) = let is = h.1 in rw is (ap Err (sym h.0))
 

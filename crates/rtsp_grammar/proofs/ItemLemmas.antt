@@ -45,7 +45,8 @@ has_message text message n b e not_frame = record {
   no_frame = not_frame;
 }
 
-begins_more : (xs ys : List ℕ) → BeginsFrame xs → BeginsFrame (xs ++ ys)
+-- what begins a frame does so whatever follows
+pub begins_more : (xs ys : List ℕ) → BeginsFrame xs → BeginsFrame (xs ++ ys)
 begins_more [] ys h = absurd h
 begins_more (x ∷ xs) ys h = h
 

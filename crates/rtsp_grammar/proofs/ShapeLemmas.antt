@@ -88,10 +88,6 @@ same_shape window k n (lined lines f) (lined others g) p q =
     let e : f ≡ g = same_final f g (sym (views f p.mid p.final) ∙ ap view t.1 ∙ views g q.mid q.final) in
     (s.0, ap (λ (ls : List (List ℕ)). lined ls f) t.0 ∙ ap (lined others) e)
 
-begins_more : (xs ys : List ℕ) → BeginsFrame xs → BeginsFrame (xs ++ ys)
-begins_more [] ys h = absurd h
-begins_more (x ∷ xs) ys h = h
-
 -- a front within a limit, and what is left of the limit
 pub take_front : (limit : ℕ) (xs ys : List ℕ) → length xs ≤ limit → take limit (xs ++ ys) ≡ xs ++ take (limit - length xs) ys
 take_front limit xs ys le =

@@ -12,7 +12,7 @@ use Rattle.rtsp_text.specs.SplitOnce.{split_once, IsSplitAt}
 use Rattle.rtsp_text.proofs.SplitLemmas.{split_found, split_is}
 use Rattle.rtsp_grammar.specs.Method.{method_name, method_of}
 use Rattle.rtsp_grammar.specs.Reading.{is_version, version_of, request_of, request_of_halves, request_line_of, status_of, status_of_halves, status_line_of, start_of}
-use Rattle.rtsp_grammar.specs.StartLine.{request_line, SpellsRequestLine, SpellsStatusLine, SpellsStart, uri_len, StartRule}
+use Rattle.rtsp_grammar.specs.StartLine.{request_line, SpellsRequestLine, SpellsStatusLine, SpellsStart, HasLongUri, uri_len, StartRule}
 use Rattle.rtsp_grammar.specs.Version.{IsVersion}
 use Rattle.rtsp_grammar.specs.Words.{is_method, is_uri}
 use Rattle.rtsp_grammar.specs.declared.method.Method.{Method}
@@ -105,7 +105,7 @@ start_read line (Status v n r) s = status_line_read line v n r s
 -- the line spells what was read of it, and a URI that is too long is one
 abbrev Read : List ℕ → Result StartLine MessageFault → Type 0
 Read line (Ok start) = SpellsStart line start × (uri_len start ≤ 1024)
-Read line (Err fault) = ((fault ≡ UriTooLong) × ((start : StartLine) × SpellsStart line start × (1024 < uri_len start))) ⊎ (fault ≡ BadLine)
+Read line (Err fault) = ((fault ≡ UriTooLong) × HasLongUri line) ⊎ (fault ≡ BadLine)
 
 request_spelled : (line name uri spelling : List ℕ) → line ≡ request_line name uri spelling → (is_method name && is_uri uri && is_version spelling) ≡ true → SpellsRequestLine line (method_of name) uri (version_of spelling)
 request_spelled line name uri spelling parts e =
@@ -122,7 +122,14 @@ request_spelled line name uri spelling parts e =
 request_tested : (line name uri spelling : List ℕ) → line ≡ request_line name uri spelling → Read line (request_of name (Some (uri, spelling)))
 request_tested line name uri spelling parts = go (is_method name && is_uri uri && is_version spelling) (nat_lt 1024 (length uri)) refl refl where
   go : (x y : Bool) → (is_method name && is_uri uri && is_version spelling) ≡ x → nat_lt 1024 (length uri) ≡ y → Read line (cond x (cond y (Err UriTooLong) (Ok (Request (method_of name) uri (version_of spelling)))) (Err BadLine))
-  go true true e l = inl (refl, (Request (method_of name) uri (version_of spelling), request_spelled line name uri spelling parts e, ltb-true _ _ l))
+  go true true e l = inl (
+    refl,
+    record {
+      start = Request (method_of name) uri (version_of spelling);
+      spelled = request_spelled line name uri spelling parts e;
+      long = ltb-true _ _ l;
+    },
+  )
   go true false e l = (request_spelled line name uri spelling parts e, ltb-false _ _ l)
   go false y e l = inr refl
 
@@ -212,11 +219,11 @@ start_reads line = go (start_of line) refl (start_is_read line) where
 pub start_only : (line : List ℕ) (r : Result StartLine MessageFault) → StartRule line r → start_of line ≡ r
 start_only line (Ok start) h = let short : nat_lt 1024 (uri_len start) ≡ false = le-ltb 1024 (uri_len start) h.1 in start_read line start h.0 ∙ rw short refl
 start_only line (Err fault) (inl h) =
-    let start = h.1.0 in
-    let long : nat_lt 1024 (uri_len start) ≡ true = lt-ltb 1024 (uri_len start) h.1.2 in
-    start_read line start h.1.1 ∙ rw long (ap Err (sym h.0))
+    let start = h.1.start in
+    let long : nat_lt 1024 (uri_len start) ≡ true = lt-ltb 1024 (uri_len start) h.1.long in
+    start_read line start h.1.spelled ∙ rw long (ap Err (sym h.0))
 start_only line (Err fault) (inr h) = go (start_of line) refl (start_is_read line) where
   go : (r : Result StartLine MessageFault) → start_of line ≡ r → Read line r → r ≡ Err fault
   go (Ok start) e s = absurd (h.1 start s.0)
-  go (Err other) e (inl s) = absurd (h.1 s.1.0 s.1.1)
+  go (Err other) e (inl s) = absurd (h.1 s.1.start s.1.spelled)
   go (Err other) e (inr s) = ap Err (s ∙ sym h.0)

@@ -34,7 +34,13 @@ abbrev pub BeginsInFold : List (List ℕ) → Type 0
 BeginsInFold [] = ⊥
 BeginsInFold (line ∷ lines) = begins_blank line ≡ true
 
+-- the lines are joined to more than 64
+pub record HasManyLines (lines : List (List ℕ)) : Type 0 where
+  pub unfolded_lines : List (List ℕ)
+  pub joined : AreJoined lines unfolded_lines
+  pub many : 64 < length unfolded_lines
+
 -- header lines are joined to at most 64 lines, or to more and HeadTooLong, or the first continues none and BadHeader
 abbrev pub FoldRule : List (List ℕ) → Result (List (List ℕ)) MessageFault → Type 0
 FoldRule lines (Ok unfolded_lines) = AreJoined lines unfolded_lines × (length unfolded_lines ≤ 64)
-FoldRule lines (Err fault) = ((fault ≡ HeadTooLong) × ((unfolded_lines : List (List ℕ)) × AreJoined lines unfolded_lines × (64 < length unfolded_lines))) ⊎ ((fault ≡ BadHeader) × BeginsInFold lines)
+FoldRule lines (Err fault) = ((fault ≡ HeadTooLong) × HasManyLines lines) ⊎ ((fault ≡ BadHeader) × BeginsInFold lines)

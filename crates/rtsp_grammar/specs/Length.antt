@@ -10,10 +10,21 @@ use Rattle.rtsp_grammar.specs.declared.fault.MessageFault.TheVariants.{BodyTooLo
 abbrev pub is_length : List ℕ → Bool
 is_length value = is_number value && nat_le (length value) 10
 
+-- the value is this length, which is within the limit
+pub record IsBodyLength (value : List ℕ) (n : ℕ) : Type 0 where
+  pub written : is_length value ≡ true
+  pub number : n ≡ number_of value
+  pub few : number_of value ≤ 65536
+
+-- the value is a length above the limit
+pub record IsOverLength (value : List ℕ) : Type 0 where
+  pub written : is_length value ≡ true
+  pub many : 65536 < number_of value
+
 -- at most 65,536; a greater number is BodyTooLong, another text BadLength
 abbrev pub ValueRule : List ℕ → Result ℕ MessageFault → Type 0
-ValueRule value (Ok n) = (is_length value ≡ true) × (n ≡ number_of value) × (number_of value ≤ 65536)
-ValueRule value (Err fault) = ((fault ≡ BodyTooLong) × (is_length value ≡ true) × (65536 < number_of value)) ⊎ ((fault ≡ BadLength) × (is_length value ≡ false))
+ValueRule value (Ok n) = IsBodyLength value n
+ValueRule value (Err fault) = ((fault ≡ BodyTooLong) × IsOverLength value) ⊎ ((fault ≡ BadLength) × (is_length value ≡ false))
 
 -- no value is no body, and a second one is BadLength
 abbrev pub ValuesRule : List (List ℕ) → Result ℕ MessageFault → Type 0

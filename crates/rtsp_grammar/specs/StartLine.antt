@@ -65,7 +65,13 @@ abbrev pub uri_len : StartLine → ℕ
 uri_len (Request method uri version) = length uri
 uri_len (Status version status reason) = 0
 
+-- the line is a first line whose URI has more than 1,024 bytes
+pub record HasLongUri (line : List ℕ) : Type 0 where
+  pub start : StartLine
+  pub spelled : SpellsStart line start
+  pub long : 1024 < uri_len start
+
 -- a line is a first line whose URI has at most 1,024 bytes, or UriTooLong, or no first line at all and BadLine
 abbrev pub StartRule : List ℕ → Result StartLine MessageFault → Type 0
 StartRule line (Ok start) = SpellsStart line start × (uri_len start ≤ 1024)
-StartRule line (Err fault) = ((fault ≡ UriTooLong) × ((start : StartLine) × SpellsStart line start × (1024 < uri_len start))) ⊎ ((fault ≡ BadLine) × ((start : StartLine) → ¬ SpellsStart line start))
+StartRule line (Err fault) = ((fault ≡ UriTooLong) × HasLongUri line) ⊎ ((fault ≡ BadLine) × ((start : StartLine) → ¬ SpellsStart line start))

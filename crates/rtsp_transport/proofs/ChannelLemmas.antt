@@ -12,10 +12,17 @@ use Rattle.rtsp_text.proofs.SplitLemmas.{split_found, split_parts}
 use Rattle.rtsp_text.proofs.FindsLemmas.{chain_found, sound_at}
 use Rattle.rtsp_text.proofs.DecimalLemmas.{numbers, digit_bytes}
 
-pair_in_found : (low high k : ℕ) → pair_in low high ≡ Some k → (low ≡ k) × (low % 2 ≡ 0) × (low ≤ 254) × (high ≡ low + 1)
+-- two numbers are the pair that begins at a channel
+record AreChannels (low high k : ℕ) : Type 0 where
+  same : low ≡ k
+  even : low % 2 ≡ 0
+  few : low ≤ 254
+  next : high ≡ low + 1
+
+pair_in_found : (low high k : ℕ) → pair_in low high ≡ Some k → AreChannels low high k
 pair_in_found low high k e = go (nat_le low 254) (eqb high (low + 1)) (eqb (low % 2) 0) refl refl refl e where
-  go : (y z x : Bool) → nat_le low 254 ≡ y → eqb high (low + 1) ≡ z → eqb (low % 2) 0 ≡ x → cond (y && z) (cond (x && y) (Some low) None) None ≡ Some k → (low ≡ k) × (low % 2 ≡ 0) × (low ≤ 254) × (high ≡ low + 1)
-  go true true true q r p h = (cc, eqb-true (low % 2) 0 p, leb-true low 254 q, eqb-true high (low + 1) r)
+  go : (y z x : Bool) → nat_le low 254 ≡ y → eqb high (low + 1) ≡ z → eqb (low % 2) 0 ≡ x → cond (y && z) (cond (x && y) (Some low) None) None ≡ Some k → AreChannels low high k
+  go true true true q r p h = record { same = cc; even = eqb-true (low % 2) 0 p; few = leb-true low 254 q; next = eqb-true high (low + 1) r }
   go true true false q r p h = absurd cc
   go true false x q r p h = absurd cc
   go false z x q r p h = absurd cc
@@ -34,11 +41,11 @@ pair_sound text k e =
       second = s.0.1;
       parts = (split_parts 45 text s.0 s.1).0;
       low = low;
-      high = subst (λ (n : ℕ). SpellsNumber 3 s.0.1 n) w.3 high;
-      even = w.1;
-      few = w.2;
+      high = subst (λ (n : ℕ). SpellsNumber 3 s.0.1 n) w.next high;
+      even = w.even;
+      few = w.few;
     } in
-    subst (λ (n : ℕ). SpellsPair text n) w.0 made
+    subst (λ (n : ℕ). SpellsPair text n) w.same made
 
 pub pair_complete : (text : List ℕ) (k : ℕ) → SpellsPair text k → pair_of text ≡ Some k
 unfolding pair_of

@@ -12,11 +12,23 @@ port_text port = codes "\":" ++ decimal port ++ codes "\""
 abbrev pub ports_text : ℕ → ℕ → List ℕ
 ports_text rtp rtcp = codes "\":" ++ decimal rtp ++ codes "\"/\":" ++ decimal rtcp ++ codes "\""
 
--- the protocol, the client's ports and the server's, or one port of each, or the two channels, and the SSRC
-abbrev pub transport_text : Granted → List ℕ
-transport_text (Udp client_rtp client_rtcp server_rtp ssrc) =
+-- the protocol, the client's ports and the server's, and the SSRC
+abbrev pub udp_text : ℕ → ℕ → ℕ → ℕ → List ℕ
+udp_text client_rtp client_rtcp server_rtp ssrc =
     codes "RTP/AVP;unicast;dest_addr=" ++ ports_text client_rtp client_rtcp ++ codes ";src_addr=" ++ ports_text server_rtp (server_rtp + 1) ++ codes ";ssrc=" ++ hex_text 8 ssrc
-transport_text (Mux client server ssrc) =
+
+-- the protocol, one port of each, and the SSRC
+abbrev pub mux_text : ℕ → ℕ → ℕ → List ℕ
+mux_text client server ssrc =
     codes "RTP/AVP;unicast;dest_addr=" ++ port_text client ++ codes ";src_addr=" ++ port_text server ++ codes ";RTCP-mux;ssrc=" ++ hex_text 8 ssrc
-transport_text (Inter channel ssrc) =
+
+-- the protocol, the two channels, and the SSRC
+abbrev pub inter_text : ℕ → ℕ → List ℕ
+inter_text channel ssrc =
     codes "RTP/AVP/TCP;unicast;interleaved=" ++ decimal channel ++ codes "-" ++ decimal (channel + 1) ++ codes ";ssrc=" ++ hex_text 8 ssrc
+
+-- the header of each way
+abbrev pub transport_text : Granted → List ℕ
+transport_text (Udp client_rtp client_rtcp server_rtp ssrc) = udp_text client_rtp client_rtcp server_rtp ssrc
+transport_text (Mux client server ssrc) = mux_text client server ssrc
+transport_text (Inter channel ssrc) = inter_text channel ssrc

@@ -6,6 +6,7 @@ mod address;
 mod channels;
 mod fault;
 mod laws;
+mod names;
 mod numbers;
 mod picks;
 mod session;

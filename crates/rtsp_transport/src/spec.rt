@@ -3,10 +3,14 @@
 ghost use Rattle.std.specs.Prelude.{◌≡◌};
 ghost use Rattle.rtsp_text.specs.Results.{Gives, GivesBy};
 ghost use Rattle.rtsp_text.specs.Slices.{texts};
-ghost use Rattle.rtsp_transport.specs.Names.{is_named};
+ghost use Rattle.rtsp_transport.specs.Hosts.{is_bracketed, allows};
 ghost use Rattle.rtsp_transport.specs.declared.fault.TextFault.TheVariants.{OutOfMemory};
 
+use crate::address::{Address, is_peer};
+use crate::channels::ChannelPair;
 use crate::fault::TextFault;
+use crate::names::{is_named, is_tcp, is_udp};
+use crate::picks::Pick;
 use crate::split::split;
 use rtsp_text::{List, Text, split_once, trimmed};
 use std::alloc::Global;
@@ -25,11 +29,18 @@ pub struct Spec {
     pub parameters: List<Parameter>,
 }
 
-// The names are one but for the case of their ASCII letters.
-pub(crate) fn is_named(name: &[u8], other: &[u8]) -> bool
-    ensures { result ≡ is_named name.now other.now }
+// The host has a bracket, as an IPv6 address has.
+fn is_bracketed(host: &[u8]) -> bool
+    ensures { result ≡ is_bracketed host.now }
 {
-    name.eq_ignore_ascii_case(other)
+    host.contains(&b'[')
+}
+
+// The host is empty or the peer's.
+fn allows(peer: u32, host: &[u8]) -> bool
+    ensures { result ≡ allows peer host.now }
+{
+    host.is_empty() || is_peer(host, peer)
 }
 
 impl Parameter {
@@ -160,6 +171,7 @@ impl Parameter {
 }
 
 impl Spec {
+    ghost use Rattle.rtsp_transport.specs.Fitting.{udp_fit, mux_fit, inter_fit, fit_of};
     ghost use Rattle.rtsp_transport.specs.TransportReading.{protocol_of, spec_of, specs_of};
 
     #[tactic(auto, unfolding(crate::specs::TransportReading::protocol_of))]
@@ -198,5 +210,83 @@ impl Spec {
             specs.push(Spec::read(alloc, part)?)?;
         }
         Ok(specs)
+    }
+
+    #[tactic(auto, unfolding(crate::specs::Fitting::udp_fit))]
+    fn udp_fit(&self, peer: u32) -> Pick
+        ensures { result ≡ udp_fit peer self.now.parameters }
+    {
+        let Some(text) = Parameter::first_value(self.parameters.as_slice(), b"dest_addr") else {
+            return Pick::Unsupported;
+        };
+        let Some((rtp, rtcp)) = Address::read_pair(text) else {
+            return Pick::Unsupported;
+        };
+        if is_bracketed(rtp.host) || is_bracketed(rtcp.host) {
+            return Pick::Unsupported;
+        }
+        if !(allows(peer, rtp.host) && allows(peer, rtcp.host)) {
+            return Pick::Prohibited;
+        }
+        Pick::Udp {
+            rtp_port: rtp.port,
+            rtcp_port: rtcp.port,
+        }
+    }
+
+    #[tactic(auto, unfolding(crate::specs::Fitting::mux_fit))]
+    fn mux_fit(&self, peer: u32) -> Pick
+        ensures { result ≡ mux_fit peer self.now.parameters }
+    {
+        let Some(text) = Parameter::first_value(self.parameters.as_slice(), b"dest_addr") else {
+            return Pick::Unsupported;
+        };
+        let Some(place) = Address::read_one(text) else {
+            return Pick::Unsupported;
+        };
+        if is_bracketed(place.host) {
+            return Pick::Unsupported;
+        }
+        if !allows(peer, place.host) {
+            return Pick::Prohibited;
+        }
+        Pick::Mux { port: place.port }
+    }
+
+    #[tactic(auto, unfolding(crate::specs::Fitting::inter_fit))]
+    fn inter_fit(&self) -> Pick
+        ensures { result ≡ inter_fit self.now.parameters }
+    {
+        if Parameter::any_named(self.parameters.as_slice(), b"dest_addr") {
+            return Pick::Unsupported;
+        }
+        match Parameter::first_value(self.parameters.as_slice(), b"interleaved") {
+            Some(text) => Pick::Inter {
+                wish: ChannelPair::read(text),
+            },
+            None => Pick::Unsupported,
+        }
+    }
+
+    /// What this specification alone comes to.
+    #[tactic(auto, unfolding(crate::specs::Fitting::fit_of))]
+    pub fn fit(&self, peer: u32) -> Pick
+        ensures { result ≡ fit_of peer self.now }
+    {
+        if Parameter::any_asks_more(self.parameters.as_slice()) {
+            return Pick::Unsupported;
+        }
+        let has_mux = Parameter::has_mux(self.parameters.as_slice());
+        if is_udp(self.protocol.as_bytes()) {
+            return if has_mux {
+                self.mux_fit(peer)
+            } else {
+                self.udp_fit(peer)
+            };
+        }
+        if is_tcp(self.protocol.as_bytes()) && !has_mux {
+            return self.inter_fit();
+        }
+        Pick::Unsupported
     }
 }

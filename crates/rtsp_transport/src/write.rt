@@ -3,7 +3,8 @@
 ghost use Rattle.std.specs.Prelude.{◌≡◌, ◌≤◌, ◌+◌, ◌++◌, vec_capacity, IsOk, OnOk, OnErr};
 ghost use Rattle.rtsp_text.specs.Appending.{Appends, HasRoom};
 ghost use Rattle.rtsp_text.specs.Hexadecimal.{hex_text};
-ghost use Rattle.rtsp_transport.specs.Granted.{port_text, ports_text, transport_text};
+ghost use Rattle.rtsp_transport.specs.Granted.{port_text, ports_text};
+ghost use Rattle.rtsp_transport.specs.Granted.{udp_text, mux_text, inter_text, transport_text};
 
 use rtsp_text::{all_or_nothing, write_decimal, write_hex_u32};
 use std::alloc::AllocError;
@@ -83,6 +84,53 @@ fn put_port(out: &mut Vec<u8>, port: u16) -> Result<(), AllocError>
     out.extend_from_slice(b"\"")
 }
 
+fn put_udp(
+    out: &mut Vec<u8>,
+    client_rtp: u16,
+    client_rtcp: u16,
+    server_rtp: u16,
+    ssrc: u32,
+) -> Result<(), AllocError>
+    ensures text { Appends result out.old.items out.new.items
+        (udp_text client_rtp client_rtcp server_rtp ssrc) }
+    ensures capacity { vec_capacity out.old ≤ vec_capacity out.new }
+    ensures succeeds { HasRoom out.old (udp_text client_rtp client_rtcp server_rtp ssrc)
+        → IsOk result }
+{
+    out.extend_from_slice(b"RTP/AVP;unicast;dest_addr=")?;
+    put_client(out, client_rtp, client_rtcp)?;
+    out.extend_from_slice(b";src_addr=")?;
+    put_server(out, server_rtp)?;
+    out.extend_from_slice(b";ssrc=")?;
+    write_ssrc(out, ssrc)
+}
+
+fn put_mux(out: &mut Vec<u8>, client: u16, server: u16, ssrc: u32) -> Result<(), AllocError>
+    ensures text { Appends result out.old.items out.new.items (mux_text client server ssrc) }
+    ensures capacity { vec_capacity out.old ≤ vec_capacity out.new }
+    ensures succeeds { HasRoom out.old (mux_text client server ssrc) → IsOk result }
+{
+    out.extend_from_slice(b"RTP/AVP;unicast;dest_addr=")?;
+    put_port(out, client)?;
+    out.extend_from_slice(b";src_addr=")?;
+    put_port(out, server)?;
+    out.extend_from_slice(b";RTCP-mux;ssrc=")?;
+    write_ssrc(out, ssrc)
+}
+
+fn put_inter(out: &mut Vec<u8>, channel: u8, ssrc: u32) -> Result<(), AllocError>
+    ensures text { Appends result out.old.items out.new.items (inter_text channel ssrc) }
+    ensures capacity { vec_capacity out.old ≤ vec_capacity out.new }
+    ensures succeeds { HasRoom out.old (inter_text channel ssrc) → IsOk result }
+{
+    out.extend_from_slice(b"RTP/AVP/TCP;unicast;interleaved=")?;
+    write_decimal(out, u64::from(channel))?;
+    out.extend_from_slice(b"-")?;
+    write_decimal(out, u64::from(channel) + 1)?;
+    out.extend_from_slice(b";ssrc=")?;
+    write_ssrc(out, ssrc)
+}
+
 fn put_transport(out: &mut Vec<u8>, granted: &Granted) -> Result<(), AllocError>
     ensures text { Appends result out.old.items out.new.items (transport_text granted.now) }
     ensures capacity { vec_capacity out.old ≤ vec_capacity out.new }
@@ -94,34 +142,13 @@ fn put_transport(out: &mut Vec<u8>, granted: &Granted) -> Result<(), AllocError>
             client_rtcp,
             server_rtp,
             ssrc,
-        } => {
-            out.extend_from_slice(b"RTP/AVP;unicast;dest_addr=")?;
-            put_client(out, client_rtp, client_rtcp)?;
-            out.extend_from_slice(b";src_addr=")?;
-            put_server(out, server_rtp)?;
-            out.extend_from_slice(b";ssrc=")?;
-            write_ssrc(out, ssrc)
-        }
+        } => put_udp(out, client_rtp, client_rtcp, server_rtp, ssrc),
         Granted::Mux {
             client,
             server,
             ssrc,
-        } => {
-            out.extend_from_slice(b"RTP/AVP;unicast;dest_addr=")?;
-            put_port(out, client)?;
-            out.extend_from_slice(b";src_addr=")?;
-            put_port(out, server)?;
-            out.extend_from_slice(b";RTCP-mux;ssrc=")?;
-            write_ssrc(out, ssrc)
-        }
-        Granted::Inter { channel, ssrc } => {
-            out.extend_from_slice(b"RTP/AVP/TCP;unicast;interleaved=")?;
-            write_decimal(out, u64::from(channel))?;
-            out.extend_from_slice(b"-")?;
-            write_decimal(out, u64::from(channel) + 1)?;
-            out.extend_from_slice(b";ssrc=")?;
-            write_ssrc(out, ssrc)
-        }
+        } => put_mux(out, client, server, ssrc),
+        Granted::Inter { channel, ssrc } => put_inter(out, channel, ssrc),
     }
 }
 
