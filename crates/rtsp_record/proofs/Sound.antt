@@ -2,7 +2,8 @@
 use Rattle.std.proofs.Common.{◌≡◌, ◌==◌, ℕ, ◌+◌, ◌<◌, ◌≤◌, Bool, true, false, ◌&&◌, ◌||◌, not, cond, List, [], ◌∷◌, refl, sym, ◌∙◌, ap, subst, arith}
 use Rattle.std.specs.Prelude.{Option, Some, None, IsSome, is_some}
 use Rattle.std.proofs.lemmas.Bool.{and_parts}
-use Rattle.std.proofs.lemmas.Bool.Decides.{nat_tests}
+use Rattle.std.proofs.lemmas.Bool.Decides.{Decides-eqb, nat_tests}
+use Rattle.std.proofs.lemmas.Option.{none-some}
 use Rattle.std.specs.FinMap.{get, empty}
 use Rattle.rtsp_record.specs.declared.holdings.Thing.{Thing}
 use Rattle.rtsp_record.specs.declared.holdings.Thing.TheVariants.{Rate}
@@ -38,14 +39,11 @@ same_nat n = grind (arith, nat_tests)
 pub under_opened : (id c e a : ℕ) → under (opened id c e) a ≡ bare
 under_opened id c e a = ap or_bare (get-none a)
 
-none_some : {X : Type 0} (x : X) → ◌≡◌ {A = Option X} None (Some x) → ⊥
-none_some x e = cc
-
 bare_stream : (d : Admission) (v : Stream) → d ≡ bare → d.stream ≡ Some v → ⊥
-bare_stream d v e h = none_some v (sym (ap (λ (d : Admission). d.stream) e) ∙ h)
+bare_stream d v e h = none-some v (sym (ap (λ (d : Admission). d.stream) e) ∙ h)
 
 bare_address : (d : Admission) (x : Thing) → d ≡ bare → d.address ≡ Some x → ⊥
-bare_address d x e h = none_some x (sym (ap (λ (d : Admission). d.address) e) ∙ h)
+bare_address d x e h = none-some x (sym (ap (λ (d : Admission). d.address) e) ∙ h)
 
 pub alike_holding : (x : Thing) (d : Admission) → alike x (holding x d) ≡ Some x
 alike_holding (Rate n) d = refl
@@ -73,7 +71,7 @@ hold_proper w x d h p y e = let same : x ≡ y = cc in subst (λ y. InWhole w y 
 
 free_proper : (w : Whole) (x : Thing) (d : Admission) → Proper w d → Proper w (freed x d)
 free_proper w (Rate n) d p y e = p y e
-free_proper w x d p y e = absurd (none_some y e)
+free_proper w x d p y e = absurd (none-some y e)
 
 either : (a b : Bool) → a ≡ true → (a || b) ≡ true
 either true b h = refl
@@ -140,8 +138,8 @@ without_stream_sound : (w : Whole) (f : Session) (a : ℕ) (d : Admission) → S
 without_stream_sound w f a d ok left =
     record {
       normal = normal-under f a d ok.normal;
-      based = λ b v. at_under f a d b (λ e. e.stream ≡ Some v → IsSome e.rate × IsSome e.address) (λ _ is. absurd (none_some v (sym left.no_stream ∙ is))) (ok.based b v);
-      apart = λ b v. at_under f a d b (λ e. e.stream ≡ Some v → of_session (clashing v) (with_under f a d) ≤ 1) (λ _ is. absurd (none_some v (sym left.no_stream ∙ is))) (λ is. omega (arith, left.clashes v, ok.apart b v is));
+      based = λ b v. at_under f a d b (λ e. e.stream ≡ Some v → IsSome e.rate × IsSome e.address) (λ _ is. absurd (none-some v (sym left.no_stream ∙ is))) (ok.based b v);
+      apart = λ b v. at_under f a d b (λ e. e.stream ≡ Some v → of_session (clashing v) (with_under f a d) ≤ 1) (λ _ is. absurd (none-some v (sym left.no_stream ∙ is))) (λ is. omega (arith, left.clashes v, ok.apart b v is));
       playing = left.playing;
       few = left.few;
       in_whole = λ b. at_under f a d b (Proper w) (λ _. left.proper) (ok.in_whole b);
@@ -230,11 +228,8 @@ pub room_if : (t : Bool) (n : ℕ) → (t ≡ true → n ≡ 0) → n ≤ 1 → 
 room_if true n none le = omega (arith, none refl)
 room_if false n none le = omega (arith, le)
 
-same_of : (n m : ℕ) → (n == m) ≡ true → n ≡ m
-same_of n m h = grind (arith, nat_tests)
-
 pub room_ids : (w : Whole) (b : Book) (r : Record) (i : ℕ) → Others w r b → amount (with_id i) b ≤ 1 → amount (with_id i) b + gain (with_id i) r ≤ 1
-room_ids w b (Open k) i g le = omega (arith, room_if (k.id == i) (amount (with_id i) b) (λ same. subst (λ k. amount (with_id k) b ≡ 0) (same_of k.id i same) g.id_free) le)
+room_ids w b (Open k) i g le = omega (arith, room_if (k.id == i) (amount (with_id i) b) (λ same. subst (λ k. amount (with_id k) b ≡ 0) ((Decides-eqb k.id i).0 same) g.id_free) le)
 room_ids w b r i g le = omega (arith, le)
 
 pub room_few : (w : Whole) (b : Book) (r : Record) → Others w r b → amount sessions b ≤ w.sessions → amount sessions b + gain sessions r ≤ w.sessions
@@ -242,7 +237,7 @@ room_few w b (Open k) g le = omega (arith, g.few)
 room_few w b r g le = omega (arith, le)
 
 pub room_bound : (w : Whole) (b : Book) (r : Record) (c i : ℕ) → Others w r b → amount (bindings c i) b ≤ 1 → amount (bindings c i) b + gain (bindings c i) r ≤ 1
-room_bound w b (Bind k) c i g le = room_if (k.conn == c && k.number == i) (amount (bindings c i) b) (λ same. let parts = and_parts (k.conn == c) (k.number == i) same in let there : amount (bindings k.conn k.number) b ≡ 0 = g in (λ t. amount (bindings (sym (same_of k.conn c parts.0) t) (sym (same_of k.number i parts.1) t)) b) ∙ there) le
+room_bound w b (Bind k) c i g le = room_if (k.conn == c && k.number == i) (amount (bindings c i) b) (λ same. let parts = and_parts (k.conn == c) (k.number == i) same in let there : amount (bindings k.conn k.number) b ≡ 0 = g in (λ t. amount (bindings (sym ((Decides-eqb k.conn c).0 parts.0) t) (sym ((Decides-eqb k.number i).0 parts.1) t)) b) ∙ there) le
 room_bound w b r c i g le = omega (arith, le)
 
 pub room_once : (w : Whole) (b : Book) (r : Record) (q : Spot) → Others w r b → amount (covering q) b ≤ 1 → amount (covering q) b + gain (covering q) r ≤ 1
