@@ -3,6 +3,7 @@ pub mod Rows
 pub mod Balance
 pub mod Options
 pub mod Sound
+pub mod Owing
 pub mod Back
 pub mod Trims
 pub mod Strands
