@@ -4,7 +4,6 @@ use Rattle.std.specs.Prelude.{Option, Some, None, sum_by}
 use Rattle.std.specs.FinMap.{entries, entries_sorted, get-entries}
 use Rattle.std.proofs.lemmas.List.Sums.{sum_by-cons}
 use Rattle.rtsp_record.specs.declared.holdings.Whole.{Whole}
-use Rattle.rtsp_record.specs.declared.holdings.Admission.{Admission}
 use Rattle.rtsp_record.specs.declared.payloads.Binding.{Binding}
 use Rattle.rtsp_record.specs.declared.changes.Record.{Record}
 use Rattle.rtsp_record.specs.declared.changes.Record.TheVariants.{Open, Close, Hold, Free, Add, Drop, Move, Touch, Bind, Unbind}
@@ -15,11 +14,11 @@ use Rattle.rtsp_record.specs.Sound.{Sound}
 use Rattle.rtsp_record.proofs.Tables.{same_table}
 use Rattle.rtsp_record.proofs.Sound.{at_most_one}
 use Rattle.rtsp_record.proofs.Balance.{gain, balance}
+use Rattle.rtsp_record.proofs.Options.{no_admissions}
 use Rattle.rtsp_sessions.specs.Plain.{table_of, is_open}
 use Rattle.rtsp_sessions.proofs.SortedRows.{told, get_from}
 use Rattle.rtsp_sessions.proofs.FitLemmas.{owed_few}
 use Rattle.rtsp_index.specs.Following.{Follows}
-use Rattle.rtsp_index.specs.Counting.{brought}
 use Rattle.rtsp_index.specs.Bound.{bindings_of}
 
 opens_gain : (r : Record) → gain sessions r ≡ one_if (is_open r)
@@ -34,23 +33,8 @@ opens_gain (Touch k) = refl
 opens_gain (Bind k) = refl
 opens_gain (Unbind k) = refl
 
-brings_gain : (r : Record) → gain returns r ≡ brought r
-brings_gain (Open k) = refl
-brings_gain (Close k) = refl
-brings_gain (Hold k) = refl
-brings_gain (Free k) = refl
-brings_gain (Add k) = refl
-brings_gain (Drop k) = refl
-brings_gain (Move k) = refl
-brings_gain (Touch k) = refl
-brings_gain (Bind k) = refl
-brings_gain (Unbind k) = refl
-
 pub living_after : (w : Whole) (b : Book) (r : Record) → Follows w b r → living (after b r) + one_if (is_open (inverse_of r)) ≡ living b + one_if (is_open r)
 living_after w b r f = omega (arith, balance sessions b r f.allowed.0, opens_gain r, opens_gain (inverse_of r))
-
-pub owed_after : (w : Whole) (b : Book) (r : Record) → Follows w b r → owed (after b r) + brought (inverse_of r) ≡ owed b + brought r
-owed_after w b r f = omega (arith, balance returns b r f.allowed.0, brings_gain r, brings_gain (inverse_of r))
 
 -- the rows of a book make the book
 table_back : (b : Book) → table_of (entries b) ≡ b
@@ -74,15 +58,7 @@ one_bound c (Some k) = at_most_one (k.0 == c)
 no_more_bound : (c : ℕ) (es : List (ℕ × Session)) → sum_by (λ e. of_session (bindings_of c) e.1) es ≤ sum_by (λ e. of_session returns e.1) es
 no_more_bound c [] = omega arith
 no_more_bound c (e ∷ es) =
-    omega (arith, no_more_bound c es, sum_by-cons (λ (e : ℕ × Session). of_session (bindings_of c) e.1) e es, sum_by-cons (λ (e : ℕ × Session). of_session returns e.1) e es, one_bound c e.1.binding, no_part (entries e.1.admissions))
-  where
-    nought : {X : Type 0} (o : Option X) → if_there (λ _. 0) o ≡ 0
-    nought None = refl
-    nought (Some x) = refl
-
-    no_part : (es : List (ℕ × Admission)) → sum_by (λ e. if_there (λ _. 0) e.1.rate + if_there (λ _. 0) e.1.address + if_there (λ _. 0) e.1.stream) es ≡ 0
-    no_part [] = refl
-    no_part (e ∷ es) = omega (arith, no_part es, sum_by-cons (λ (e : ℕ × Admission). if_there (λ _. 0) e.1.rate + if_there (λ _. 0) e.1.address + if_there (λ _. 0) e.1.stream) e es, nought e.1.rate, nought e.1.address, nought e.1.stream)
+    omega (arith, no_more_bound c es, sum_by-cons (λ (e : ℕ × Session). of_session (bindings_of c) e.1) e es, sum_by-cons (λ (e : ℕ × Session). of_session returns e.1) e es, one_bound c e.1.binding, no_admissions (entries e.1.admissions))
 
 pub bound_small : (w : Whole) (b : Book) (r : Record) (c : ℕ) → Follows w b r → w.sessions < 2 ^ 16 → amount (bindings_of c) b < 2 ^ 32 - 1
 bound_small w b r c f small =

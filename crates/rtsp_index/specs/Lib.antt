@@ -5,7 +5,6 @@ pub mod Dating
 pub mod Contents
 pub mod Following
 pub mod Pooling
-pub mod Counting
 pub mod Bound
 pub mod Counted
 pub mod Naming

@@ -9,10 +9,9 @@ ghost use Rattle.rtsp_record.specs.Sums.{one_if, amount, living, owed};
 ghost use Rattle.rtsp_record.specs.declared.holdings.Whole.{Whole};
 ghost use Rattle.rtsp_sessions.specs.Plain.{is_open};
 ghost use Rattle.rtsp_index.specs.Following.{Follows, is_bind};
-ghost use Rattle.rtsp_index.specs.Counting.{brought};
 
 use crate::bindings::Bindings;
-use rtsp_record::{Phase, Record, Transition};
+use rtsp_record::Record;
 use std::alloc::{AllocError, Global};
 
 /// What is counted of a book.
@@ -21,25 +20,6 @@ pub(crate) struct Counts {
     living: usize,
     owed: usize,
     bindings: Bindings,
-}
-
-// How many records a record adds to those that would end all sessions.
-fn brought(change: &Record) -> usize
-    ensures value { result ≡ brought change.now }
-    ensures small { result ≤ 1 }
-{
-    match *change {
-        Record::Open(_) | Record::Hold(_) | Record::Add(_) | Record::Bind(_) => 1,
-        Record::Move(Transition { to, .. }) => match to {
-            Phase::Ready { at: 0, sent: 0 } => 0,
-            _ => 1,
-        },
-        Record::Close(_)
-        | Record::Free(_)
-        | Record::Drop(_)
-        | Record::Touch(_)
-        | Record::Unbind(_) => 0,
-    }
 }
 
 // One where the record opens a session.
@@ -107,7 +87,7 @@ impl Counts {
     {
         let back = change.inverse();
         self.living = self.living + opens(change) - opens(&back);
-        self.owed = self.owed + brought(change) - brought(&back);
+        self.owed = self.owed + change.newly_owed() - back.newly_owed();
         self.bindings.follow(change);
     }
 }

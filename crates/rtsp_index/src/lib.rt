@@ -3,7 +3,7 @@
 //!
 //! The definitions of `specs/` read in this order: Placing, Lessers, Dating and Contents (the table
 //! of sessions with their expiries), Searching (what sessions are searched by), Following (a record
-//! after a book), Pooling (what is free), Counting, Bound and Counted (what is counted), Naming and
+//! after a book), Pooling (what is free), Bound and Counted (what is counted), Naming and
 //! Named (what sessions are found by), Agreeing (parts that speak of one book).
 
 #![tactic(auto)]

@@ -3,19 +3,13 @@ use Rattle.std.proofs.Common.{◌≡◌, ◌==◌, ℕ, ◌+◌, ◌-◌, ◌*�
 use Rattle.std.specs.Prelude.{Option, Some, None, nat_le}
 use Rattle.std.proofs.Math.Nat.{mul-zero, mul-suc, one-mul}
 use Rattle.std.proofs.lemmas.Bool.{and_parts}
-use Rattle.std.proofs.lemmas.Bool.Decides.{nat_tests}
+use Rattle.std.proofs.lemmas.Bool.Decides.{Decides-eqb}
 use Rattle.rtsp_record.specs.declared.holdings.Thing.TheVariants.{Pair, Port, Chan}
 use Rattle.rtsp_record.specs.declared.holdings.Whole.{Whole}
 use Rattle.rtsp_record.specs.Books.{Book}
 use Rattle.rtsp_record.specs.Sums.{Spot, UdpPort, Channel, amount, covers, covering}
 use Rattle.rtsp_record.specs.Rules.{InWhole, IsFree}
 use Rattle.rtsp_record.specs.Choices.{least_of, from_on, least_pair_by, least_port_by, least_chan_by, IsWish, is_free, is_port_free, is_pair_free, least_pair, least_port, is_chan_free, least_chan, chosen_chan}
-
-is_zero : (n : ℕ) → (n == 0) ≡ true → n ≡ 0
-is_zero n h = grind (arith, nat_tests)
-
-is_same : (n m : ℕ) → (n == m) ≡ true → n ≡ m
-is_same n m h = grind (arith, nat_tests)
 
 -- one of two tests
 by_either : (a b : Bool) (P : Type 0) → (a ≡ true → P) → (b ≡ true → P) → (a || b) ≡ true → P
@@ -28,18 +22,18 @@ pair_is_free w b p h is =
   where
     spots : (q : Spot) → amount (covering (UdpPort p)) b ≡ 0 → amount (covering (UdpPort (p + 1))) b ≡ 0 → covers q (Pair p) ≡ true → amount (covering q) b ≡ 0
     spots (UdpPort q) one two is =
-        by_either (q == p) (q == p + 1) (amount (covering (UdpPort q)) b ≡ 0) (λ e. ap (λ q. amount (covering (UdpPort q)) b) (is_same q p e) ∙ one) (λ e. ap (λ q. amount (covering (UdpPort q)) b) (is_same q (p + 1) e) ∙ two) is
+        by_either (q == p) (q == p + 1) (amount (covering (UdpPort q)) b ≡ 0) (λ e. ap (λ q. amount (covering (UdpPort q)) b) ((Decides-eqb q p).0 e) ∙ one) (λ e. ap (λ q. amount (covering (UdpPort q)) b) ((Decides-eqb q (p + 1)).0 e) ∙ two) is
     spots (Channel d l) one two is = absurd cc
 
     free : (q : Spot) → covers q (Pair p) ≡ true → amount (covering q) b ≡ 0
-    free q c = let parts = and_parts (is_port_free b p) (is_port_free b (p + 1)) is in spots q (is_zero _ parts.0) (is_zero _ parts.1) c
+    free q c = let parts = and_parts (is_port_free b p) (is_port_free b (p + 1)) is in spots q ((Decides-eqb _ 0).0 parts.0) ((Decides-eqb _ 0).0 parts.1) c
 
 pub port_is_free : (w : Whole) (b : Book) (p : ℕ) → InWhole w (Port p) → is_port_free b p ≡ true → IsFree w b (Port p)
 port_is_free w b p h is =
     record { in_whole = h; free = free; rate = tt }
   where
     free : (q : Spot) → covers q (Port p) ≡ true → amount (covering q) b ≡ 0
-    free (UdpPort q) c = ap (λ q. amount (covering (UdpPort q)) b) (is_same q p c) ∙ is_zero _ is
+    free (UdpPort q) c = ap (λ q. amount (covering (UdpPort q)) b) ((Decides-eqb q p).0 c) ∙ (Decides-eqb _ 0).0 is
     free (Channel d l) c = absurd cc
 
 pub chan_is_free : (w : Whole) (b : Book) (c k : ℕ) → InWhole w (Chan c k) → is_chan_free b c k ≡ true → IsFree w b (Chan c k)
@@ -50,14 +44,14 @@ chan_is_free w b c k h is =
     spots (UdpPort q) one two is = absurd cc
     spots (Channel d l) one two is =
         let parts = and_parts (d == c) (l == k || l == k + 1) is in
-        let conn : d ≡ c = is_same d c parts.0 in
+        let conn : d ≡ c = (Decides-eqb d c).0 parts.0 in
         by_either (l == k) (l == k + 1) (amount (covering (Channel d l)) b ≡ 0)
-        (λ e. (λ i. amount (covering (Channel (conn i) (is_same l k e i))) b) ∙ one)
-        (λ e. (λ i. amount (covering (Channel (conn i) (is_same l (k + 1) e i))) b) ∙ two)
+        (λ e. (λ i. amount (covering (Channel (conn i) ((Decides-eqb l k).0 e i))) b) ∙ one)
+        (λ e. (λ i. amount (covering (Channel (conn i) ((Decides-eqb l (k + 1)).0 e i))) b) ∙ two)
         parts.1
 
     free : (q : Spot) → covers q (Chan c k) ≡ true → amount (covering q) b ≡ 0
-    free q h = let parts = and_parts (is_free b (Channel c k)) (is_free b (Channel c (k + 1))) is in spots q (is_zero _ parts.0) (is_zero _ parts.1) h
+    free q h = let parts = and_parts (is_free b (Channel c k)) (is_free b (Channel c (k + 1))) is in spots q ((Decides-eqb _ 0).0 parts.0) ((Decides-eqb _ 0).0 parts.1) h
 
 -- The search, one number further on. The place of a number among those that are tried is counted in steps.
 

@@ -1,7 +1,9 @@
 pub mod Tables
 pub mod Rows
 pub mod Balance
+pub mod Options
 pub mod Sound
+pub mod Owing
 pub mod Back
 pub mod Trims
 pub mod Strands

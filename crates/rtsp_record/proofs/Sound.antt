@@ -2,7 +2,8 @@
 use Rattle.std.proofs.Common.{◌≡◌, ◌==◌, ℕ, ◌+◌, ◌<◌, ◌≤◌, Bool, true, false, ◌&&◌, ◌||◌, not, cond, List, [], ◌∷◌, refl, sym, ◌∙◌, ap, subst, arith}
 use Rattle.std.specs.Prelude.{Option, Some, None, IsSome, is_some}
 use Rattle.std.proofs.lemmas.Bool.{and_parts}
-use Rattle.std.proofs.lemmas.Bool.Decides.{nat_tests}
+use Rattle.std.proofs.lemmas.Bool.Decides.{Decides-eqb, nat_tests}
+use Rattle.std.proofs.lemmas.Option.{none-some}
 use Rattle.std.specs.FinMap.{get, empty}
 use Rattle.rtsp_record.specs.declared.holdings.Thing.{Thing}
 use Rattle.rtsp_record.specs.declared.holdings.Thing.TheVariants.{Rate}
@@ -13,8 +14,6 @@ use Rattle.rtsp_record.specs.declared.holdings.Whole.{Whole}
 use Rattle.rtsp_record.specs.declared.changes.Entry.{Entry}
 use Rattle.rtsp_record.specs.declared.changes.Record.{Record}
 use Rattle.rtsp_record.specs.declared.changes.Record.TheVariants.{Open, Close, Hold, Free, Add, Drop, Move, Touch, Bind, Unbind}
-use Rattle.rtsp_record.specs.declared.payloads.Holding.{Holding}
-use Rattle.rtsp_record.specs.declared.payloads.Setup.{Setup}
 use Rattle.rtsp_record.specs.Records.{session_of}
 use Rattle.rtsp_record.specs.declared.holdings.Admission.{Admission}
 use Rattle.rtsp_record.specs.Books.{Session, Book, bare, or_bare, kept, opened, holding, freed, streaming, under, with_under, effect, after, after_all, records_of, book_of}
@@ -38,14 +37,11 @@ same_nat n = grind (arith, nat_tests)
 pub under_opened : (id c e a : ℕ) → under (opened id c e) a ≡ bare
 under_opened id c e a = ap or_bare (get-none a)
 
-none_some : {X : Type 0} (x : X) → ◌≡◌ {A = Option X} None (Some x) → ⊥
-none_some x e = cc
-
 bare_stream : (d : Admission) (v : Stream) → d ≡ bare → d.stream ≡ Some v → ⊥
-bare_stream d v e h = none_some v (sym (ap (λ (d : Admission). d.stream) e) ∙ h)
+bare_stream d v e h = none-some v (sym (ap (λ (d : Admission). d.stream) e) ∙ h)
 
 bare_address : (d : Admission) (x : Thing) → d ≡ bare → d.address ≡ Some x → ⊥
-bare_address d x e h = none_some x (sym (ap (λ (d : Admission). d.address) e) ∙ h)
+bare_address d x e h = none-some x (sym (ap (λ (d : Admission). d.address) e) ∙ h)
 
 pub alike_holding : (x : Thing) (d : Admission) → alike x (holding x d) ≡ Some x
 alike_holding (Rate n) d = refl
@@ -73,7 +69,7 @@ hold_proper w x d h p y e = let same : x ≡ y = cc in subst (λ y. InWhole w y 
 
 free_proper : (w : Whole) (x : Thing) (d : Admission) → Proper w d → Proper w (freed x d)
 free_proper w (Rate n) d p y e = p y e
-free_proper w x d p y e = absurd (none_some y e)
+free_proper w x d p y e = absurd (none-some y e)
 
 either : (a b : Bool) → a ≡ true → (a || b) ≡ true
 either true b h = refl
@@ -140,15 +136,24 @@ without_stream_sound : (w : Whole) (f : Session) (a : ℕ) (d : Admission) → S
 without_stream_sound w f a d ok left =
     record {
       normal = normal-under f a d ok.normal;
-      based = λ b v. at_under f a d b (λ e. e.stream ≡ Some v → IsSome e.rate × IsSome e.address) (λ _ is. absurd (none_some v (sym left.no_stream ∙ is))) (ok.based b v);
-      apart = λ b v. at_under f a d b (λ e. e.stream ≡ Some v → of_session (clashing v) (with_under f a d) ≤ 1) (λ _ is. absurd (none_some v (sym left.no_stream ∙ is))) (λ is. omega (arith, left.clashes v, ok.apart b v is));
+      based = λ b v. at_under f a d b (λ e. e.stream ≡ Some v → IsSome e.rate × IsSome e.address) (λ _ is. absurd (none-some v (sym left.no_stream ∙ is))) (ok.based b v);
+      apart = λ b v. at_under f a d b (λ e. e.stream ≡ Some v → of_session (clashing v) (with_under f a d) ≤ 1) (λ _ is. absurd (none-some v (sym left.no_stream ∙ is))) (λ is. omega (arith, left.clashes v, ok.apart b v is));
       playing = left.playing;
       few = left.few;
       in_whole = λ b. at_under f a d b (Proper w) (λ _. left.proper) (ok.in_whole b);
     }
 
-hold_sound : (w : Whole) (b : Book) (k : Holding) (f : Session) → Own (Hold k) (Some f) → Others w (Hold k) b → SoundSession w f → SoundSession w (with_under f k.admission (holding k.thing (under f k.admission)))
-hold_sound w b k f h g ok =
+-- phase, expiry and binding touch no admission
+same_admissions_sound : (w : Whole) (f : Session) (p : Phase) (e : ℕ) (k : Option (ℕ × ℕ)) → let g : Session = record f { phase = p; expires = e; binding = k } in
+    SoundSession w f → ((v : Stream) → of_session (clashing v) g ≤ of_session (clashing v) f) → (IsPlaying p → 0 < of_session streams g) → SoundSession w g
+same_admissions_sound w f p e k ok less plays =
+    record { normal = ok.normal; based = ok.based; apart = λ a v is. omega (arith, less v, ok.apart a v is); playing = plays; few = ok.few; in_whole = ok.in_whole }
+
+pub row_sound : (w : Whole) (b : Book) (r : Record) (o : Option Session) → Own r o → Others w r b → SoundRow w o → SoundRow w (effect r o)
+row_sound w b (Open k) o h g ok = opened_sound w k.id k.conn k.expires
+row_sound w b (Close k) o h g ok = tt
+row_sound w b (Hold k) None h g ok = absurd h
+row_sound w b (Hold k) (Some f) h g ok =
     let d = holding k.thing (under f k.admission) in
     without_stream_sound w f k.admission d ok (record {
       no_stream = holding_stream k.thing (under f k.admission) ∙ h.no_stream;
@@ -157,9 +162,8 @@ hold_sound w b k f h g ok =
       few = omega (arith, holding-under f k.admission d, holding-others f k.admission, h.few, at_most_one (is_holding d));
       proper = hold_proper w k.thing (under f k.admission) g.in_whole (ok.in_whole k.admission);
     })
-
-free_sound : (w : Whole) (k : Holding) (f : Session) → Own (Free k) (Some f) → SoundSession w f → SoundSession w (with_under f k.admission (freed k.thing (under f k.admission)))
-free_sound w k f h ok =
+row_sound w b (Free k) None h g ok = absurd h
+row_sound w b (Free k) (Some f) h g ok =
     let d = freed k.thing (under f k.admission) in
     without_stream_sound w f k.admission d ok (record {
       no_stream = freed_stream k.thing (under f k.admission) ∙ h.no_stream;
@@ -168,20 +172,8 @@ free_sound w k f h ok =
       few = omega (arith, holding-under f k.admission d, ok.few, one_is _ (holds_some k.thing (under f k.admission) h.held), at_most_one (is_holding d));
       proper = free_proper w k.thing (under f k.admission) (ok.in_whole k.admission);
     })
-
-drop_sound : (w : Whole) (k : Setup) (f : Session) → Own (Drop k) (Some f) → SoundSession w f → SoundSession w (with_under f k.admission (streaming None (under f k.admission)))
-drop_sound w k f h ok =
-    let d = streaming None (under f k.admission) in
-    without_stream_sound w f k.admission d ok (record {
-      no_stream = refl;
-      clashes = λ v. omega (arith, row_balance (clashing v) (Drop k) (Some f) h);
-      playing = λ p. absurd (not_both f.phase h.ready p);
-      few = omega (arith, holding-under f k.admission d, ok.few);
-      proper = ok.in_whole k.admission;
-    })
-
-add_sound : (w : Whole) (k : Setup) (f : Session) → Own (Add k) (Some f) → SoundSession w f → SoundSession w (with_under f k.admission (streaming (Some k.stream) (under f k.admission)))
-add_sound w k f h ok =
+row_sound w b (Add k) None h g ok = absurd h
+row_sound w b (Add k) (Some f) h g ok =
     let d = streaming (Some k.stream) (under f k.admission) in
     let g = with_under f k.admission d in
     let own : of_session (clashing k.stream) g ≤ 1 = omega (arith, row_balance (clashing k.stream) (Add k) (Some f) h, h.no_clash, at_most_one (clash k.stream k.stream)) in
@@ -195,24 +187,16 @@ add_sound w k f h ok =
       few = omega (arith, holding-under f k.admission d, ok.few);
       in_whole = λ b. at_under f k.admission d b (Proper w) (λ _. ok.in_whole k.admission) (ok.in_whole b);
     }
-
--- phase, expiry and binding touch no admission
-same_admissions_sound : (w : Whole) (f : Session) (p : Phase) (e : ℕ) (k : Option (ℕ × ℕ)) → let g : Session = record f { phase = p; expires = e; binding = k } in
-    SoundSession w f → ((v : Stream) → of_session (clashing v) g ≤ of_session (clashing v) f) → (IsPlaying p → 0 < of_session streams g) → SoundSession w g
-same_admissions_sound w f p e k ok less plays =
-    record { normal = ok.normal; based = ok.based; apart = λ a v is. omega (arith, less v, ok.apart a v is); playing = plays; few = ok.few; in_whole = ok.in_whole }
-
-pub row_sound : (w : Whole) (b : Book) (r : Record) (o : Option Session) → Own r o → Others w r b → SoundRow w o → SoundRow w (effect r o)
-row_sound w b (Open k) o h g ok = opened_sound w k.id k.conn k.expires
-row_sound w b (Close k) o h g ok = tt
-row_sound w b (Hold k) None h g ok = absurd h
-row_sound w b (Hold k) (Some f) h g ok = hold_sound w b k f h g ok
-row_sound w b (Free k) None h g ok = absurd h
-row_sound w b (Free k) (Some f) h g ok = free_sound w k f h ok
-row_sound w b (Add k) None h g ok = absurd h
-row_sound w b (Add k) (Some f) h g ok = add_sound w k f h ok
 row_sound w b (Drop k) None h g ok = absurd h
-row_sound w b (Drop k) (Some f) h g ok = drop_sound w k f h ok
+row_sound w b (Drop k) (Some f) h g ok =
+    let d = streaming None (under f k.admission) in
+    without_stream_sound w f k.admission d ok (record {
+      no_stream = refl;
+      clashes = λ v. omega (arith, row_balance (clashing v) (Drop k) (Some f) h);
+      playing = λ p. absurd (not_both f.phase h.ready p);
+      few = omega (arith, holding-under f k.admission d, ok.few);
+      proper = ok.in_whole k.admission;
+    })
 row_sound w b (Move k) None h g ok = absurd h
 row_sound w b (Move k) (Some f) h g ok =
     same_admissions_sound w f k.to f.expires f.binding ok (λ v. omega (arith, row_balance (clashing v) (Move k) (Some f) h)) (λ is. omega (arith, row_balance streams (Move k) (Some f) h, h.stream is))
@@ -230,11 +214,8 @@ pub room_if : (t : Bool) (n : ℕ) → (t ≡ true → n ≡ 0) → n ≤ 1 → 
 room_if true n none le = omega (arith, none refl)
 room_if false n none le = omega (arith, le)
 
-same_of : (n m : ℕ) → (n == m) ≡ true → n ≡ m
-same_of n m h = grind (arith, nat_tests)
-
 pub room_ids : (w : Whole) (b : Book) (r : Record) (i : ℕ) → Others w r b → amount (with_id i) b ≤ 1 → amount (with_id i) b + gain (with_id i) r ≤ 1
-room_ids w b (Open k) i g le = omega (arith, room_if (k.id == i) (amount (with_id i) b) (λ same. subst (λ k. amount (with_id k) b ≡ 0) (same_of k.id i same) g.id_free) le)
+room_ids w b (Open k) i g le = omega (arith, room_if (k.id == i) (amount (with_id i) b) (λ same. subst (λ k. amount (with_id k) b ≡ 0) ((Decides-eqb k.id i).0 same) g.id_free) le)
 room_ids w b r i g le = omega (arith, le)
 
 pub room_few : (w : Whole) (b : Book) (r : Record) → Others w r b → amount sessions b ≤ w.sessions → amount sessions b + gain sessions r ≤ w.sessions
@@ -242,7 +223,7 @@ room_few w b (Open k) g le = omega (arith, g.few)
 room_few w b r g le = omega (arith, le)
 
 pub room_bound : (w : Whole) (b : Book) (r : Record) (c i : ℕ) → Others w r b → amount (bindings c i) b ≤ 1 → amount (bindings c i) b + gain (bindings c i) r ≤ 1
-room_bound w b (Bind k) c i g le = room_if (k.conn == c && k.number == i) (amount (bindings c i) b) (λ same. let parts = and_parts (k.conn == c) (k.number == i) same in let there : amount (bindings k.conn k.number) b ≡ 0 = g in (λ t. amount (bindings (sym (same_of k.conn c parts.0) t) (sym (same_of k.number i parts.1) t)) b) ∙ there) le
+room_bound w b (Bind k) c i g le = room_if (k.conn == c && k.number == i) (amount (bindings c i) b) (λ same. let parts = and_parts (k.conn == c) (k.number == i) same in let there : amount (bindings k.conn k.number) b ≡ 0 = g in (λ t. amount (bindings (sym ((Decides-eqb k.conn c).0 parts.0) t) (sym ((Decides-eqb k.number i).0 parts.1) t)) b) ∙ there) le
 room_bound w b r c i g le = omega (arith, le)
 
 pub room_once : (w : Whole) (b : Book) (r : Record) (q : Spot) → Others w r b → amount (covering q) b ≤ 1 → amount (covering q) b + gain (covering q) r ≤ 1

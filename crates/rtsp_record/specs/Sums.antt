@@ -5,6 +5,8 @@ use Rattle.rtsp_record.specs.declared.holdings.Thing.TheVariants.{Pair, Port, Ch
 use Rattle.rtsp_record.specs.declared.phases.Phase.{Phase}
 use Rattle.rtsp_record.specs.declared.phases.Phase.TheVariants.{Ready, Playing, Ended}
 use Rattle.rtsp_record.specs.declared.streams.Stream.{Stream}
+use Rattle.rtsp_record.specs.declared.changes.Record.{Record}
+use Rattle.rtsp_record.specs.declared.changes.Record.TheVariants.{Open, Hold, Add, Move, Bind}
 use Rattle.rtsp_record.specs.Tables.{Table, set, total}
 use Rattle.rtsp_record.specs.declared.holdings.Admission.{Admission}
 use Rattle.rtsp_record.specs.Books.{Session, Book}
@@ -114,6 +116,15 @@ is_opening (Ended at sent) = false
 -- returns that are owed: the records that would end all sessions
 abbrev pub returns : Measure
 returns = record { life = λ _. 1; phase = λ p. one_if (not (is_opening p)); binding = λ _. 1; thing = λ _. 1; stream = λ _. 1 }
+
+-- the return that a record brings: an Open, a Hold, an Add, a Bind, or a Move that doesn't lead to the opening phase
+abbrev pub newly_owed : Record → ℕ
+newly_owed (Open k) = 1
+newly_owed (Hold k) = 1
+newly_owed (Add k) = 1
+newly_owed (Move k) = one_if (not (is_opening k.to))
+newly_owed (Bind k) = 1
+newly_owed r = 0
 
 -- how many sessions live
 abbrev pub living : Book → ℕ

@@ -1,8 +1,8 @@
 use Rattle.std.proofs.Common.{ap, arith}
-use Rattle.rtsp_record.specs.Sums.{one_if}
+use Rattle.rtsp_record.specs.Sums.{one_if, newly_owed}
+use Rattle.rtsp_record.proofs.Owing.{one_owed}
 use Rattle.rtsp_sessions.specs.Plain.{is_open}
-use Rattle.rtsp_index.specs.Counting.{brought}
-use Rattle.rtsp_index.proofs.CountLemmas.{living_after, owed_after, living_small, owed_small}
+use Rattle.rtsp_index.proofs.CountLemmas.{living_after, living_small, owed_small}
 use Rattle.rtsp_index.proofs.counts.Counts.follow.Goals as goal
 
 pub overflow_add-self : goal.overflow_add-self
@@ -18,12 +18,12 @@ overflow_sub-self c =
 pub overflow_add-self-2 : goal.overflow_add-self-2
 overflow_add-self-2 c =
     let q = c.requires.follows in
-    omega (arith, c.brought.ensures.small, q.4.owed, owed_small q.0 q.2 c.args.change.now q.3 q.1)
+    omega (arith, c.newly_owed.ensures.one, q.4.owed, owed_small q.0 q.2 c.args.change.now q.3 q.1)
 
 pub overflow_sub-self-2 : goal.overflow_sub-self-2
 overflow_sub-self-2 c =
     let q = c.requires.follows in
-    omega (arith, c.brought.ensures.value, c.brought-2.ensures.value, ap brought c.inverse-back.ensures, q.4.owed, owed_after q.0 q.2 c.args.change.now q.3)
+    omega (arith, c.newly_owed.ensures.value, c.newly_owed-2.ensures.value, ap newly_owed c.inverse-back.ensures, q.4.owed, one_owed q.0 q.2 c.args.change.now q.3.allowed)
 
 pub follow-requires-clause-follows : goal.follow-requires-clause-follows
 follow-requires-clause-follows c =
@@ -34,6 +34,6 @@ pub returns-clause-follows : goal.returns-clause-follows
 returns-clause-follows c w b f ok =
     record {
       living = omega (arith, c.opens.ensures.value, c.opens-2.ensures.value, ap (λ r. one_if (is_open r)) c.inverse-back.ensures, ok.living, living_after w b c.args.change.now f);
-      owed = omega (arith, c.brought.ensures.value, c.brought-2.ensures.value, ap brought c.inverse-back.ensures, ok.owed, owed_after w b c.args.change.now f);
+      owed = omega (arith, c.newly_owed.ensures.value, c.newly_owed-2.ensures.value, ap newly_owed c.inverse-back.ensures, ok.owed, one_owed w b c.args.change.now f.allowed);
       bindings = c.follow.ensures.follows w b f ok.bindings;
     }
