@@ -7,11 +7,11 @@ ghost use Rattle.rtsp_record.specs.Sums.{of_session, of_admission, others_holdin
 ghost use Rattle.rtsp_sessions.specs.Lookups.{as_binding};
 ghost use Rattle.rtsp_sessions.specs.Plain.{RoomUnder, RoomFor};
 ghost use Rattle.rtsp_sessions.specs.Searches.{is_of_track, is_chan_of, is_channelled, first_with};
-ghost use Rattle.rtsp_sessions.specs.Tallies.{measure_of};
+ghost use Rattle.rtsp_sessions.specs.Measures.{measure_of};
 
 use crate::admissions::Admissions;
+use crate::measures::{Measure, of_admission, of_binding, of_life, of_phase};
 use crate::startups::Startup;
-use crate::tallies::{Tally, of_admission, of_binding, of_life, of_phase};
 use rtsp_record::{
     Admission, Binding, Holding, Life, Phase, Record, Renewal, Setup, Stream, Thing, Transition,
 };
@@ -152,21 +152,21 @@ impl SessionView {
     }
 
     /// How much there is of this in the session.
-    pub fn count(&self, tally: &Tally) -> u128
-        ensures { result ≡ of_session (measure_of tally.now) self.now.1 }
+    pub fn count(&self, measure: &Measure) -> u128
+        ensures { result ≡ of_session (measure_of measure.now) self.now.1 }
     {
-        self.weight(tally)
+        self.weight(measure)
     }
 
     // What the session counts, with a bound.
-    pub(crate) fn weight(&self, tally: &Tally) -> u128
-        ensures value { result ≡ of_session (measure_of tally.now) self.now.1 }
+    pub(crate) fn weight(&self, measure: &Measure) -> u128
+        ensures value { result ≡ of_session (measure_of measure.now) self.now.1 }
         ensures small { result ≤ 2 ^ 70 }
     {
-        let life = of_life(tally, self.id)
-            + of_phase(tally, &self.phase)
-            + of_binding(tally, self.binding);
-        life + of_rows(tally, self.admissions.rows())
+        let life = of_life(measure, self.id)
+            + of_phase(measure, &self.phase)
+            + of_binding(measure, self.binding);
+        life + of_rows(measure, self.admissions.rows())
     }
 
     /// A copy of the session.
@@ -332,14 +332,14 @@ fn any_channels_of(rows: &[(u64, Admission)], conn: u64) -> bool
 }
 
 // What all the admissions count.
-fn of_rows(tally: &Tally, rows: &[(u64, Admission)]) -> u128
+fn of_rows(measure: &Measure, rows: &[(u64, Admission)]) -> u128
     requires { length rows.now ≤ 16 }
-    ensures value { result ≡ sum_by (λ e. of_admission (measure_of tally.now) e.1) rows.now }
+    ensures value { result ≡ sum_by (λ e. of_admission (measure_of measure.now) e.1) rows.now }
     ensures small { result ≤ 2 ^ 69 }
 {
     let mut total = 0;
     for row in rows {
-        total += of_admission(tally, &row.1);
+        total += of_admission(measure, &row.1);
     }
     total
 }
