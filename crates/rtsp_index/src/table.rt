@@ -14,7 +14,7 @@ ghost use Rattle.rtsp_index.specs.Dating.{AreDated};
 ghost use Rattle.rtsp_index.specs.Searching.{passes, Passes, AtMost};
 
 use crate::moments::Moments;
-use crate::search::{Search, is_on};
+use crate::search::Search;
 use indexmap::IndexMap;
 use rtsp_record::Record;
 use rtsp_sessions::SessionView;
@@ -155,7 +155,7 @@ impl SessionTable {
             Search::From(least) => least <= session,
             Search::Expired(moment) => self.expiries.at(place) <= moment,
             Search::OnConn(conn) => match self.rows.get(place) {
-                Some(view) => is_on(view, conn),
+                Some(view) => view.is_on(conn),
                 None => unreachable!(),
             },
         }

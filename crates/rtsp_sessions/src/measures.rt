@@ -4,6 +4,7 @@ ghost use Rattle.std.specs.Prelude.{◌≡◌, ◌+◌, ◌^◌, ◌≤◌, ◌<
 ghost use Rattle.rtsp_record.specs.Sums.{if_there, of_admission, covers, UdpPort, Channel};
 ghost use Rattle.rtsp_sessions.specs.Measures.{measure_of};
 
+use crate::views::SessionView;
 use rtsp_record::{Admission, Phase, Stream, Thing};
 
 /// What is counted, over a session or over a whole book.
@@ -55,15 +56,13 @@ pub(crate) fn of_phase(measure: &Measure, phase: &Phase) -> u128
     }
 }
 
-pub(crate) fn of_binding(measure: &Measure, binding: Option<(u64, u32)>) -> u128
-    ensures value { result ≡ if_there (measure_of measure.now).binding binding }
+pub(crate) fn of_binding(measure: &Measure, view: &SessionView) -> u128
+    ensures value { result ≡ if_there (measure_of measure.now).binding view.now.1.binding }
     ensures small { result ≤ 1 }
 {
-    match (*measure, binding) {
-        (Measure::Binding(conn, number), Some(held)) => u128::from(
-            held.0 == conn && held.1 == number,
-        ),
-        (Measure::Returns, Some(_)) => 1,
+    match *measure {
+        Measure::Binding(conn, number) => u128::from(view.is_bound(conn, number)),
+        Measure::Returns => u128::from(view.binding().is_some()),
         _ => 0,
     }
 }

@@ -4,9 +4,9 @@ ghost use Rattle.std.specs.Prelude.{◌≡◌, ◌<◌, ◌≤◌, ◌^◌, Some
 ghost use Rattle.std.specs.FinMap.{entries};
 ghost use Rattle.rtsp_record.specs.Books.{opened, under, kept, holding, freed, streaming, with_under, effect};
 ghost use Rattle.rtsp_record.specs.Sums.{of_session, of_admission, others_holding, is_holding};
-ghost use Rattle.rtsp_sessions.specs.Lookups.{as_binding};
+ghost use Rattle.rtsp_sessions.specs.Lookups.{as_binding, is_startup};
 ghost use Rattle.rtsp_sessions.specs.Plain.{RoomUnder, RoomFor};
-ghost use Rattle.rtsp_sessions.specs.Searches.{is_of_track, is_chan_of, is_channelled, first_with};
+ghost use Rattle.rtsp_sessions.specs.Searches.{is_of_track, is_chan_of, is_channelled, is_bound_on, is_on, first_with};
 ghost use Rattle.rtsp_sessions.specs.Measures.{measure_of};
 
 use crate::admissions::Admissions;
@@ -104,6 +104,26 @@ impl SessionView {
         }
     }
 
+    /// Whether it has this startup number of the connection.
+    pub fn is_bound(&self, conn: u64, number: u32) -> bool
+        ensures { result ≡ is_startup conn number self.now.1.binding }
+    {
+        match self.binding {
+            Some(held) => held.0 == conn && held.1 == number,
+            None => false,
+        }
+    }
+
+    /// Whether it has a startup number of the connection.
+    pub fn is_bound_on(&self, conn: u64) -> bool
+        ensures { result ≡ is_bound_on conn self.now.1 }
+    {
+        match self.binding {
+            Some(held) => held.0 == conn,
+            None => false,
+        }
+    }
+
     /// What it holds, by admission.
     pub fn admissions(&self) -> &Admissions
         ensures { result.now ≡ self.now.1.admissions }
@@ -151,6 +171,13 @@ impl SessionView {
         any_channels_of(self.admissions.rows(), conn)
     }
 
+    /// Whether it holds channels of the connection or is bound to it.
+    pub fn is_on(&self, conn: u64) -> bool
+        ensures { result ≡ is_on conn self.now }
+    {
+        self.has_channels_of(conn) || self.is_bound_on(conn)
+    }
+
     /// How much there is of this in the session.
     pub fn count(&self, measure: &Measure) -> u128
         ensures { result ≡ of_session (measure_of measure.now) self.now.1 }
@@ -165,7 +192,7 @@ impl SessionView {
     {
         let life = of_life(measure, self.id)
             + of_phase(measure, &self.phase)
-            + of_binding(measure, self.binding);
+            + of_binding(measure, self);
         life + of_rows(measure, self.admissions.rows())
     }
 

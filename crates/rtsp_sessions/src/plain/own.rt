@@ -36,7 +36,7 @@ fn allowed_for_living(view: &SessionView, change: &Record) -> bool
         Record::Move(transition) => may_move(view, &transition.from, &transition.to),
         Record::Touch(renewal) => view.expires() == renewal.from,
         Record::Bind(_) => view.binding().is_none(),
-        Record::Unbind(binding) => is_bound(view, binding.conn, binding.number),
+        Record::Unbind(binding) => view.is_bound(binding.conn, binding.number),
     }
 }
 
@@ -124,13 +124,4 @@ fn may_move(view: &SessionView, from: &Phase, to: &Phase) -> bool
     ensures { IsTrue result ↔ MayMove view.now.1 from.now to.now }
 {
     view.phase() == *from && (!is_playing(to) || view.count(&Measure::Streams) > 0)
-}
-
-fn is_bound(view: &SessionView, conn: u64, number: u32) -> bool
-    ensures { IsTrue result ↔ (view.now.1.binding ≡ Some (conn, number)) }
-{
-    match view.binding() {
-        Some(startup) => startup.conn == conn && startup.number == number,
-        None => false,
-    }
 }
