@@ -27,5 +27,5 @@ pub use laws::{law_giving_back, law_granted};
 pub use receipts::{FreedPorts, Receipt};
 pub use refusals::Refusal;
 pub use rtsp_record::Life;
-pub use rtsp_sessions::{Admissions, BookRep, PlainBook, SessionView, Startup, Tally};
+pub use rtsp_sessions::{Admissions, BookRep, Measure, PlainBook, SessionView, Startup};
 pub use steps::{Chain, ChannelHold, Commit, Play, Step};

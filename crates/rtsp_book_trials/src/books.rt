@@ -5,8 +5,8 @@ ghost use Rattle.rtsp_book.specs.Replies.{IsAskable};
 
 use crate::world::{NARROW, OVER_CHANNELS, OVER_PORTS, SMALL};
 use rtsp_book::{
-    BookRep, Chain, ChannelHold, Commit, Kept, Life, PlainBook, Receipt, SessionView, Step, Tally,
-    law_giving_back, law_granted,
+    BookRep, Chain, ChannelHold, Commit, Kept, Life, Measure, PlainBook, Receipt, SessionView,
+    Step, law_giving_back, law_granted,
 };
 use rtsp_record::{Id, Phase, Stream, Thing, Whole, write_journal, write_record};
 use rtsp_undo::book_text;
@@ -319,7 +319,7 @@ fn shows_the_stream(view: &SessionView) -> bool {
     ];
     numbers == [2, 1, 60_000, 1, 1]
         && view.id() == 1
-        && view.count(&Tally::Returns) == 4
+        && view.count(&Measure::Returns) == 4
         && view.phase() == (Phase::Ready { at: 0, sent: 0 })
         && view.under(3).stream == Some(OVER_PORTS)
         && shows_no_more(view)

@@ -4,17 +4,18 @@ use Rattle.std.specs.Prelude.{Option, Some, None, IsTrue, option_map, sum_by, co
 use Rattle.std.specs.FinMap.{entries}
 use Rattle.std.proofs.lemmas.List.Sums.{sum_by-cons}
 use Rattle.rtsp_record.specs.declared.holdings.Whole.{Whole}
-use Rattle.rtsp_record.specs.declared.holdings.Admission.{Admission}
 use Rattle.rtsp_record.specs.declared.changes.Record.{Record}
 use Rattle.rtsp_record.specs.declared.changes.Record.TheVariants.{Hold, Bind}
 use Rattle.rtsp_record.specs.Books.{Session, Book, after, after_all}
-use Rattle.rtsp_record.specs.Sums.{one_if, if_there, of_session, amount, with_id, bindings}
+use Rattle.rtsp_record.specs.Sums.{one_if, of_session, amount, with_id, bindings}
 use Rattle.rtsp_record.specs.Rules.{Allowed, AllAllowed}
 use Rattle.rtsp_record.specs.Sound.{Sound}
+use Rattle.rtsp_record.proofs.Options.{nought, no_admissions}
 use Rattle.rtsp_record.proofs.Sound.{sound-after}
 use Rattle.rtsp_sessions.specs.Searches.{first_with}
 use Rattle.rtsp_sessions.specs.Lookups.{number_of, is_startup, with_id_in, with_startup_in, TakesNone, TakesNoMemory}
 use Rattle.rtsp_sessions.specs.Plain.{FitsIn, is_open}
+use Rattle.rtsp_sessions.proofs.Bindings.{bound_once}
 use Rattle.rtsp_sessions.proofs.FitLemmas.{all_fit}
 use Rattle.rtsp_index.specs.declared.counts.Counts.{Counts}
 use Rattle.rtsp_index.specs.declared.names.Names.{Names}
@@ -108,18 +109,6 @@ none_counted p u same (e ∷ es) h =
       | false ↦ λ _. none_counted p u same es (omega (arith, h, sum_by-cons u e es))
     ] refl
 
-nought : {X : Type 0} (o : Option X) → if_there (λ _. 0) o ≡ 0
-nought None = refl
-nought (Some x) = refl
-
-no_things : (es : List (ℕ × Admission)) → sum_by (λ e. if_there (λ _. 0) e.1.rate + if_there (λ _. 0) e.1.address + if_there (λ _. 0) e.1.stream) es ≡ 0
-no_things [] = refl
-no_things (e ∷ es) = omega (arith, no_things es, sum_by-cons (λ (e : ℕ × Admission). if_there (λ _. 0) e.1.rate + if_there (λ _. 0) e.1.address + if_there (λ _. 0) e.1.stream) e es, nought e.1.rate, nought e.1.address, nought e.1.stream)
-
-bound_once : (c i : ℕ) (o : Option (ℕ × ℕ)) → if_there (bindings c i).binding o ≡ one_if (is_startup c i o)
-bound_once c i None = refl
-bound_once c i (Some k) = refl
-
 abbrev pub Both : Type 0 → Type 0 → Type 0
 Both A B = (A → B) × (B → A)
 
@@ -132,13 +121,13 @@ missing (Some x) false h = (λ bad. absurd cc, λ bad. absurd cc)
 -- no session has the id where none is counted
 pub id_free : (b : Book) (i : ℕ) (o : Option ℕ) (t : Bool) → o ≡ with_id_in i (entries b) → is_some o ≡ not t → Both (IsTrue t) (amount (with_id i) b ≡ 0)
 id_free b i o t is seen =
-    let each : (e : ℕ × Session) → of_session (with_id i) e.1 ≡ one_if (e.1.id == i) = λ e. omega (arith, nought e.1.binding, no_things (entries e.1.admissions)) in
+    let each : (e : ℕ × Session) → of_session (with_id i) e.1 ≡ one_if (e.1.id == i) = λ e. omega (arith, nought e.1.binding, no_admissions (entries e.1.admissions)) in
     (λ h. counts_none (λ e. e.1.id == i) (λ e. of_session (with_id i) e.1) each (entries b) (sym is ∙ (missing o t seen).0 h), λ h. (missing o t seen).1 (is ∙ none_counted (λ e. e.1.id == i) (λ e. of_session (with_id i) e.1) each (entries b) h))
 
 -- no session has the startup number where none is counted
 pub startup_free : (b : Book) (c i : ℕ) (o : Option ℕ) (t : Bool) → o ≡ with_startup_in c i (entries b) → is_some o ≡ not t → Both (IsTrue t) (amount (bindings c i) b ≡ 0)
 startup_free b c i o t is seen =
-    let each : (e : ℕ × Session) → of_session (bindings c i) e.1 ≡ one_if (is_startup c i e.1.binding) = λ e. omega (arith, bound_once c i e.1.binding, no_things (entries e.1.admissions)) in
+    let each : (e : ℕ × Session) → of_session (bindings c i) e.1 ≡ one_if (is_startup c i e.1.binding) = λ e. omega (arith, bound_once c i e.1.binding, no_admissions (entries e.1.admissions)) in
     (λ h. counts_none (λ e. is_startup c i e.1.binding) (λ e. of_session (bindings c i) e.1) each (entries b) (sym is ∙ (missing o t seen).0 h), λ h. (missing o t seen).1 (is ∙ none_counted (λ e. is_startup c i e.1.binding) (λ e. of_session (bindings c i) e.1) each (entries b) h))
 
 -- The next of the records.

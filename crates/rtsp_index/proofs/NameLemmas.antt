@@ -4,6 +4,7 @@ use Rattle.std.specs.Prelude.{Option, Some, None, option_map, option_and_then, n
 use Rattle.std.specs.FinMap.{get, entries, empty}
 use Rattle.std.proofs.lemmas.Bool.{cases_eq, and_parts}
 use Rattle.std.proofs.lemmas.Bool.Decides.{nat_tests}
+use Rattle.std.proofs.lemmas.Option.{none-some}
 use Rattle.rtsp_record.specs.declared.holdings.Whole.{Whole}
 use Rattle.rtsp_record.specs.declared.payloads.Life.{Life}
 use Rattle.rtsp_record.specs.declared.payloads.Binding.{Binding}
@@ -23,9 +24,6 @@ use Rattle.rtsp_index.proofs.SearchLemmas.{only_number}
 some_eq : {K : Type 0} (x y : K) → ◌≡◌ {A = Option K} (Some x) (Some y) → x ≡ y
 some_eq x y h = cc
 
-none_some : {K : Type 0} (x : K) → ◌≡◌ {A = Option K} None (Some x) → ⊥
-none_some x h = cc
-
 -- An index after a change of one session and of one name.
 module _ {K : Type 0} (name more : ℕ → Option K) (found next : K → Option ℕ) (s : ℕ) (k : K)
     (either : (j : K) → (j ≡ k) ⊎ (j ≡ k → ⊥))
@@ -41,7 +39,7 @@ module _ {K : Type 0} (name more : ℕ → Option K) (found next : K → Option 
               ap more (sym here) ∙ now ∙ ap (λ k. Some k) (sym same)
           | inr apart ↦
               let there = was.named j q (sym (kept j apart) ∙ h) in
-              others q (λ e. none_some j (sym none ∙ ap name (sym e) ∙ there)) ∙ there
+              others q (λ e. none-some j (sym none ∙ ap name (sym e) ∙ there)) ∙ there
         ];
         finds = λ j q h. elim (cases_eq q s) [
           | inl same ↦
@@ -57,13 +55,13 @@ module _ {K : Type 0} (name more : ℕ → Option K) (found next : K → Option 
   name_taken had gone none =
       record {
         named = λ j q h. elim (either j) [
-          | inl same ↦ absurd (none_some q (sym none ∙ ap next (sym same) ∙ h))
+          | inl same ↦ absurd (none-some q (sym none ∙ ap next (sym same) ∙ h))
           | inr apart ↦
               let there = was.named j q (sym (kept j apart) ∙ h) in
               others q (λ e. apart (some_eq j k (sym there ∙ ap name e ∙ had))) ∙ there
         ];
         finds = λ j q h. elim (cases_eq q s) [
-          | inl same ↦ absurd (none_some j (sym gone ∙ ap more (sym same) ∙ h))
+          | inl same ↦ absurd (none-some j (sym gone ∙ ap more (sym same) ∙ h))
           | inr apart ↦
               let there = was.finds j q (sym (others q apart) ∙ h) in
               kept j (λ e. apart (some_eq q s (sym there ∙ ap found e ∙ was.finds k s had))) ∙ there
@@ -151,7 +149,7 @@ startups_stay b r own h g q =
 pub no_id : (b : Book) (i q : ℕ) → amount (with_id i) b ≡ 0 → id_at b q ≡ Some i → ⊥
 no_id b i q none has =
     elim (get b q) as (λ o. get b q ≡ o → option_map (λ (f : Session). f.id) o ≡ Some i → ⊥) [
-      | None ↦ λ _ h. none_some i h
+      | None ↦ λ _ h. none-some i h
       | Some f ↦ λ at h.
           let same : f.id ≡ i = some_eq f.id i h in
           absurd (omega (arith, none, total-at (λ e. of_session (with_id i) e.1) b q, ap (weigh (λ (e : ℕ × Session). of_session (with_id i) e.1) q) at, counted f i same))
@@ -164,7 +162,7 @@ no_id b i q none has =
 pub no_startup : (b : Book) (c i q : ℕ) → amount (bindings c i) b ≡ 0 → startup_at b q ≡ Some (c, i) → ⊥
 no_startup b c i q none has =
     elim (get b q) as (λ o. get b q ≡ o → option_and_then (λ (f : Session). f.binding) o ≡ Some (c, i) → ⊥) [
-      | None ↦ λ _ h. none_some (c, i) h
+      | None ↦ λ _ h. none-some (c, i) h
       | Some f ↦ λ at h.
           absurd (omega (arith, none, total-at (λ e. of_session (bindings c i) e.1) b q, ap (weigh (λ (e : ℕ × Session). of_session (bindings c i) e.1) q) at, ap (if_there (bindings c i).binding) h, counted c i))
     ] refl has
@@ -229,7 +227,7 @@ id_number b found i ok =
     there : (s : ℕ) → id_at b s ≡ Some i → Passes (λ e. e.1.id == i) b s
     there s h =
         elim (get b s) as (λ o. get b s ≡ o → option_map (λ (f : Session). f.id) o ≡ Some i → Passes (λ e. e.1.id == i) b s) [
-          | None ↦ λ _ h. absurd (none_some i h)
+          | None ↦ λ _ h. absurd (none-some i h)
           | Some f ↦ λ at h. (f, at, ap (λ n. n == i) (some_eq f.id i h) ∙ same_eq i)
         ] refl h
 
@@ -248,7 +246,7 @@ startup_number b found c i ok =
     there : (s : ℕ) → startup_at b s ≡ Some (c, i) → Passes (λ e. is_startup c i e.1.binding) b s
     there s h =
         elim (get b s) as (λ o. get b s ≡ o → option_and_then (λ (f : Session). f.binding) o ≡ Some (c, i) → Passes (λ e. is_startup c i e.1.binding) b s) [
-          | None ↦ λ _ h. absurd (none_some (c, i) h)
+          | None ↦ λ _ h. absurd (none-some (c, i) h)
           | Some f ↦ λ at h. (f, at, is_this_startup c i f.binding h)
         ] refl h
 
@@ -260,7 +258,7 @@ no_startups q = ap (option_and_then (λ (f : Session). f.binding)) (get-none q)
 
 pub empty_index : {K : Type 0} (name : ℕ → Option K) (found : K → Option ℕ) → ((q : ℕ) → name q ≡ None) → ((k : K) → found k ≡ None) → IsIndex name found
 empty_index name found none unfound =
-    record { named = λ k s h. absurd (none_some s (sym (unfound k) ∙ h)); finds = λ k s h. absurd (none_some k (sym (none s) ∙ h)) }
+    record { named = λ k s h. absurd (none-some s (sym (unfound k) ∙ h)); finds = λ k s h. absurd (none-some k (sym (none s) ∙ h)) }
 
 -- A record of one kind isn't of another.
 

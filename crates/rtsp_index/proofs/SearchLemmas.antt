@@ -5,9 +5,10 @@ use Rattle.std.specs.Ordering.{nat_cmp}
 use Rattle.std.specs.FinMap.{entries, find, is_sorted, get-entries, entries_sorted}
 use Rattle.std.specs.FinMap.Entries.{below_all}
 use Rattle.rtsp_record.specs.Books.{Session, Book}
-use Rattle.rtsp_record.proofs.Tables.{tied, own, at_key}
+use Rattle.rtsp_record.proofs.Tables.{at_key}
 use Rattle.rtsp_sessions.specs.Searches.{first_with}
 use Rattle.rtsp_sessions.specs.Lookups.{number_of}
+use Rattle.rtsp_sessions.proofs.FirstRows.{first_found, first_passes, none_passes}
 use Rattle.rtsp_sessions.proofs.SortedRows.{both_parts, less_is}
 use Rattle.rtsp_index.specs.Searching.{Passes, AtMost}
 
@@ -20,26 +21,6 @@ find_above k (e ∷ es) s f h at =
     (λ _ same _. subst (λ n. k < n) (sym same) (less_is k e.0 parts.0))
     (λ _ more. find_above k es s f parts.1 more)
     at
-
--- the first that passes is found by its number, and passes
-first_there : (p : ℕ × Session → Bool) (es : List (ℕ × Session)) (v : ℕ × Session) → T (is_sorted nat_cmp es) → first_with p es ≡ Some v → (find nat_cmp v.0 es ≡ Some v.1) × (p v ≡ true)
-first_there p [] v h is = absurd cc
-first_there p (e ∷ es) v h is =
-    elim (p e) as (λ t. p e ≡ t → cond t (Some e) (first_with p es) ≡ Some v → (find nat_cmp v.0 (e ∷ es) ≡ Some v.1) × (p v ≡ true)) [
-      | true ↦ λ on is.
-          let same : e ≡ v = cc in
-          subst (λ v. (find nat_cmp v.0 (e ∷ es) ≡ Some v.1) × (p v ≡ true)) same
-          (at_key e.0 e.0 (λ t. cond t (Some e.1) (find nat_cmp e.0 es) ≡ Some e.1) (λ _ _. refl) (λ off. absurd (itself e.0 off)), on)
-      | false ↦ λ _ is.
-          let more = first_there p es v (both_parts _ _ h).1 is in
-          (at_key e.0 v.0 (λ t. cond t (Some e.1) (find nat_cmp v.0 es) ≡ Some v.1) (λ _ same. absurd (below e.0 v.0 same (find_above e.0 es v.0 v.1 (both_parts _ _ h).0 more.0))) (λ _. more.0), more.1)
-    ] refl is
-  where
-    itself : (n : ℕ) → tied n n ≡ false → ⊥
-    itself n h = let bad = sym (own n) ∙ h in absurd cc
-
-    below : (n m : ℕ) → m ≡ n → n < m → ⊥
-    below n m same lt = absurd (omega (arith, same, lt))
 
 -- no number that passes is less than the first
 first_least : (p : ℕ × Session → Bool) (es : List (ℕ × Session)) (v : ℕ × Session) (s : ℕ) (f : Session) → T (is_sorted nat_cmp es) → first_with p es ≡ Some v → find nat_cmp s es ≡ Some f → p (s, f) ≡ true → v.0 ≤ s
@@ -60,22 +41,6 @@ first_least p (e ∷ es) v s f h is at on =
           at
     ] refl is
 
--- where none is first, none passes
-none_first : (p : ℕ × Session → Bool) (es : List (ℕ × Session)) (s : ℕ) (f : Session) → first_with p es ≡ None → find nat_cmp s es ≡ Some f → p (s, f) ≡ true → ⊥
-none_first p [] s f none at on = absurd cc
-none_first p (e ∷ es) s f none at on =
-    elim (p e) as (λ t. p e ≡ t → cond t (Some e) (first_with p es) ≡ None → ⊥) [
-      | true ↦ λ _ is. absurd cc
-      | false ↦ λ off is.
-          at_key e.0 s (λ t. cond t (Some e.1) (find nat_cmp s es) ≡ Some f → ⊥)
-          (λ _ here own.
-          let value : e.1 ≡ f = cc in
-          let whole : e ≡ (s, f) = λ t. (sym here t, value t) in
-          let bad = sym off ∙ ap p whole ∙ on in absurd cc)
-          (λ _ more. none_first p es s f is more on)
-          at
-    ] refl none
-
 same_number : (s t : ℕ) → s ≤ t → t ≤ s → s ≡ t
 same_number s t one two = omega (arith, one, two)
 
@@ -85,13 +50,14 @@ least_number b p o found least =
     elim (first_with p (entries b)) as (λ v. first_with p (entries b) ≡ v → o ≡ option_map (λ e. e.0) v) [
       | None ↦ λ none. no_number o found none
       | Some v ↦ λ is.
-          let there = first_there p (entries b) v (entries_sorted b) is in
-          this_number o v found is (least v.0 (v.1, get-entries b v.0 ∙ there.0, there.1))
+          let there = get-entries b v.0 ∙ first_found p (entries b) v (entries_sorted b) is in
+          this_number o v found is (least v.0 (v.1, there, first_passes p (entries b) v is))
     ] refl
   where
     no_number : (o : Option ℕ) → IfSome o (Passes p b) → first_with p (entries b) ≡ None → o ≡ None
     no_number None h none = refl
-    no_number (Some s) h none = absurd (none_first p (entries b) s h.0 none (sym (get-entries b s) ∙ h.1) h.2)
+    no_number (Some s) h none =
+        let bad = sym (none_passes p (entries b) s h.0 none (sym (get-entries b s) ∙ h.1)) ∙ h.2 in absurd cc
 
     this_number : (o : Option ℕ) (v : ℕ × Session) → IfSome o (Passes p b) → first_with p (entries b) ≡ Some v → AtMost o v.0 → o ≡ Some v.0
     this_number None v h is le = absurd le

@@ -17,7 +17,7 @@ use crate::pools::Pools;
 use crate::search::Search;
 use crate::table::SessionTable;
 use rtsp_record::{Record, Thing, Whole};
-use rtsp_sessions::owns;
+use rtsp_sessions::allowed_for_session;
 use std::alloc::{AllocError, Global};
 
 /// The parts of an indexed book.
@@ -226,7 +226,8 @@ impl Parts {
         requires { AllAgree self.now }
         ensures { IsTrue result ↔ Allowed self.now.whole (book_in self.now) change.now }
     {
-        owns(self.sessions.get(change.session()), change) && self.others_allow(change)
+        allowed_for_session(self.sessions.get(change.session()), change)
+            && self.others_allow(change)
     }
 
     /// The least number of a session that holds channels of the connection or is bound to it. None

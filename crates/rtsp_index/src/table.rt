@@ -14,16 +14,16 @@ ghost use Rattle.rtsp_index.specs.Dating.{AreDated};
 ghost use Rattle.rtsp_index.specs.Searching.{passes, Passes, AtMost};
 
 use crate::moments::Moments;
-use crate::search::{Search, is_on};
+use crate::search::Search;
 use indexmap::IndexMap;
 use rtsp_record::Record;
 use rtsp_sessions::SessionView;
 use slab::Slab;
 use std::alloc::{AllocError, Global};
 
-/// The living sessions. Each has a place, where its row stands until it ends; no row is moved when
-/// another comes or goes. Its expiry stands once more beside the others', of which the least is at
-/// hand.
+/// The living sessions. Each has a place, where its row stands until it ends. No row is moved when
+/// another comes or goes, but where there is no room for one more: then the slab grows, and all move
+/// once. A session's expiry stands once more beside the others', of which the least is at hand.
 #[derive(Drop)]
 pub(crate) struct SessionTable {
     places: IndexMap<u64, usize>,
@@ -155,7 +155,7 @@ impl SessionTable {
             Search::From(least) => least <= session,
             Search::Expired(moment) => self.expiries.at(place) <= moment,
             Search::OnConn(conn) => match self.rows.get(place) {
-                Some(view) => is_on(view, conn),
+                Some(view) => view.is_on(conn),
                 None => unreachable!(),
             },
         }

@@ -5,21 +5,21 @@
 //! is a book that is a vector of its sessions.
 //!
 //! The definitions of `specs/` read in this order: Searches (the first row that passes), Lookups,
-//! Tallies (what the code counts), Codes and Plain (how a plain book is kept), Ports (what it tries
+//! Measures (what the code counts), Codes and Plain (how a plain book is kept), Ports (what it tries
 //! one after another).
 
 #![tactic(auto)]
 
 mod admissions;
+mod measures;
 mod plain;
 mod representation;
 mod startups;
-mod tallies;
 mod views;
 
 pub use admissions::{Admissions, MOST_HOLDING};
-pub use plain::{PlainBook, owns};
+pub use measures::Measure;
+pub use plain::{PlainBook, allowed_for_session};
 pub use representation::BookRep;
 pub use startups::Startup;
-pub use tallies::Tally;
 pub use views::SessionView;

@@ -13,10 +13,10 @@ mod own;
 mod rows;
 mod rules;
 
+use crate::measures::Measure;
 use crate::representation::BookRep;
-use crate::tallies::Tally;
 use crate::views::SessionView;
-pub use own::owns;
+pub use own::allowed_for_session;
 use rtsp_record::{Record, Whole};
 use std::alloc::{AllocError, Global};
 use std::marker::Model;
@@ -130,11 +130,11 @@ impl BookRep for PlainBook {
     }
 
     fn held_rate(&self) -> u64 {
-        amounts::amount(self.rows(), &Tally::Rates) as u64
+        amounts::amount(self.rows(), &Measure::Rates) as u64
     }
 
     fn living(&self) -> usize {
-        amounts::amount(self.rows(), &Tally::Sessions) as usize
+        amounts::amount(self.rows(), &Measure::Sessions) as usize
     }
 
     fn due(&self, now: u64) -> Option<u64> {
@@ -146,6 +146,6 @@ impl BookRep for PlainBook {
     }
 
     fn owed(&self) -> usize {
-        amounts::amount(self.rows(), &Tally::Returns) as usize
+        amounts::amount(self.rows(), &Measure::Returns) as usize
     }
 }

@@ -4,14 +4,14 @@ ghost use Rattle.std.specs.Prelude.{◌≡◌, ◌<◌, ◌≤◌, ◌^◌, Some
 ghost use Rattle.std.specs.FinMap.{entries};
 ghost use Rattle.rtsp_record.specs.Books.{opened, under, kept, holding, freed, streaming, with_under, effect};
 ghost use Rattle.rtsp_record.specs.Sums.{of_session, of_admission, others_holding, is_holding};
-ghost use Rattle.rtsp_sessions.specs.Lookups.{as_binding};
+ghost use Rattle.rtsp_sessions.specs.Lookups.{as_binding, is_startup};
 ghost use Rattle.rtsp_sessions.specs.Plain.{RoomUnder, RoomFor};
-ghost use Rattle.rtsp_sessions.specs.Searches.{is_of_track, is_chan_of, is_channelled, first_with};
-ghost use Rattle.rtsp_sessions.specs.Tallies.{measure_of};
+ghost use Rattle.rtsp_sessions.specs.Searches.{is_of_track, is_chan_of, is_channelled, is_bound_on, is_on, first_with};
+ghost use Rattle.rtsp_sessions.specs.Measures.{measure_of};
 
 use crate::admissions::Admissions;
+use crate::measures::{Measure, of_admission, of_binding, of_life, of_phase};
 use crate::startups::Startup;
-use crate::tallies::{Tally, of_admission, of_binding, of_life, of_phase};
 use rtsp_record::{
     Admission, Binding, Holding, Life, Phase, Record, Renewal, Setup, Stream, Thing, Transition,
 };
@@ -104,6 +104,26 @@ impl SessionView {
         }
     }
 
+    /// Whether it has this startup number of the connection.
+    pub fn is_bound(&self, conn: u64, number: u32) -> bool
+        ensures { result ≡ is_startup conn number self.now.1.binding }
+    {
+        match self.binding {
+            Some(held) => held.0 == conn && held.1 == number,
+            None => false,
+        }
+    }
+
+    /// Whether it has a startup number of the connection.
+    pub fn is_bound_on(&self, conn: u64) -> bool
+        ensures { result ≡ is_bound_on conn self.now.1 }
+    {
+        match self.binding {
+            Some(held) => held.0 == conn,
+            None => false,
+        }
+    }
+
     /// What it holds, by admission.
     pub fn admissions(&self) -> &Admissions
         ensures { result.now ≡ self.now.1.admissions }
@@ -151,22 +171,29 @@ impl SessionView {
         any_channels_of(self.admissions.rows(), conn)
     }
 
-    /// How much there is of this in the session.
-    pub fn count(&self, tally: &Tally) -> u128
-        ensures { result ≡ of_session (measure_of tally.now) self.now.1 }
+    /// Whether it holds channels of the connection or is bound to it.
+    pub fn is_on(&self, conn: u64) -> bool
+        ensures { result ≡ is_on conn self.now }
     {
-        self.weight(tally)
+        self.has_channels_of(conn) || self.is_bound_on(conn)
+    }
+
+    /// How much there is of this in the session.
+    pub fn count(&self, measure: &Measure) -> u128
+        ensures { result ≡ of_session (measure_of measure.now) self.now.1 }
+    {
+        self.weight(measure)
     }
 
     // What the session counts, with a bound.
-    pub(crate) fn weight(&self, tally: &Tally) -> u128
-        ensures value { result ≡ of_session (measure_of tally.now) self.now.1 }
+    pub(crate) fn weight(&self, measure: &Measure) -> u128
+        ensures value { result ≡ of_session (measure_of measure.now) self.now.1 }
         ensures small { result ≤ 2 ^ 70 }
     {
-        let life = of_life(tally, self.id)
-            + of_phase(tally, &self.phase)
-            + of_binding(tally, self.binding);
-        life + of_rows(tally, self.admissions.rows())
+        let life = of_life(measure, self.id)
+            + of_phase(measure, &self.phase)
+            + of_binding(measure, self);
+        life + of_rows(measure, self.admissions.rows())
     }
 
     /// A copy of the session.
@@ -332,14 +359,14 @@ fn any_channels_of(rows: &[(u64, Admission)], conn: u64) -> bool
 }
 
 // What all the admissions count.
-fn of_rows(tally: &Tally, rows: &[(u64, Admission)]) -> u128
+fn of_rows(measure: &Measure, rows: &[(u64, Admission)]) -> u128
     requires { length rows.now ≤ 16 }
-    ensures value { result ≡ sum_by (λ e. of_admission (measure_of tally.now) e.1) rows.now }
+    ensures value { result ≡ sum_by (λ e. of_admission (measure_of measure.now) e.1) rows.now }
     ensures small { result ≤ 2 ^ 69 }
 {
     let mut total = 0;
     for row in rows {
-        total += of_admission(tally, &row.1);
+        total += of_admission(measure, &row.1);
     }
     total
 }

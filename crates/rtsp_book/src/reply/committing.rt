@@ -14,7 +14,7 @@ use crate::reply::returning::{drop_stream, free_address, free_rate};
 use crate::reply::sessions::is_ready;
 use crate::steps::{Commit, Step};
 use rtsp_record::{Binding, Record, Setup, Stream};
-use rtsp_sessions::{BookRep, SessionView, Startup, Tally};
+use rtsp_sessions::{BookRep, Measure, SessionView, Startup};
 
 // Whether the session is in no state to set the stream up under the admission.
 fn is_wrong(view: &SessionView, admission: u64, stream: Stream) -> bool
@@ -22,7 +22,7 @@ fn is_wrong(view: &SessionView, admission: u64, stream: Stream) -> bool
 {
     !is_ready(&view.phase())
         || view.under(admission).stream.is_some()
-        || view.count(&Tally::Elsewhere(stream)) > 0
+        || view.count(&Measure::Elsewhere(stream)) > 0
 }
 
 // Whether a rate or an address is missing under the admission.

@@ -14,7 +14,7 @@ use crate::reply::returning::{end, give_back, unbind};
 use crate::reply::sessions::is_ready;
 use crate::steps::{Chain, Step};
 use rtsp_record::{Holding, Record, Thing};
-use rtsp_sessions::{BookRep, SessionView, Tally};
+use rtsp_sessions::{BookRep, Measure, SessionView};
 
 // Whether nothing was done.
 fn is_empty(chain: &Chain) -> bool
@@ -87,7 +87,7 @@ impl<'a, B: BookRep> Case<'a, B> {
         ensures { filled result made.new ≡ answer self.now.whole self.now.entries self.now.book (Step.DropTrack session track) }
     {
         let view = self.living(session)?;
-        let is_only = view.count(&Tally::OtherTracks(track)) == 0;
+        let is_only = view.count(&Measure::OtherTracks(track)) == 0;
         if !is_only && !is_ready(&view.phase()) {
             return Err(Refusal::WrongState);
         }

@@ -12,12 +12,12 @@ use crate::reply::case::Case;
 use crate::reply::sessions::is_ready;
 use crate::steps::{Play, Step};
 use rtsp_record::{Phase, Record, Renewal, Transition};
-use rtsp_sessions::{BookRep, SessionView, Tally};
+use rtsp_sessions::{BookRep, Measure, SessionView};
 
 fn has_stream(view: &SessionView) -> bool
     ensures { result ≡ has_stream view.now.1 }
 {
-    view.count(&Tally::Streams) > 0
+    view.count(&Measure::Streams) > 0
 }
 
 // The unit where a play begins.

@@ -4,30 +4,30 @@ ghost use Rattle.std.specs.Prelude.{◌≡◌, ◌==◌, ◌+◌, ◌<◌, ◌�
 ghost use Rattle.rtsp_record.specs.Sums.{amount, of_session, Channel};
 ghost use Rattle.rtsp_record.specs.Choices.{is_free, is_port_free, is_pair_free, is_chan_free};
 ghost use Rattle.rtsp_sessions.specs.Plain.{InOrder, table_of};
-ghost use Rattle.rtsp_sessions.specs.Tallies.{measure_of};
+ghost use Rattle.rtsp_sessions.specs.Measures.{measure_of};
 
-use crate::tallies::Tally;
+use crate::measures::Measure;
 use crate::views::SessionView;
 
 // The sum over the rows.
-fn sum(rows: &[SessionView], tally: &Tally) -> u128
+fn sum(rows: &[SessionView], measure: &Measure) -> u128
     requires { length rows.now < 2 ^ 32 }
-    ensures { result ≡ sum_by (λ e. of_session (measure_of tally.now) e.1) rows.now }
+    ensures { result ≡ sum_by (λ e. of_session (measure_of measure.now) e.1) rows.now }
 {
     let mut total = 0;
     for row in rows {
-        total += row.weight(tally);
+        total += row.weight(measure);
     }
     total
 }
 
 /// How much there is of this in the book.
-pub(super) fn amount(rows: &[SessionView], tally: &Tally) -> u128
+pub(super) fn amount(rows: &[SessionView], measure: &Measure) -> u128
     requires in_order { InOrder rows.now }
     requires few { length rows.now < 2 ^ 32 }
-    ensures { result ≡ amount (measure_of tally.now) (table_of rows.now) }
+    ensures { result ≡ amount (measure_of measure.now) (table_of rows.now) }
 {
-    sum(rows, tally)
+    sum(rows, measure)
 }
 
 /// Whether nothing that is held covers the port.
@@ -36,7 +36,7 @@ pub(super) fn is_port_free(rows: &[SessionView], port: u32) -> bool
     requires few { length rows.now < 2 ^ 32 }
     ensures { result ≡ is_port_free (table_of rows.now) port }
 {
-    amount(rows, &Tally::Port(port)) == 0
+    amount(rows, &Measure::Port(port)) == 0
 }
 
 /// Whether both ports of the pair are free.
@@ -55,7 +55,7 @@ pub(super) fn is_channel_free(rows: &[SessionView], conn: u64, channel: u16) -> 
     requires few { length rows.now < 2 ^ 32 }
     ensures { result ≡ is_free (table_of rows.now) (Channel conn channel) }
 {
-    amount(rows, &Tally::Channel(conn, channel)) == 0
+    amount(rows, &Measure::Channel(conn, channel)) == 0
 }
 
 /// Whether both channels of the connection are free.

@@ -1,8 +1,7 @@
 //! The first row of a plain book that passes a test.
 
 ghost use Rattle.std.specs.Prelude.{◌≡◌};
-ghost use Rattle.rtsp_sessions.specs.Lookups.{first_from, with_id_in, with_startup_in, is_startup, expired_in, on_conn_in};
-ghost use Rattle.rtsp_sessions.specs.Searches.{is_bound_on, is_on};
+ghost use Rattle.rtsp_sessions.specs.Lookups.{first_from, with_id_in, with_startup_in, expired_in, on_conn_in};
 
 use crate::views::SessionView;
 
@@ -30,21 +29,12 @@ pub(super) fn with_id(rows: &[SessionView], id: u128) -> Option<u64>
     None
 }
 
-fn has_startup(row: &SessionView, conn: u64, number: u32) -> bool
-    ensures { result ≡ is_startup conn number row.now.1.binding }
-{
-    match row.binding() {
-        Some(startup) => startup.conn == conn && startup.number == number,
-        None => false,
-    }
-}
-
 /// The number of the first session with this startup number of the connection.
 pub(super) fn with_startup(rows: &[SessionView], conn: u64, number: u32) -> Option<u64>
     ensures { result ≡ with_startup_in conn number rows.now }
 {
     for row in rows {
-        if has_startup(row, conn, number) {
+        if row.is_bound(conn, number) {
             return Some(row.session());
         }
     }
@@ -63,27 +53,12 @@ pub(super) fn expired(rows: &[SessionView], now: u64) -> Option<u64>
     None
 }
 
-fn is_bound_on(row: &SessionView, conn: u64) -> bool
-    ensures { result ≡ is_bound_on conn row.now.1 }
-{
-    match row.binding() {
-        Some(startup) => startup.conn == conn,
-        None => false,
-    }
-}
-
-fn is_on(row: &SessionView, conn: u64) -> bool
-    ensures { result ≡ is_on conn row.now }
-{
-    row.has_channels_of(conn) || is_bound_on(row, conn)
-}
-
 /// The number of the first session that holds a channel of the connection or has a binding of it.
 pub(super) fn on_conn(rows: &[SessionView], conn: u64) -> Option<u64>
     ensures { result ≡ on_conn_in conn rows.now }
 {
     for row in rows {
-        if is_on(row, conn) {
+        if row.is_on(conn) {
             return Some(row.session());
         }
     }

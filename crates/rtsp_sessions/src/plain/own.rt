@@ -8,22 +8,22 @@ ghost use Rattle.rtsp_record.specs.Rules.{alike, IsReady, IsPlaying, Own, MayHol
 ghost use Rattle.rtsp_sessions.specs.Plain.{session_in};
 
 use crate::admissions::Admissions;
-use crate::tallies::Tally;
+use crate::measures::Measure;
 use crate::views::SessionView;
 use rtsp_record::{Admission, Life, Phase, Record, Stream, Thing};
 
 /// Whether the record is allowed as far as its own session goes.
-pub fn owns(view: Option<&SessionView>, change: &Record) -> bool
+pub fn allowed_for_session(view: Option<&SessionView>, change: &Record) -> bool
     ensures { IsTrue result ↔ Own change.now (session_in (option_copied view.entry)) }
 {
     match view {
-        Some(view) => owns_living(view, change),
+        Some(view) => allowed_for_living(view, change),
         None => matches!(change, Record::Open(_)),
     }
 }
 
 // Whether the record is allowed as far as its own living session goes.
-fn owns_living(view: &SessionView, change: &Record) -> bool
+fn allowed_for_living(view: &SessionView, change: &Record) -> bool
     ensures { IsTrue result ↔ Own change.now (Some view.now.1) }
 {
     match change {
@@ -36,7 +36,7 @@ fn owns_living(view: &SessionView, change: &Record) -> bool
         Record::Move(transition) => may_move(view, &transition.from, &transition.to),
         Record::Touch(renewal) => view.expires() == renewal.from,
         Record::Bind(_) => view.binding().is_none(),
-        Record::Unbind(binding) => is_bound(view, binding.conn, binding.number),
+        Record::Unbind(binding) => view.is_bound(binding.conn, binding.number),
     }
 }
 
@@ -110,7 +110,7 @@ fn may_add(view: &SessionView, admission: u64, stream: &Stream) -> bool
         && held.rate.is_some()
         && held.address.is_some()
         && held.stream.is_none()
-        && view.count(&Tally::Clashing(*stream)) == 0
+        && view.count(&Measure::Clashing(*stream)) == 0
 }
 
 fn may_drop(view: &SessionView, admission: u64, stream: &Stream) -> bool
@@ -123,14 +123,5 @@ fn may_drop(view: &SessionView, admission: u64, stream: &Stream) -> bool
 fn may_move(view: &SessionView, from: &Phase, to: &Phase) -> bool
     ensures { IsTrue result ↔ MayMove view.now.1 from.now to.now }
 {
-    view.phase() == *from && (!is_playing(to) || view.count(&Tally::Streams) > 0)
-}
-
-fn is_bound(view: &SessionView, conn: u64, number: u32) -> bool
-    ensures { IsTrue result ↔ (view.now.1.binding ≡ Some (conn, number)) }
-{
-    match view.binding() {
-        Some(startup) => startup.conn == conn && startup.number == number,
-        None => false,
-    }
+    view.phase() == *from && (!is_playing(to) || view.count(&Measure::Streams) > 0)
 }

@@ -7,9 +7,9 @@ ghost use Rattle.rtsp_record.specs.declared.holdings.Thing.TheVariants.{Pair, Po
 ghost use Rattle.rtsp_sessions.specs.Plain.{InOrder, table_of};
 
 use super::amounts::{amount, is_chan_free, is_pair_free, is_port_free};
-use super::own::owns;
+use super::own::allowed_for_session;
 use super::rows::find;
-use crate::tallies::Tally;
+use crate::measures::Measure;
 use crate::views::SessionView;
 use rtsp_record::{Record, Thing, Whole};
 
@@ -19,7 +19,7 @@ pub(super) fn allowed(whole: &Whole, rows: &[SessionView], change: &Record) -> b
     requires few { length rows.now < 2 ^ 32 }
     ensures { IsTrue result ↔ Allowed whole.now (table_of rows.now) change.now }
 {
-    owns(find(rows, change.session()), change) && others_allow(whole, rows, change)
+    allowed_for_session(find(rows, change.session()), change) && others_allow(whole, rows, change)
 }
 
 // Whether the record is allowed as far as the other sessions go.
@@ -32,7 +32,7 @@ fn others_allow(whole: &Whole, rows: &[SessionView], change: &Record) -> bool
         Record::Open(life) => may_open(whole, rows, life.id.number()),
         Record::Hold(holding) => is_free(whole, rows, &holding.thing),
         Record::Bind(binding) => {
-            amount(rows, &Tally::Binding(binding.conn, binding.number)) == 0
+            amount(rows, &Measure::Binding(binding.conn, binding.number)) == 0
         }
         _ => true,
     }
@@ -44,7 +44,8 @@ fn may_open(whole: &Whole, rows: &[SessionView], id: u128) -> bool
     requires few { length rows.now < 2 ^ 32 }
     ensures { IsTrue result ↔ MayOpen whole.now (table_of rows.now) id }
 {
-    amount(rows, &Tally::Id(id)) == 0 && amount(rows, &Tally::Sessions) < u128::from(whole.sessions)
+    amount(rows, &Measure::Id(id)) == 0
+        && amount(rows, &Measure::Sessions) < u128::from(whole.sessions)
 }
 
 // Whether the thing is one of the whole, and free.
@@ -120,6 +121,6 @@ fn is_free_rate(whole: &Whole, rows: &[SessionView], bits: u64) -> bool
     ensures { IsTrue result ↔ IsFree whole.now (table_of rows.now) (Rate bits) }
 {
     let uplink = u128::from(whole.uplink);
-    let held = amount(rows, &Tally::Rates);
+    let held = amount(rows, &Measure::Rates);
     held <= uplink && u128::from(bits) <= uplink - held
 }

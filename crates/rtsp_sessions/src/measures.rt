@@ -2,13 +2,14 @@
 
 ghost use Rattle.std.specs.Prelude.{◌≡◌, ◌+◌, ◌^◌, ◌≤◌, ◌<◌};
 ghost use Rattle.rtsp_record.specs.Sums.{if_there, of_admission, covers, UdpPort, Channel};
-ghost use Rattle.rtsp_sessions.specs.Tallies.{measure_of};
+ghost use Rattle.rtsp_sessions.specs.Measures.{measure_of};
 
+use crate::views::SessionView;
 use rtsp_record::{Admission, Phase, Stream, Thing};
 
 /// What is counted, over a session or over a whole book.
 #[derive(Clone, Copy, Debug)]
-pub enum Tally {
+pub enum Measure {
     /// Living sessions.
     Sessions,
     /// Living sessions with this id.
@@ -34,36 +35,34 @@ pub enum Tally {
 }
 
 // What a session with this id counts for living.
-pub(crate) fn of_life(tally: &Tally, id: u128) -> u128
-    ensures value { result ≡ (measure_of tally.now).life id }
+pub(crate) fn of_life(measure: &Measure, id: u128) -> u128
+    ensures value { result ≡ (measure_of measure.now).life id }
     ensures small { result ≤ 1 }
 {
-    match *tally {
-        Tally::Sessions | Tally::Returns => 1,
-        Tally::Id(wanted) => u128::from(id == wanted),
+    match *measure {
+        Measure::Sessions | Measure::Returns => 1,
+        Measure::Id(wanted) => u128::from(id == wanted),
         _ => 0,
     }
 }
 
-pub(crate) fn of_phase(tally: &Tally, phase: &Phase) -> u128
-    ensures value { result ≡ (measure_of tally.now).phase phase.now }
+pub(crate) fn of_phase(measure: &Measure, phase: &Phase) -> u128
+    ensures value { result ≡ (measure_of measure.now).phase phase.now }
     ensures small { result ≤ 1 }
 {
-    match *tally {
-        Tally::Returns => u128::from(!matches!(phase, Phase::Ready { at: 0, sent: 0 })),
+    match *measure {
+        Measure::Returns => u128::from(!matches!(phase, Phase::Ready { at: 0, sent: 0 })),
         _ => 0,
     }
 }
 
-pub(crate) fn of_binding(tally: &Tally, binding: Option<(u64, u32)>) -> u128
-    ensures value { result ≡ if_there (measure_of tally.now).binding binding }
+pub(crate) fn of_binding(measure: &Measure, view: &SessionView) -> u128
+    ensures value { result ≡ if_there (measure_of measure.now).binding view.now.1.binding }
     ensures small { result ≤ 1 }
 {
-    match (*tally, binding) {
-        (Tally::Binding(conn, number), Some(held)) => u128::from(
-            held.0 == conn && held.1 == number,
-        ),
-        (Tally::Returns, Some(_)) => 1,
+    match *measure {
+        Measure::Binding(conn, number) => u128::from(view.is_bound(conn, number)),
+        Measure::Returns => u128::from(view.binding().is_some()),
         _ => 0,
     }
 }
@@ -92,53 +91,53 @@ fn covers_channel(thing: &Thing, conn: u64, channel: u16) -> bool
 }
 
 // What a held thing counts.
-fn of_thing(tally: &Tally, thing: &Thing) -> u128
-    ensures value { result ≡ (measure_of tally.now).thing thing.now }
+fn of_thing(measure: &Measure, thing: &Thing) -> u128
+    ensures value { result ≡ (measure_of measure.now).thing thing.now }
     ensures small { result < 2 ^ 64 }
 {
-    match *tally {
-        Tally::Rates => match *thing {
+    match *measure {
+        Measure::Rates => match *thing {
             Thing::Rate(bits) => u128::from(bits),
             Thing::Pair(_) | Thing::Port(_) | Thing::Chan(_, _) => 0,
         },
-        Tally::Port(port) => u128::from(covers_port(thing, port)),
-        Tally::Channel(conn, channel) => u128::from(covers_channel(thing, conn, channel)),
-        Tally::Returns => 1,
+        Measure::Port(port) => u128::from(covers_port(thing, port)),
+        Measure::Channel(conn, channel) => u128::from(covers_channel(thing, conn, channel)),
+        Measure::Returns => 1,
         _ => 0,
     }
 }
 
 // What a stream counts.
-fn of_stream(tally: &Tally, stream: &Stream) -> u128
-    ensures value { result ≡ (measure_of tally.now).stream stream.now }
+fn of_stream(measure: &Measure, stream: &Stream) -> u128
+    ensures value { result ≡ (measure_of measure.now).stream stream.now }
     ensures small { result ≤ 1 }
 {
-    match *tally {
-        Tally::Streams | Tally::Returns => 1,
-        Tally::Clashing(other) => u128::from(
+    match *measure {
+        Measure::Streams | Measure::Returns => 1,
+        Measure::Clashing(other) => u128::from(
             other.track == stream.track || other.presentation != stream.presentation,
         ),
-        Tally::Elsewhere(other) => u128::from(other.presentation != stream.presentation),
-        Tally::OtherTracks(track) => u128::from(stream.track != track),
+        Measure::Elsewhere(other) => u128::from(other.presentation != stream.presentation),
+        Measure::OtherTracks(track) => u128::from(stream.track != track),
         _ => 0,
     }
 }
 
 // What all that stands under an admission counts.
-pub(crate) fn of_admission(tally: &Tally, held: &Admission) -> u128
-    ensures value { result ≡ of_admission (measure_of tally.now) held.now }
+pub(crate) fn of_admission(measure: &Measure, held: &Admission) -> u128
+    ensures value { result ≡ of_admission (measure_of measure.now) held.now }
     ensures small { result ≤ 2 ^ 65 }
 {
     let rate = match held.rate {
-        Some(bits) => of_thing(tally, &Thing::Rate(bits)),
+        Some(bits) => of_thing(measure, &Thing::Rate(bits)),
         None => 0,
     };
     let address = match &held.address {
-        Some(thing) => of_thing(tally, thing),
+        Some(thing) => of_thing(measure, thing),
         None => 0,
     };
     let stream = match &held.stream {
-        Some(stream) => of_stream(tally, stream),
+        Some(stream) => of_stream(measure, stream),
         None => 0,
     };
     rate + address + stream
