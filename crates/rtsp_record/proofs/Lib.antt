@@ -1,6 +1,7 @@
 pub mod Tables
 pub mod Rows
 pub mod Balance
+pub mod Options
 pub mod Sound
 pub mod Back
 pub mod Trims
