@@ -12,7 +12,7 @@ use Rattle.rtsp_book.specs.declared.asks.Wanted.TheVariants as wanted
 use Rattle.rtsp_book.specs.declared.refusals.Refusal.{Refusal}
 use Rattle.rtsp_book.specs.declared.steps.Step.{Step}
 use Rattle.rtsp_book.specs.declared.steps.Step.TheVariants as step
-use Rattle.rtsp_lock.specs.declared.handles.BookSeat.{BookSeat}
+use Rattle.rtsp_lock.specs.declared.seat.BookSeat.{BookSeat}
 use Rattle.rtsp_lock.specs.declared.view.View.{View}
 use Rattle.rtsp_lock.specs.Calls.{seat_view, Acted}
 use Rattle.rtsp_admit.specs.declared.failure.Attempt.{Attempt}

@@ -10,8 +10,8 @@ use Rattle.rtsp_book.specs.declared.refusals.Refusal.{Refusal}
 use Rattle.rtsp_book.specs.Answers.{Answers, written}
 use Rattle.rtsp_book.specs.Kept.{History, history, entries_by, forgotten}
 use Rattle.rtsp_lock.specs.declared.view.View.{View}
-use Rattle.rtsp_lock.specs.declared.handles.BookLock.{BookLock}
-use Rattle.rtsp_lock.specs.declared.handles.BookSeat.{BookSeat}
+use Rattle.rtsp_lock.specs.declared.lock.BookLock.{BookLock}
+use Rattle.rtsp_lock.specs.declared.seat.BookSeat.{BookSeat}
 use Rattle.rtsp_lock.specs.Entries.{entries_of, Later, LeftOf, Has}
 use Rattle.rtsp_lock.specs.Steps.{holding}
 

@@ -13,21 +13,20 @@
 
 #![tactic(auto)]
 
-mod calls;
-mod handles;
 mod laws;
+mod lock;
 mod names;
 mod opening;
-mod phases;
 mod rule;
-mod turns;
+mod seat;
 mod view;
 
-pub use handles::{BookLock, BookSeat};
 pub use laws::{
     law_acted, law_actors_differ, law_draws_differ, law_forgot, law_looked, law_run,
     law_run_goes_on, law_run_lasts,
 };
+pub use lock::BookLock;
 pub use names::Name;
 pub use opening::open;
 pub use rule::LockBook;
+pub use seat::BookSeat;
