@@ -14,6 +14,8 @@ use Rattle.rtsp_record.specs.declared.holdings.Whole.{Whole}
 use Rattle.rtsp_record.specs.declared.changes.Entry.{Entry}
 use Rattle.rtsp_record.specs.declared.changes.Record.{Record}
 use Rattle.rtsp_record.specs.declared.changes.Record.TheVariants.{Open, Close, Hold, Free, Add, Drop, Move, Touch, Bind, Unbind}
+use Rattle.rtsp_record.specs.declared.payloads.Holding.{Holding}
+use Rattle.rtsp_record.specs.declared.payloads.Setup.{Setup}
 use Rattle.rtsp_record.specs.Records.{session_of}
 use Rattle.rtsp_record.specs.declared.holdings.Admission.{Admission}
 use Rattle.rtsp_record.specs.Books.{Session, Book, bare, or_bare, kept, opened, holding, freed, streaming, under, with_under, effect, after, after_all, records_of, book_of}
@@ -143,17 +145,8 @@ without_stream_sound w f a d ok left =
       in_whole = λ b. at_under f a d b (Proper w) (λ _. left.proper) (ok.in_whole b);
     }
 
--- phase, expiry and binding touch no admission
-same_admissions_sound : (w : Whole) (f : Session) (p : Phase) (e : ℕ) (k : Option (ℕ × ℕ)) → let g : Session = record f { phase = p; expires = e; binding = k } in
-    SoundSession w f → ((v : Stream) → of_session (clashing v) g ≤ of_session (clashing v) f) → (IsPlaying p → 0 < of_session streams g) → SoundSession w g
-same_admissions_sound w f p e k ok less plays =
-    record { normal = ok.normal; based = ok.based; apart = λ a v is. omega (arith, less v, ok.apart a v is); playing = plays; few = ok.few; in_whole = ok.in_whole }
-
-pub row_sound : (w : Whole) (b : Book) (r : Record) (o : Option Session) → Own r o → Others w r b → SoundRow w o → SoundRow w (effect r o)
-row_sound w b (Open k) o h g ok = opened_sound w k.id k.conn k.expires
-row_sound w b (Close k) o h g ok = tt
-row_sound w b (Hold k) None h g ok = absurd h
-row_sound w b (Hold k) (Some f) h g ok =
+hold_sound : (w : Whole) (b : Book) (k : Holding) (f : Session) → Own (Hold k) (Some f) → Others w (Hold k) b → SoundSession w f → SoundSession w (with_under f k.admission (holding k.thing (under f k.admission)))
+hold_sound w b k f h g ok =
     let d = holding k.thing (under f k.admission) in
     without_stream_sound w f k.admission d ok (record {
       no_stream = holding_stream k.thing (under f k.admission) ∙ h.no_stream;
@@ -162,8 +155,9 @@ row_sound w b (Hold k) (Some f) h g ok =
       few = omega (arith, holding-under f k.admission d, holding-others f k.admission, h.few, at_most_one (is_holding d));
       proper = hold_proper w k.thing (under f k.admission) g.in_whole (ok.in_whole k.admission);
     })
-row_sound w b (Free k) None h g ok = absurd h
-row_sound w b (Free k) (Some f) h g ok =
+
+free_sound : (w : Whole) (k : Holding) (f : Session) → Own (Free k) (Some f) → SoundSession w f → SoundSession w (with_under f k.admission (freed k.thing (under f k.admission)))
+free_sound w k f h ok =
     let d = freed k.thing (under f k.admission) in
     without_stream_sound w f k.admission d ok (record {
       no_stream = freed_stream k.thing (under f k.admission) ∙ h.no_stream;
@@ -172,8 +166,20 @@ row_sound w b (Free k) (Some f) h g ok =
       few = omega (arith, holding-under f k.admission d, ok.few, one_is _ (holds_some k.thing (under f k.admission) h.held), at_most_one (is_holding d));
       proper = free_proper w k.thing (under f k.admission) (ok.in_whole k.admission);
     })
-row_sound w b (Add k) None h g ok = absurd h
-row_sound w b (Add k) (Some f) h g ok =
+
+drop_sound : (w : Whole) (k : Setup) (f : Session) → Own (Drop k) (Some f) → SoundSession w f → SoundSession w (with_under f k.admission (streaming None (under f k.admission)))
+drop_sound w k f h ok =
+    let d = streaming None (under f k.admission) in
+    without_stream_sound w f k.admission d ok (record {
+      no_stream = refl;
+      clashes = λ v. omega (arith, row_balance (clashing v) (Drop k) (Some f) h);
+      playing = λ p. absurd (not_both f.phase h.ready p);
+      few = omega (arith, holding-under f k.admission d, ok.few);
+      proper = ok.in_whole k.admission;
+    })
+
+add_sound : (w : Whole) (k : Setup) (f : Session) → Own (Add k) (Some f) → SoundSession w f → SoundSession w (with_under f k.admission (streaming (Some k.stream) (under f k.admission)))
+add_sound w k f h ok =
     let d = streaming (Some k.stream) (under f k.admission) in
     let g = with_under f k.admission d in
     let own : of_session (clashing k.stream) g ≤ 1 = omega (arith, row_balance (clashing k.stream) (Add k) (Some f) h, h.no_clash, at_most_one (clash k.stream k.stream)) in
@@ -187,16 +193,24 @@ row_sound w b (Add k) (Some f) h g ok =
       few = omega (arith, holding-under f k.admission d, ok.few);
       in_whole = λ b. at_under f k.admission d b (Proper w) (λ _. ok.in_whole k.admission) (ok.in_whole b);
     }
+
+-- phase, expiry and binding touch no admission
+same_admissions_sound : (w : Whole) (f : Session) (p : Phase) (e : ℕ) (k : Option (ℕ × ℕ)) → let g : Session = record f { phase = p; expires = e; binding = k } in
+    SoundSession w f → ((v : Stream) → of_session (clashing v) g ≤ of_session (clashing v) f) → (IsPlaying p → 0 < of_session streams g) → SoundSession w g
+same_admissions_sound w f p e k ok less plays =
+    record { normal = ok.normal; based = ok.based; apart = λ a v is. omega (arith, less v, ok.apart a v is); playing = plays; few = ok.few; in_whole = ok.in_whole }
+
+pub row_sound : (w : Whole) (b : Book) (r : Record) (o : Option Session) → Own r o → Others w r b → SoundRow w o → SoundRow w (effect r o)
+row_sound w b (Open k) o h g ok = opened_sound w k.id k.conn k.expires
+row_sound w b (Close k) o h g ok = tt
+row_sound w b (Hold k) None h g ok = absurd h
+row_sound w b (Hold k) (Some f) h g ok = hold_sound w b k f h g ok
+row_sound w b (Free k) None h g ok = absurd h
+row_sound w b (Free k) (Some f) h g ok = free_sound w k f h ok
+row_sound w b (Add k) None h g ok = absurd h
+row_sound w b (Add k) (Some f) h g ok = add_sound w k f h ok
 row_sound w b (Drop k) None h g ok = absurd h
-row_sound w b (Drop k) (Some f) h g ok =
-    let d = streaming None (under f k.admission) in
-    without_stream_sound w f k.admission d ok (record {
-      no_stream = refl;
-      clashes = λ v. omega (arith, row_balance (clashing v) (Drop k) (Some f) h);
-      playing = λ p. absurd (not_both f.phase h.ready p);
-      few = omega (arith, holding-under f k.admission d, ok.few);
-      proper = ok.in_whole k.admission;
-    })
+row_sound w b (Drop k) (Some f) h g ok = drop_sound w k f h ok
 row_sound w b (Move k) None h g ok = absurd h
 row_sound w b (Move k) (Some f) h g ok =
     same_admissions_sound w f k.to f.expires f.binding ok (λ v. omega (arith, row_balance (clashing v) (Move k) (Some f) h)) (λ is. omega (arith, row_balance streams (Move k) (Some f) h, h.stream is))
