@@ -1,10 +1,9 @@
 -- The records of a commit are allowed.
-use Rattle.std.proofs.Common.{◌≡◌, ◌≢◌, ◌==◌, ℕ, ◌≤◌, Bool, true, false, T, ◌||◌, not, cond, List, [], ◌∷◌, ◌++◌, refl, sym, ◌∙◌, ap, subst, arith}
+use Rattle.std.proofs.Common.{◌≡◌, ◌≢◌, ◌==◌, ℕ, ◌≤◌, Bool, true, false, ◌||◌, not, cond, List, [], ◌∷◌, ◌++◌, refl, sym, ◌∙◌, ap, subst, arith}
 use Rattle.std.specs.Prelude.{Option, Some, None, IsSome, sum_by}
-use Rattle.std.proofs.lemmas.Bool.Decides.{nat_tests}
+use Rattle.std.proofs.lemmas.Bool.Decides.{Decides-eqb, nat_tests}
 use Rattle.std.proofs.lemmas.List.Sums.{sum_by-cons}
-use Rattle.std.specs.Ordering.{nat_cmp}
-use Rattle.std.specs.FinMap.{find, entries, entries_sorted, is_sorted, get-entries}
+use Rattle.std.specs.FinMap.{entries, entries_sorted, get-entries}
 use Rattle.rtsp_record.specs.declared.streams.Stream.{Stream}
 use Rattle.rtsp_record.specs.declared.holdings.Whole.{Whole}
 use Rattle.rtsp_record.specs.declared.changes.Record.{Record}
@@ -17,49 +16,18 @@ use Rattle.rtsp_record.specs.Rules.{IsReady, AllAllowed}
 use Rattle.rtsp_sessions.specs.Searches.{first_with, is_track, is_of_track}
 use Rattle.rtsp_book.specs.Returns.{dropping, freeing, freeing_rate}
 use Rattle.rtsp_book.specs.Made.{adding}
-use Rattle.rtsp_record.proofs.Tables.{own, at_key}
 use Rattle.rtsp_record.proofs.Rows.{under-own, under-else, normal-under}
+use Rattle.rtsp_record.proofs.Options.{nought}
 use Rattle.rtsp_record.proofs.Balance.{gain, row_balance, balance}
 use Rattle.rtsp_record.specs.Sound.{SoundSession}
 use Rattle.rtsp_record.proofs.Sound.{one_is, clash_itself, stream_counts}
 use Rattle.rtsp_record.proofs.Trims.{AllFine}
-use Rattle.rtsp_book.proofs.Runs.{Run, run-append, Lone, all_lone, fine-append, sorted_parts, below_none}
+use Rattle.rtsp_sessions.proofs.FirstRows.{first_found, first_passes}
+use Rattle.rtsp_book.proofs.Runs.{Run, run-append, Lone, all_lone, fine-append}
 use Rattle.rtsp_book.proofs.Ending.{dropping_run, freeing_run, freeing_rate_run, giving_dropping, giving_freeing, giving_freeing_rate}
-
-module _ {X : Type 0} where
-  -- the first that passes does
-  pub first_passes : (p : ℕ × X → Bool) (es : List (ℕ × X)) (e : ℕ × X) → first_with p es ≡ Some e → p e ≡ true
-  first_passes p [] e h = absurd cc
-  first_passes p (x ∷ es) e h =
-      elim (p x) as (λ t. p x ≡ t → cond t (Some x) (first_with p es) ≡ Some e → p e ≡ true) [
-        | true ↦ λ is h. let same : x ≡ e = cc in sym (ap p same) ∙ is
-        | false ↦ λ _ h. first_passes p es e h
-      ] refl h
-
-  -- and stands at its number
-  pub first_found : (p : ℕ × X → Bool) (es : List (ℕ × X)) (e : ℕ × X) → T (is_sorted nat_cmp es) → first_with p es ≡ Some e → find nat_cmp e.0 es ≡ Some e.1
-  first_found p [] e sorted h = absurd cc
-  first_found p (x ∷ es) e sorted h =
-      let parts = sorted_parts x es sorted in
-      elim (p x) as (λ t. cond t (Some x) (first_with p es) ≡ Some e → find nat_cmp e.0 (x ∷ es) ≡ Some e.1) [
-        | true ↦ λ h. let same : x ≡ e = cc in ap (λ (e : ℕ × X). find nat_cmp e.0 (x ∷ es)) (sym same) ∙ ap (λ t. cond t (Some x.1) (find nat_cmp x.0 es)) (own x.0) ∙ ap (λ (e : ℕ × X). Some e.1) same
-        | false ↦ λ h.
-            let there = first_found p es e parts.1 h in
-            at_key x.0 e.0 (λ t. cond t (Some x.1) (find nat_cmp e.0 es) ≡ Some e.1) (λ _ same. absurd (none_some e.1 (sym (below_none x.0 es parts.0) ∙ sym (ap (λ k. find nat_cmp k es) same) ∙ there))) (λ _. there)
-      ] h
-    where
-      none_some : (x : X) → ◌≡◌ {A = Option X} None (Some x) → ⊥
-      none_some x e = cc
-
-is_same : (n m : ℕ) → (n == m) ≡ true → n ≡ m
-is_same n m h = grind (arith, nat_tests)
 
 other_way : (n m : ℕ) → (n == m) ≡ false → (m == n) ≡ false
 other_way n m h = grind (arith, nat_tests)
-
-nought : {X : Type 0} (o : Option X) → if_there (λ _. 0) o ≡ 0
-nought None = refl
-nought (Some x) = refl
 
 off_track : (v : Stream) (o : Option Stream) → is_track v.track o ≡ false → if_there (clashing v).stream o ≡ if_there (elsewhere v).stream o
 off_track v None h = refl
@@ -119,7 +87,7 @@ module _ (s a b : ℕ) (v u : Stream) (f : Session) (d : Admission) (may : MayCo
 
   no_clash_left : (w : Whole) → SoundSession w f → of_session (clashing v) downed ≡ 0
   no_clash_left w ok =
-      let place : v.presentation ≡ u.presentation = is_same v.presentation u.presentation (zero_if (v.presentation == u.presentation) (omega (arith, stream_counts (elsewhere v) f b u there, may.same_place))) in
+      let place : v.presentation ≡ u.presentation = (Decides-eqb v.presentation u.presentation).0 (zero_if (v.presentation == u.presentation) (omega (arith, stream_counts (elsewhere v) f b u there, may.same_place))) in
       let none_left : of_session (clashing u) downed ≡ 0 = omega (arith, row_balance (clashing u) (drops s b u) (Some f) (record { ready = may.ready; there = there }), ap (λ d. of_session (clashing u) (with_under f b (streaming None d))) is, ok.apart b u there, one_is _ (clash_itself u)) in
       same_clash v u downed (sym track) place ∙ none_left
 
@@ -165,7 +133,7 @@ the_track : (w : Whole) (s a : ℕ) (v : Stream) (f : Session) (e : ℕ × Admis
 the_track w s a v f e ok may is track =
     elim (e.1.stream) as (λ o. e.1.stream ≡ o → is_track v.track o ≡ true → Adding s a v f (Some e)) [
       | None ↦ λ _ h. absurd cc
-      | Some u ↦ λ some h. replaced s a e.0 v u f e.1 may is some (is_same u.track v.track h) w ok
+      | Some u ↦ λ some h. replaced s a e.0 v u f e.1 may is some ((Decides-eqb u.track v.track).0 h) w ok
     ] refl track
 
 pub adding_run : (w : Whole) (s a : ℕ) (v : Stream) (f : Session) → SoundSession w f → MayCommit f a v → Adding s a v f (first_with (is_of_track v.track) (entries f.admissions))

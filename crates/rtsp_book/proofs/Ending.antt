@@ -27,7 +27,8 @@ use Rattle.rtsp_record.proofs.Balance.{rate_there}
 use Rattle.rtsp_record.specs.Sound.{SoundSession}
 use Rattle.rtsp_record.proofs.Strands.{row_after}
 use Rattle.rtsp_record.proofs.Trims.{AllFine}
-use Rattle.rtsp_book.proofs.Runs.{OwnAll, row_after-append, own-append, Run, run-none, run-append, run-to, Giving, fine-append, sorted_parts, below_none}
+use Rattle.rtsp_sessions.proofs.FirstRows.{sorted_parts, below_none}
+use Rattle.rtsp_book.proofs.Runs.{OwnAll, row_after-append, own-append, Run, run-none, run-append, run-to, Giving, fine-append}
 
 -- a session that can give back all that stands under its admissions
 pub record Givable (f : Session) : Type 0 where

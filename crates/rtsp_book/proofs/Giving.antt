@@ -2,6 +2,7 @@
 use Rattle.std.proofs.Common.{◌≡◌, ℕ, ◌+◌, ◌*◌, ◌≤◌, true, false, T, ◌&&◌, ◌||◌, not, cond, List, [], ◌∷◌, ◌++◌, length, refl, sym, ◌∙◌, ap, subst, arith}
 use Rattle.std.specs.Prelude.{Option, Some, None, IsSome, is_some, nat_lt, sum_by}
 use Rattle.std.proofs.lemmas.List.Sums.{sum_by-cons}
+use Rattle.std.proofs.lemmas.Option.{none-some}
 use Rattle.std.specs.Ordering.{nat_cmp}
 use Rattle.std.specs.FinMap.{get, find, entries, entries_sorted, is_sorted, get-entries}
 use Rattle.rtsp_record.specs.declared.holdings.Thing.{Thing}
@@ -28,7 +29,8 @@ use Rattle.rtsp_record.proofs.Balance.{row_balance, row_sum}
 use Rattle.rtsp_record.specs.Sound.{SoundSession, SoundRow, Sound}
 use Rattle.rtsp_record.proofs.Sound.{sound_of, at_most_one}
 use Rattle.rtsp_record.proofs.Trims.{AllFine}
-use Rattle.rtsp_book.proofs.Runs.{Giving, lone_session, giving_lone, row_at, settles, fine-append, owed_given, sorted_parts, below_none}
+use Rattle.rtsp_sessions.proofs.FirstRows.{sorted_parts, below_none}
+use Rattle.rtsp_book.proofs.Runs.{Giving, lone_session, giving_lone, row_at, settles, fine-append, owed_given}
 use Rattle.rtsp_book.proofs.Ending.{giving_under, giving_unbinding, giving_ending}
 use Rattle.rtsp_book.proofs.Granted.{accepted, made_granted}
 
@@ -44,9 +46,6 @@ row_given w s b (r ∷ rs) g h =
         let own : Own r (get b s) = subst (λ q. Own r (get b q)) same h in
         omega (arith, row_balance returns r (get b s) own, settles s r g, ap (λ q. row_sum returns q (effect r (get b s))) same, ap (λ q. row_sum returns q (get b s)) same, ap (row_sum returns s) (row_at s b r (giving_lone s r g)))
 
-none_some : {X : Type 0} (x : X) → ◌≡◌ {A = Option X} None (Some x) → ⊥
-none_some x e = cc
-
 sums_le : {X : Type 0} (v u : ℕ × X → ℕ) (es : List (ℕ × X)) → T (is_sorted nat_cmp es) → ((k : ℕ) (x : X) → find nat_cmp k es ≡ Some x → v (k, x) ≤ u (k, x)) → sum_by v es ≤ sum_by u es
 sums_le v u [] sorted le = omega arith
 sums_le v u (e ∷ es) sorted le =
@@ -56,7 +55,7 @@ sums_le v u (e ∷ es) sorted le =
       sum_by-cons v e es,
       sum_by-cons u e es,
       le e.0 e.1 (ap (λ t. cond t (Some e.1) (find nat_cmp e.0 es)) (own e.0)),
-      sums_le v u es parts.1 (λ k x there. le k x (at_key e.0 k (λ t. cond t (Some e.1) (find nat_cmp k es) ≡ Some x) (λ _ same. absurd (none_some x (sym (below_none e.0 es parts.0) ∙ sym (ap (λ k. find nat_cmp k es) same) ∙ there))) (λ _. there))),
+      sums_le v u es parts.1 (λ k x there. le k x (at_key e.0 k (λ t. cond t (Some e.1) (find nat_cmp k es) ≡ Some x) (λ _ same. absurd (none-some x (sym (below_none e.0 es parts.0) ∙ sym (ap (λ k. find nat_cmp k es) same) ∙ there))) (λ _. there))),
     )
 
 if_there_one : {X : Type 0} (o : Option X) → if_there (λ _. 1) o ≡ one_if (is_some o)

@@ -48,7 +48,8 @@ use Rattle.rtsp_book.proofs.Ending.{giving_run, ending_own, giving_under, giving
 use Rattle.rtsp_record.proofs.Choices.{chosen_pair, chosen_port, chosen_chan_free}
 use Rattle.rtsp_book.proofs.Tests.{none_there, some_there, turned, no_more, some_more, ready_is}
 use Rattle.rtsp_book.proofs.TakenBack.{own_return, two_back}
-use Rattle.rtsp_book.proofs.Committing.{first_found, MayCommit, Adding, adding_run, lone_adding, lone_bound}
+use Rattle.rtsp_sessions.proofs.FirstRows.{first_found}
+use Rattle.rtsp_book.proofs.Committing.{MayCommit, Adding, adding_run, lone_adding, lone_bound}
 
 -- no refusal fits
 pub record NoneFits (c : Refusals) : Type 0 where

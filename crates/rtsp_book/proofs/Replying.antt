@@ -1,13 +1,10 @@
 -- What the replies rest on: look-ups as counts, and how long an end is.
-use Rattle.std.proofs.Common.{◌≡◌, ◌==◌, ℕ, ◌+◌, ◌≤◌, ◌<◌, Bool, true, false, ◌||◌, cond, List, [], ◌∷◌, ◌++◌, length, drop, flat_map, refl, sym, ◌∙◌, ap, subst, arith, add-one, drop-cons, append_assoc, length-append}
-use Rattle.std.specs.Prelude.{Option, Some, None, Ok, is_some, nat_lt, sum_by, option_map, slice_get}
+use Rattle.std.proofs.Common.{◌≡◌, ℕ, ◌+◌, ◌≤◌, ◌<◌, Bool, false, ◌||◌, List, [], ◌∷◌, ◌++◌, length, drop, flat_map, refl, sym, ◌∙◌, ap, subst, arith, add-one, drop-cons, append_assoc, length-append}
+use Rattle.std.specs.Prelude.{Option, Some, None, Ok, is_some, nat_lt, option_map, slice_get}
 use Rattle.std.proofs.lemmas.Bool.{or_parts}
-use Rattle.std.proofs.lemmas.Bool.Decides.{nat_tests}
-use Rattle.std.proofs.lemmas.List.Sums.{sum_by-cons}
 use Rattle.std.proofs.lemmas.Option.{slice_get_within, get_or_from_slice_get}
 use Rattle.std.specs.FinMap.{get, entries, entries_sorted, get-entries}
 use Rattle.rtsp_record.specs.declared.holdings.Whole.{Whole}
-use Rattle.rtsp_record.specs.declared.holdings.Admission.{Admission}
 use Rattle.rtsp_record.specs.declared.holdings.Thing.{Thing}
 use Rattle.rtsp_book.specs.declared.steps.Commit.{Commit}
 use Rattle.rtsp_record.specs.declared.changes.Record.{Record}
@@ -15,20 +12,20 @@ use Rattle.rtsp_record.specs.declared.changes.Record.TheVariants.{Open, Close, H
 use Rattle.rtsp_record.specs.Records.{holds}
 use Rattle.rtsp_record.specs.declared.payloads.Life.{Life}
 use Rattle.rtsp_record.specs.Books.{Session, Book}
-use Rattle.rtsp_record.specs.Sums.{living, if_there, of_session, one_if, amount, with_id, bindings, owed}
+use Rattle.rtsp_record.specs.Sums.{living, amount, with_id, owed}
 use Rattle.rtsp_record.specs.Rules.{Own, AllAllowed, IsFree}
 use Rattle.rtsp_sessions.specs.Searches.{first_with}
-use Rattle.rtsp_sessions.specs.Lookups.{TakesNone, TakesNoMemory, session_at, number_of, with_id_in, with_startup_in, is_startup}
+use Rattle.rtsp_sessions.specs.Lookups.{TakesNone, TakesNoMemory, session_at, number_of}
 use Rattle.rtsp_book.specs.Made.{committing, made}
 use Rattle.rtsp_book.specs.declared.steps.Step.{Step}
 use Rattle.rtsp_book.specs.Replies.{is_wrong_hold, is_wrong_commit, is_startup_taken, is_unready_commit, refusals, answer, is_growing, IsAskable}
 use Rattle.rtsp_book.specs.Laws.{IsGranted, GivesBack}
 use Rattle.rtsp_record.proofs.Trims.{AllFine}
+use Rattle.rtsp_sessions.proofs.FirstRows.{first_found}
 use Rattle.rtsp_book.proofs.Tests.{none_there, no_more}
 use Rattle.rtsp_book.proofs.Granted.{accepted, made_granted, own_hold, committed}
 use Rattle.rtsp_record.specs.Sound.{SoundRow, Sound}
 use Rattle.rtsp_book.specs.Returns.{ending}
-use Rattle.rtsp_book.proofs.Committing.{first_found}
 use Rattle.rtsp_book.proofs.Runs.{OwnAll, Giving, all_lone, lone_allowed}
 use Rattle.rtsp_book.proofs.Ending.{ending_own, giving_ending}
 use Rattle.rtsp_book.proofs.Giving.{gives_back, made_gives}
@@ -48,40 +45,6 @@ found_view b p s h =
 -- no number passes where no session does
 pub none_found : (p : ℕ × Session → Bool) (es : List (ℕ × Session)) → None ≡ number_of p es → None ≡ first_with p es
 none_found p es h = elim (first_with p es) as (λ o. None ≡ option_map (λ e. e.0) o → None ≡ o) [ None ↦ λ _. refl | Some e ↦ λ h. absurd cc ] h
-
--- one passes where the count of those that pass isn't 0
-found_counted : (p : ℕ × Session → Bool) (w : ℕ × Session → ℕ) → ((e : ℕ × Session) → w e ≡ one_if (p e)) → (es : List (ℕ × Session)) → is_some (number_of p es) ≡ nat_lt 0 (sum_by w es)
-found_counted p w same [] = refl
-found_counted p w same (e ∷ es) =
-    elim (p e) as (λ t. p e ≡ t → is_some (option_map (λ (e : ℕ × Session). e.0) (cond t (Some e) (first_with p es))) ≡ nat_lt 0 (sum_by w (e ∷ es))) [
-      | true ↦ λ is. sym (above (sum_by w (e ∷ es)) (omega (arith, sum_by-cons w e es, same e, ap one_if is)))
-      | false ↦ λ is. found_counted p w same es ∙ ap (nat_lt 0) (omega (arith, sum_by-cons w e es, same e, ap one_if is))
-    ] refl
-  where
-    above : (n : ℕ) → 0 < n → nat_lt 0 n ≡ true
-    above n h = grind (arith, nat_tests)
-
-nought : {X : Type 0} (o : Option X) → if_there (λ _. 0) o ≡ 0
-nought None = refl
-nought (Some x) = refl
-
-no_things : (es : List (ℕ × Admission)) → sum_by (λ e. if_there (λ _. 0) e.1.rate + if_there (λ _. 0) e.1.address + if_there (λ _. 0) e.1.stream) es ≡ 0
-no_things [] = refl
-no_things (e ∷ es) = omega (arith, no_things es, sum_by-cons (λ (e : ℕ × Admission). if_there (λ _. 0) e.1.rate + if_there (λ _. 0) e.1.address + if_there (λ _. 0) e.1.stream) e es, nought e.1.rate, nought e.1.address, nought e.1.stream)
-
--- a session has the id where one with it is counted
-pub id_counted : (b : Book) (id : ℕ) → is_some (with_id_in id (entries b)) ≡ nat_lt 0 (amount (with_id id) b)
-id_counted b id =
-    found_counted (λ e. e.1.id == id) (λ e. of_session (with_id id) e.1) (λ e. omega (arith, nought e.1.binding, no_things (entries e.1.admissions))) (entries b)
-
-bound_once : (c i : ℕ) (o : Option (ℕ × ℕ)) → if_there (bindings c i).binding o ≡ one_if (is_startup c i o)
-bound_once c i None = refl
-bound_once c i (Some k) = refl
-
--- a session has the startup number where a binding of it is counted
-pub startup_counted : (b : Book) (c i : ℕ) → is_some (with_startup_in c i (entries b)) ≡ nat_lt 0 (amount (bindings c i) b)
-startup_counted b c i =
-    found_counted (λ e. is_startup c i e.1.binding) (λ e. of_session (bindings c i) e.1) (λ e. omega (arith, bound_once c i e.1.binding, no_things (entries e.1.admissions))) (entries b)
 
 -- Rows given back one after another.
 

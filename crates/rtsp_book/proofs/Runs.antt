@@ -1,11 +1,7 @@
 -- Runs of records of one session.
-use Rattle.std.proofs.Common.{◌≡◌, ℕ, ◌+◌, false, T, not, cond, List, [], ◌∷◌, ◌++◌, length, refl, sym, ◌∙◌, ap, subst, arith}
-use Rattle.std.specs.Prelude.{Option, Some, None}
-use Rattle.std.specs.Ordering.{nat_cmp, is_eq, is_lt}
-use Rattle.std.specs.declared.cmp.Ordering.{Ordering}
-use Rattle.std.specs.declared.cmp.Ordering.TheVariants.{Less, Equal, Greater}
-use Rattle.std.specs.FinMap.{get, find, is_sorted}
-use Rattle.std.specs.FinMap.Entries.{below_all}
+use Rattle.std.proofs.Common.{◌≡◌, ℕ, ◌+◌, false, not, List, [], ◌∷◌, ◌++◌, length, refl, sym, ◌∙◌, ap, subst, arith}
+use Rattle.std.specs.Prelude.{Option, Some}
+use Rattle.std.specs.FinMap.{get}
 use Rattle.rtsp_record.specs.declared.holdings.Whole.{Whole}
 use Rattle.rtsp_record.specs.declared.changes.Record.{Record}
 use Rattle.rtsp_record.specs.declared.changes.Record.TheVariants.{Open, Close, Hold, Free, Add, Drop, Move, Touch, Bind, Unbind}
@@ -17,7 +13,6 @@ use Rattle.rtsp_record.proofs.Tables.{get-set_own}
 use Rattle.rtsp_record.proofs.Balance.{gain, balance}
 use Rattle.rtsp_record.proofs.Strands.{row_after}
 use Rattle.rtsp_record.proofs.Trims.{AllFine}
-use Rattle.rtsp_sessions.proofs.SortedRows.{both_parts}
 
 -- each is allowed by the session's own row after those before it
 abbrev pub OwnAll : List Record → Option Session → Type 0
@@ -142,21 +137,3 @@ settles s (Unbind k) h = refl
 pub owed_given : (w : Whole) (s : ℕ) (b : Book) (rs : List Record) → AllFine (Giving s) rs → AllAllowed w b rs → length rs + owed (after_all b rs) ≡ owed b
 owed_given w s b [] g h = omega arith
 owed_given w s b (r ∷ rs) g h = omega (arith, owed_given w s (after b r) rs g.1 h.1, balance returns b r h.0.0, settles s r g.0)
-
--- Rows of a table one after another.
-
-not_eq : (r : Ordering) → T (is_lt r) → is_eq r ≡ false
-not_eq Less h = refl
-not_eq Equal h = absurd h
-not_eq Greater h = absurd h
-
-module _ {X : Type 0} where
-  pub sorted_parts : (e : ℕ × X) (es : List (ℕ × X)) → T (is_sorted nat_cmp (e ∷ es)) → T (below_all nat_cmp e.0 es) × T (is_sorted nat_cmp es)
-  sorted_parts e es h = both_parts _ _ h
-
-  -- a number below all isn't found
-  pub below_none : (k : ℕ) (es : List (ℕ × X)) → T (below_all nat_cmp k es) → find nat_cmp k es ≡ None
-  below_none k [] h = refl
-  below_none k (e ∷ es) h =
-      let parts = both_parts _ _ h in
-      ap (λ t. cond t (Some e.1) (find nat_cmp k es)) (not_eq (nat_cmp k e.0) parts.0) ∙ below_none k es parts.1

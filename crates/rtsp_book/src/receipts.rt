@@ -4,6 +4,7 @@ ghost use Rattle.std.specs.Prelude.{◌≡◌, ◌<◌, ◌≤◌, [], ◌∷◌
 ghost use Rattle.rtsp_book.specs.Receipts.{freed_pairs, freed_ports, freed_as};
 
 use rtsp_record::{Holding, Record, Renewal, Thing};
+use rtsp_sessions::UdpPorts;
 use std::marker::Model;
 
 /// The greatest number of records of one step.
@@ -70,14 +71,14 @@ impl Receipt {
     pub fn freed_pairs(&self) -> FreedPorts
         ensures { result ≡ freed_pairs self.now }
     {
-        freed_in(self.records(), Kind::Pair)
+        freed_in(self.records(), UdpPorts::Pair)
     }
 
     /// The ports that were freed, each held by itself.
     pub fn freed_ports(&self) -> FreedPorts
         ensures { result ≡ freed_ports self.now }
     {
-        freed_in(self.records(), Kind::Port)
+        freed_in(self.records(), UdpPorts::Port)
     }
 }
 
@@ -126,35 +127,28 @@ impl FreedPorts {
     }
 }
 
-// What is looked for among what was freed.
-#[derive(Clone, Copy)]
-enum Kind {
-    Pair,
-    Port,
-}
-
-// What a record frees of this kind, by its first port, with its admission.
-fn freed_as(kind: Kind, change: &Record) -> Option<(u64, u16)>
-    ensures { result ≡ freed_as kind change.now }
+// What a record frees of such ports, by its first port, with its admission.
+fn freed_as(ports: UdpPorts, change: &Record) -> Option<(u64, u16)>
+    ensures { result ≡ freed_as ports change.now }
 {
     let Record::Free(holding) = change else {
         return None;
     };
-    match (kind, holding.thing) {
-        (Kind::Pair, Thing::Pair(port)) | (Kind::Port, Thing::Port(port)) => {
+    match (ports, holding.thing) {
+        (UdpPorts::Pair, Thing::Pair(port)) | (UdpPorts::Port, Thing::Port(port)) => {
             Some((holding.admission, port))
         }
         _ => None,
     }
 }
 
-fn freed_in(changes: &[Record], kind: Kind) -> FreedPorts
+fn freed_in(changes: &[Record], ports: UdpPorts) -> FreedPorts
     requires { length changes.now ≤ 64 }
-    ensures { result ≡ filter_map (freed_as kind) changes.now }
+    ensures { result ≡ filter_map (freed_as ports) changes.now }
 {
     let mut freed = FreedPorts::new();
     for change in changes {
-        if let Some((admission, first_port)) = freed_as(kind, change) {
+        if let Some((admission, first_port)) = freed_as(ports, change) {
             freed.push(admission, first_port);
         }
     }

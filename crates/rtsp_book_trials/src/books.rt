@@ -326,7 +326,12 @@ fn shows_the_stream(view: &SessionView) -> bool {
 }
 
 fn shows_no_more(view: &SessionView) -> bool {
-    view.binding().is_none() && view.with_track(0).is_some() && !view.has_channels_of(1)
+    view.binding().is_none()
+        && view.with_track(0).is_some()
+        && !view.has_channels_of(1)
+        && !view.is_bound(1, 7)
+        && !view.is_bound_on(1)
+        && !view.is_on(1)
 }
 
 #[test]

@@ -1,21 +1,20 @@
 -- Parts that agree stay so.
-use Rattle.std.proofs.Common.{◌≡◌, ◌==◌, ℕ, ◌+◌, ◌<◌, Bool, true, false, not, cond, List, [], ◌∷◌, length, drop, get_or, add-one, drop-cons, refl, sym, ◌∙◌, ap, subst, arith}
-use Rattle.std.specs.Prelude.{Option, Some, None, IsTrue, option_map, sum_by, count_by, is_some}
+use Rattle.std.proofs.Common.{◌≡◌, ℕ, ◌+◌, ◌<◌, Bool, true, false, not, List, [], ◌∷◌, length, drop, get_or, add-one, drop-cons, refl, sym, ◌∙◌, ap, subst, arith}
+use Rattle.std.specs.Prelude.{Option, IsTrue, count_by, is_some, nat_lt}
 use Rattle.std.specs.FinMap.{entries}
+use Rattle.std.proofs.lemmas.Bool.Decides.{nat_tests}
 use Rattle.std.proofs.lemmas.List.Sums.{sum_by-cons}
 use Rattle.rtsp_record.specs.declared.holdings.Whole.{Whole}
 use Rattle.rtsp_record.specs.declared.changes.Record.{Record}
 use Rattle.rtsp_record.specs.declared.changes.Record.TheVariants.{Hold, Bind}
-use Rattle.rtsp_record.specs.Books.{Session, Book, after, after_all}
-use Rattle.rtsp_record.specs.Sums.{one_if, of_session, amount, with_id, bindings}
+use Rattle.rtsp_record.specs.Books.{Book, after, after_all}
+use Rattle.rtsp_record.specs.Sums.{one_if, amount, with_id, bindings}
 use Rattle.rtsp_record.specs.Rules.{Allowed, AllAllowed}
 use Rattle.rtsp_record.specs.Sound.{Sound}
-use Rattle.rtsp_record.proofs.Options.{nought, no_admissions}
 use Rattle.rtsp_record.proofs.Sound.{sound-after}
-use Rattle.rtsp_sessions.specs.Searches.{first_with}
-use Rattle.rtsp_sessions.specs.Lookups.{number_of, is_startup, with_id_in, with_startup_in, TakesNone, TakesNoMemory}
+use Rattle.rtsp_sessions.specs.Lookups.{with_id_in, with_startup_in, TakesNone, TakesNoMemory}
 use Rattle.rtsp_sessions.specs.Plain.{FitsIn, is_open}
-use Rattle.rtsp_sessions.proofs.Bindings.{bound_once}
+use Rattle.rtsp_sessions.proofs.Counted.{id_counted, startup_counted}
 use Rattle.rtsp_sessions.proofs.FitLemmas.{all_fit}
 use Rattle.rtsp_index.specs.declared.counts.Counts.{Counts}
 use Rattle.rtsp_index.specs.declared.names.Names.{Names}
@@ -91,44 +90,24 @@ pub none_holds : (rs : List Record) → TakesNoMemory rs → count_by is_chan_ho
 none_holds [] h = refl
 none_holds (r ∷ rs) h = omega (arith, sum_by-cons (λ r. one_if (is_chan_hold r)) r rs, none_holds rs h.1, no_chans r h.0)
 
--- no number is found where none is counted
-
-counts_none : (p : ℕ × Session → Bool) (u : ℕ × Session → ℕ) → ((e : ℕ × Session) → u e ≡ one_if (p e)) → (es : List (ℕ × Session)) → number_of p es ≡ None → sum_by u es ≡ 0
-counts_none p u same [] h = refl
-counts_none p u same (e ∷ es) h =
-    elim (p e) as (λ t. p e ≡ t → option_map (λ (e : ℕ × Session). e.0) (cond t (Some e) (first_with p es)) ≡ None → sum_by u (e ∷ es) ≡ 0) [
-      | true ↦ λ _ h. absurd cc
-      | false ↦ λ off h. omega (arith, sum_by-cons u e es, same e, ap one_if off, counts_none p u same es h)
-    ] refl h
-
-none_counted : (p : ℕ × Session → Bool) (u : ℕ × Session → ℕ) → ((e : ℕ × Session) → u e ≡ one_if (p e)) → (es : List (ℕ × Session)) → sum_by u es ≡ 0 → number_of p es ≡ None
-none_counted p u same [] h = refl
-none_counted p u same (e ∷ es) h =
-    elim (p e) as (λ t. p e ≡ t → option_map (λ (e : ℕ × Session). e.0) (cond t (Some e) (first_with p es)) ≡ None) [
-      | true ↦ λ on. absurd (omega (arith, h, sum_by-cons u e es, same e, ap one_if on))
-      | false ↦ λ _. none_counted p u same es (omega (arith, h, sum_by-cons u e es))
-    ] refl
-
 abbrev pub Both : Type 0 → Type 0 → Type 0
 Both A B = (A → B) × (B → A)
 
-missing : {X : Type 0} (o : Option X) (t : Bool) → is_some o ≡ not t → Both (IsTrue t) (o ≡ None)
-missing None true h = (λ _. refl, λ _. refl)
-missing None false h = absurd cc
-missing (Some x) true h = absurd cc
-missing (Some x) false h = (λ bad. absurd cc, λ bad. absurd cc)
+-- a test that none is there, and their number
+none_there : (t : Bool) (n : ℕ) → not t ≡ nat_lt 0 n → Both (IsTrue t) (n ≡ 0)
+none_there true n h = (λ _. is_zero n (sym h), λ _. refl)
+  where
+    is_zero : (n : ℕ) → nat_lt 0 n ≡ false → n ≡ 0
+    is_zero n h = grind (arith, nat_tests)
+none_there false n h = (λ bad. absurd cc, λ none. absurd (cc (h, ap (nat_lt 0) none)))
 
 -- no session has the id where none is counted
 pub id_free : (b : Book) (i : ℕ) (o : Option ℕ) (t : Bool) → o ≡ with_id_in i (entries b) → is_some o ≡ not t → Both (IsTrue t) (amount (with_id i) b ≡ 0)
-id_free b i o t is seen =
-    let each : (e : ℕ × Session) → of_session (with_id i) e.1 ≡ one_if (e.1.id == i) = λ e. omega (arith, nought e.1.binding, no_admissions (entries e.1.admissions)) in
-    (λ h. counts_none (λ e. e.1.id == i) (λ e. of_session (with_id i) e.1) each (entries b) (sym is ∙ (missing o t seen).0 h), λ h. (missing o t seen).1 (is ∙ none_counted (λ e. e.1.id == i) (λ e. of_session (with_id i) e.1) each (entries b) h))
+id_free b i o t is seen = none_there t (amount (with_id i) b) (sym seen ∙ ap is_some is ∙ id_counted b i)
 
 -- no session has the startup number where none is counted
 pub startup_free : (b : Book) (c i : ℕ) (o : Option ℕ) (t : Bool) → o ≡ with_startup_in c i (entries b) → is_some o ≡ not t → Both (IsTrue t) (amount (bindings c i) b ≡ 0)
-startup_free b c i o t is seen =
-    let each : (e : ℕ × Session) → of_session (bindings c i) e.1 ≡ one_if (is_startup c i e.1.binding) = λ e. omega (arith, bound_once c i e.1.binding, no_admissions (entries e.1.admissions)) in
-    (λ h. counts_none (λ e. is_startup c i e.1.binding) (λ e. of_session (bindings c i) e.1) each (entries b) (sym is ∙ (missing o t seen).0 h), λ h. (missing o t seen).1 (is ∙ none_counted (λ e. is_startup c i e.1.binding) (λ e. of_session (bindings c i) e.1) each (entries b) h))
+startup_free b c i o t is seen = none_there t (amount (bindings c i) b) (sym seen ∙ ap is_some is ∙ startup_counted b c i)
 
 -- The next of the records.
 

@@ -3,6 +3,6 @@ pub mod SortedRows
 pub mod FirstRows
 pub mod FixedRows
 pub mod FitLemmas
-pub mod Bindings
+pub mod Counted
 pub mod FreeLemmas
 pub mod PlainLemmas

@@ -3,8 +3,8 @@ use Rattle.std.specs.Prelude.{ℕ, ◌*◌, Bool, Option}
 use Rattle.rtsp_record.specs.declared.holdings.Whole.{Whole}
 use Rattle.rtsp_record.specs.Books.{Book}
 use Rattle.rtsp_record.specs.Choices.{least_of, from_on, is_pair_free, is_port_free}
-use Rattle.rtsp_sessions.specs.declared.plain.choices.UdpPorts.{UdpPorts}
-use Rattle.rtsp_sessions.specs.declared.plain.choices.UdpPorts.TheVariants as udp
+use Rattle.rtsp_sessions.specs.declared.udp_ports.UdpPorts.{UdpPorts}
+use Rattle.rtsp_sessions.specs.declared.udp_ports.UdpPorts.TheVariants as udp
 
 -- from the first port of one to that of the next
 abbrev pub step_of : UdpPorts → ℕ

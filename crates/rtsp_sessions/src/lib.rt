@@ -15,6 +15,7 @@ mod measures;
 mod plain;
 mod representation;
 mod startups;
+mod udp_ports;
 mod views;
 
 pub use admissions::{Admissions, MOST_HOLDING};
@@ -22,4 +23,5 @@ pub use measures::Measure;
 pub use plain::{PlainBook, allowed_for_session};
 pub use representation::BookRep;
 pub use startups::Startup;
+pub use udp_ports::UdpPorts;
 pub use views::SessionView;

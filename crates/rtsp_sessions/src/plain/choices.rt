@@ -6,15 +6,9 @@ ghost use Rattle.rtsp_sessions.specs.Plain.{InOrder, table_of};
 ghost use Rattle.rtsp_sessions.specs.Ports.{step_of, count_in, is_free_at, least_free};
 
 use super::amounts::{is_chan_free, is_pair_free, is_port_free};
+use crate::udp_ports::UdpPorts;
 use crate::views::SessionView;
 use rtsp_record::Whole;
-
-// What is looked for among the ports: a pair, or one port.
-#[derive(Clone, Copy)]
-enum UdpPorts {
-    Pair,
-    Port,
-}
 
 impl UdpPorts {
     // How many of them the whole has.

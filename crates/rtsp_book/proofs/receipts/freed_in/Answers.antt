@@ -9,8 +9,8 @@ use Rattle.rtsp_book.proofs.receipts.freed_in.Goals.{in-Some, in_default}
 pub loop-change-preserved : goal.loop-change-preserved
 loop-change-preserved c =
     let i = c.loop-change.change-index in
-    let one = freed_as c.args.kind in
-    let next = freed_next c.args.kind c.args.changes.now i c.change-item.result c.freed_as.result c.loop-change-test.true (c.freed_as.ensures ∙ ap one c.change-item.is) in
+    let one = freed_as c.args.ports in
+    let next = freed_next c.args.ports c.args.changes.now i c.change-item.result c.freed_as.result c.loop-change-test.true (c.freed_as.ensures ∙ ap one c.change-item.is) in
     let before = filter_map one (take i c.args.changes.now) in
     elim c.match-freed_as.branch [
       | in-Some w ↦

@@ -6,6 +6,6 @@ use Rattle.rtsp_book.proofs.receipts.freed_in.Given as goal
 abbrev pub invariant-loop-change : goal.invariant-loop-change
 invariant-loop-change l =
     record {
-      found : l.freed ≡ filter_map (freed_as l.kind) (take l.change-index l.changes);
+      found : l.freed ≡ filter_map (freed_as l.ports) (take l.change-index l.changes);
       few : length l.freed ≤ l.change-index;
     }

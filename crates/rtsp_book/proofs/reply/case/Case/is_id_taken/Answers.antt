@@ -1,7 +1,7 @@
 use Rattle.std.proofs.Common.{◌||◌, sym, ◌∙◌, ap}
 use Rattle.std.specs.Prelude.{is_some, nat_lt}
 use Rattle.rtsp_record.specs.Sums.{amount, with_id}
-use Rattle.rtsp_book.proofs.Replying.{id_counted}
+use Rattle.rtsp_sessions.proofs.Counted.{id_counted}
 use Rattle.rtsp_book.proofs.reply.case.Case.is_id_taken.Goals as goal
 
 pub returns-else-lives : goal.returns-else-lives
