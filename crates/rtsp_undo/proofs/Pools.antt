@@ -1,5 +1,6 @@
 -- The covered ports and the free ones are all ports of the whole.
 use Rattle.std.proofs.Common.{◌≡◌, ◌==◌, ℕ, ◌+◌, ◌*◌, ◌<◌, ◌≤◌, zero, suc, Bool, true, false, ◌||◌, List, [], ◌∷◌, refl, sym, ◌∙◌, ap, arith}
+use Rattle.std.proofs.lemmas.Bool.{eq-eqb, ne_eqb}
 use Rattle.std.proofs.lemmas.Bool.Decides.{nat_tests}
 use Rattle.std.specs.Prelude.{Option, Some, None, sum_by}
 use Rattle.std.proofs.lemmas.List.Sums.{sum_by-cons}
@@ -17,6 +18,7 @@ use Rattle.rtsp_record.specs.Sums.{Measure, nothing, one_if, if_there, of_admiss
 use Rattle.rtsp_record.specs.Rules.{Allowed, AllAllowed, IsLegal}
 use Rattle.rtsp_record.specs.Sound.{Sound}
 use Rattle.rtsp_record.proofs.Balance.{balance}
+use Rattle.rtsp_record.proofs.Options.{nought}
 use Rattle.rtsp_record.proofs.Sound.{same_nat, amount-empty, sound-empty, sound-after}
 use Rattle.rtsp_record.proofs.Back.{allowed-inverse, after-inverse}
 use Rattle.rtsp_record.specs.Choices.{count_of, is_free}
@@ -32,9 +34,6 @@ held_at b q = amount (covering (UdpPort q)) b
 
 abbrev counted : Whole → Book → ℕ
 counted w b = amount ports b + free_ports w b
-
-test_off : (n m : ℕ) → (n ≡ m → ⊥) → (n == m) ≡ false
-test_off n m h = grind (arith, nat_tests)
 
 pub count_same : (step : ℕ) (f g : ℕ → Bool) (p n : ℕ) → ((q : ℕ) → p ≤ q → f q ≡ g q) → count_of step f p n ≡ count_of step g p n
 unfolding count_of
@@ -53,16 +52,13 @@ unfolding count_of
 free_less g h p zero k x within at more free = absurd (omega (arith, within))
 free_less g h p (suc n) zero x within at more free =
     let here : x ≡ p = omega (arith, at) in
-    let held : h p ≡ 1 = omega (arith, more p, ap one_if (same_is p x (sym here)), ap g here, free) in
-    let off : free_at h p ≡ false = test_off (h p) 0 (λ none. omega (arith, held, none)) in
-    let on : free_at g p ≡ true = same_is (g p) 0 (ap g (sym here) ∙ free) in
-    let rest = count_same 1 (free_at h) (free_at g) (p + 1) n (λ q le. ap (λ m. m == 0) (omega (arith, more q, ap one_if (test_off q x (λ e. omega (arith, e, here, le)))))) in
+    let held : h p ≡ 1 = omega (arith, more p, ap one_if (eq-eqb p x (sym here)), ap g here, free) in
+    let off : free_at h p ≡ false = ne_eqb (h p) 0 (λ none. omega (arith, held, none)) in
+    let on : free_at g p ≡ true = eq-eqb (g p) 0 (ap g (sym here) ∙ free) in
+    let rest = count_same 1 (free_at h) (free_at g) (p + 1) n (λ q le. ap (λ m. m == 0) (omega (arith, more q, ap one_if (ne_eqb q x (λ e. omega (arith, e, here, le)))))) in
     omega (arith, ap one_if off, ap one_if on, rest)
-  where
-    same_is : (n m : ℕ) → n ≡ m → (n == m) ≡ true
-    same_is n m h = grind (arith, nat_tests)
 free_less g h p (suc n) (suc k) x within at more free =
-    let first : h p ≡ g p = omega (arith, more p, ap one_if (test_off p x (λ e. omega (arith, e, at)))) in
+    let first : h p ≡ g p = omega (arith, more p, ap one_if (ne_eqb p x (λ e. omega (arith, e, at)))) in
     omega (arith, ap (λ m. one_if (m == 0)) first, free_less g h (p + 1) n k x (omega (arith, within)) (omega (arith, at)) more free)
 
 -- what a pair covers is its first port and its second
@@ -99,7 +95,7 @@ counted_hold w b s a (Pair x) h =
     let middle : ℕ → ℕ = λ q. held_at b q + one_if (q == x) in
     let more : (q : ℕ) → held_at c q ≡ middle q + one_if (q == x + 1) = λ q. omega (arith, balance (covering (UdpPort q)) b (holds s a (Pair x)) h.0, two_ports q x) in
     let one = free_less (held_at b) middle w.first_port (2 * w.pairs) (2 * i) x (omega (arith, place.1)) place.2 (λ q. refl) first in
-    let two = free_less middle (held_at c) w.first_port (2 * w.pairs) (2 * i + 1) (x + 1) (omega (arith, place.1)) (omega (arith, place.2)) more (omega (arith, second, ap one_if (test_off (x + 1) x (λ e. omega (arith, e))))) in
+    let two = free_less middle (held_at c) w.first_port (2 * w.pairs) (2 * i + 1) (x + 1) (omega (arith, place.1)) (omega (arith, place.2)) more (omega (arith, second, ap one_if (ne_eqb (x + 1) x (λ e. omega (arith, e))))) in
     omega (arith, balance ports b (holds s a (Pair x)) h.0, one, two)
   where
     one_of : (t u : Bool) → u ≡ true → (t || u) ≡ true
@@ -137,10 +133,6 @@ if_there_both f g h (Some x) is = is x
 sum_both : {X : Type 0} (f g h : X → ℕ) (xs : List X) → ((x : X) → h x ≡ 2 * f x + g x) → sum_by h xs ≡ 2 * sum_by f xs + sum_by g xs
 sum_both f g h [] is = omega arith
 sum_both f g h (x ∷ xs) is = omega (arith, sum_by-cons f x xs, sum_by-cons g x xs, sum_by-cons h x xs, is x, sum_both f g h xs is)
-
-nought : {X : Type 0} (o : Option X) → if_there (λ _. 0) o ≡ 0
-nought None = refl
-nought (Some x) = refl
 
 admission_both : (f g h : Thing → ℕ) (d : Admission) → ((x : Thing) → h x ≡ 2 * f x + g x) → of_admission (things h) d ≡ 2 * of_admission (things f) d + of_admission (things g) d
 admission_both f g h d is = omega (arith, if_there_both (λ n. f (Rate n)) (λ n. g (Rate n)) (λ n. h (Rate n)) d.rate (λ n. is (Rate n)), if_there_both f g h d.address is, nought d.stream)
