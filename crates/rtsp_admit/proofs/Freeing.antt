@@ -23,7 +23,7 @@ use Rattle.rtsp_sessions.specs.Searches.{first_with}
 use Rattle.rtsp_book.specs.Sessions.{has_stream_under, is_ready}
 use Rattle.rtsp_sessions.specs.Searches.{is_of_track, is_track}
 use Rattle.rtsp_book.specs.Made.{adding, binding_to, committing, of_living, made}
-use Rattle.rtsp_book.proofs.Committing.{first_passes, first_found}
+use Rattle.rtsp_sessions.proofs.FirstRows.{first_passes, first_found}
 use Rattle.rtsp_book.proofs.Granted.{accepted}
 use Rattle.rtsp_book.proofs.Runs.{fine-append}
 use Rattle.rtsp_lock.specs.declared.view.View.{View}

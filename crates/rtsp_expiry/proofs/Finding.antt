@@ -1,13 +1,11 @@
 -- What one step of a sweep does: the first row that passes, or none.
-use Rattle.std.proofs.Common.{◌≡◌, ℕ, Bool, true, false, List, [], ◌∷◌, cond, refl, ap, sym, ◌∙◌, subst, append-nil, ⊎_elim, Option, Some, None, Result, Ok, Err}
+use Rattle.std.proofs.Common.{◌≡◌, ℕ, Bool, true, false, List, cond, refl, sym, ◌∙◌, subst, append-nil, ⊎_elim, Option, Some, None, Result, Ok, Err}
 use Rattle.std.specs.Prelude.{is_none}
-use Rattle.std.specs.Ordering.{nat_cmp}
-use Rattle.std.specs.FinMap.{find, get, entries, get-entries}
+use Rattle.std.specs.FinMap.{entries, get-entries}
 use Rattle.rtsp_record.specs.declared.changes.Entry.{Entry}
 use Rattle.rtsp_record.specs.declared.changes.Record.{Record}
 use Rattle.rtsp_record.specs.declared.holdings.Whole.{Whole}
-use Rattle.rtsp_record.specs.Books.{Session, Book, book_of}
-use Rattle.rtsp_record.proofs.Tables.{at_key}
+use Rattle.rtsp_record.specs.Books.{Session, book_of}
 use Rattle.rtsp_sessions.specs.Searches.{first_with, is_expired, is_on}
 use Rattle.rtsp_book.specs.declared.refusals.Refusal.{Refusal}
 use Rattle.rtsp_book.specs.declared.refusals.Refusal.TheVariants.{NothingDue}
@@ -16,7 +14,7 @@ use Rattle.rtsp_book.specs.declared.steps.Step.TheVariants as step
 use Rattle.rtsp_book.specs.Replies.{IsAskable}
 use Rattle.rtsp_book.specs.Answers.{Answers}
 use Rattle.rtsp_book.specs.Made.{ending_found, hanging_up}
-use Rattle.rtsp_book.proofs.Committing.{first_passes}
+use Rattle.rtsp_sessions.proofs.FirstRows.{first_passes, none_passes}
 use Rattle.rtsp_lock.specs.declared.view.View.{View}
 use Rattle.rtsp_lock.specs.Calls.{Acted}
 use Rattle.rtsp_expiry.specs.Sweeps.{IsSweeping}
@@ -52,19 +50,6 @@ none_first test all es is =
       | None ↦ λ err. refl
       | Some e ↦ λ ok. absurd cc
     ] is
-
--- where no row passes, none that stands at a number does
-none_passes : (test : ℕ × Session → Bool) (es : List (ℕ × Session)) (s : ℕ) (f : Session) → first_with test es ≡ None → find nat_cmp s es ≡ Some f → test (s, f) ≡ false
-none_passes test [] s f none there = absurd cc
-none_passes test (x ∷ es) s f none there =
-    elim (test x) as (λ t. test x ≡ t → cond t (Some x) (first_with test es) ≡ None → test (s, f) ≡ false) [
-      | true ↦ λ _ some. absurd cc
-      | false ↦ λ fails rest.
-          at_key x.0 s (λ t. cond t (Some x.1) (find nat_cmp s es) ≡ Some f → test (s, f) ≡ false)
-          (λ _ key here. let row : x.1 ≡ f = cc in ap (λ (k : ℕ). test (k, f)) key ∙ (ap (λ (g : Session). test (x.0, g)) (sym row) ∙ fails))
-          (λ _ later. none_passes test es s f rest later)
-          there
-    ] refl none
 
 pub expired : (w : Whole) (j : List Entry) (now : ℕ) (made : List Record) → Answers w j (step.Expire now) (Ok made) → FoundRow (is_expired now) ended made
 expired w j now made is = found (is_expired now) ending_found (entries (book_of j)) made is

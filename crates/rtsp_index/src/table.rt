@@ -22,8 +22,8 @@ use slab::Slab;
 use std::alloc::{AllocError, Global};
 
 /// The living sessions. Each has a place, where its row stands until it ends. No row is moved when
-/// another comes or goes, but where there is no room for one more: then the slab grows, and all move
-/// once. A session's expiry stands once more beside the others', of which the least is at hand.
+/// another comes or goes, but where there is no room for one more: the slab grows then, and moves
+/// all once. A session's expiry stands once more beside the others', of which the least is at hand.
 #[derive(Drop)]
 pub(crate) struct SessionTable {
     places: IndexMap<u64, usize>,

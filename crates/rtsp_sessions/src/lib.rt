@@ -5,8 +5,8 @@
 //! is a book that is a vector of its sessions.
 //!
 //! The definitions of `specs/` read in this order: Searches (the first row that passes), Lookups,
-//! Measures (what the code counts), Codes and Plain (how a plain book is kept), Ports (what it tries
-//! one after another).
+//! Measures (what the code counts), Codes and Plain (how a plain book is kept), Ports (what it
+//! tries one after another).
 
 #![tactic(auto)]
 
