@@ -2,6 +2,7 @@
 use Rattle.std.proofs.Common.{◌≡◌, ℕ, ◌≤◌, ◌<◌, Bool, true, false, ◌&&◌, List, [], ◌∷◌, length, refl, sym, ◌∙◌, ap, subst, arith, Ok}
 use Rattle.std.specs.Prelude.{Option, Some, None, is_none, nat_le}
 use Rattle.std.proofs.lemmas.Bool.Decides.{nat_tests}
+use Rattle.std.proofs.lemmas.Option.{none-some, same_Some}
 use Rattle.rtsp_record.specs.declared.changes.Record.{Record}
 use Rattle.rtsp_record.specs.declared.holdings.Thing.TheVariants.{Pair, Port}
 use Rattle.rtsp_record.specs.declared.holdings.Whole.{Whole}
@@ -82,21 +83,15 @@ first_of : (kind : UdpPorts) (p : ℕ) → first_port_of (ports_from kind p) ≡
 first_of udp.Pair p = refl
 first_of udp.Port p = refl
 
-same_some : (x y : ℕ) → ◌≡◌ {A = Option ℕ} (Some x) (Some y) → x ≡ y
-same_some x y e = cc
-
-none_some : (x : ℕ) → ◌≡◌ {A = Option ℕ} None (Some x) → ⊥
-none_some x e = cc
-
 -- they are told by the first of them
 pub ports_held : (ask : Ask) (kind : UdpPorts) (from p : ℕ) (v u : View) (rs : List Record) → Acted v u (ports_step ask kind from) (Ok rs) → Some p ≡ first_port_in rs → Held ask (ports_step ask kind from) (ports_from kind p) v u
 ports_held ask kind from p v u rs acted told =
     let ports = ports_made ask kind from v u rs acted in
-    let first : p ≡ ports.first = same_some p ports.first (told ∙ ap first_port_in ports.is ∙ first_of kind ports.first) in
+    let first : p ≡ ports.first = same_Some p ports.first (told ∙ ap first_port_in ports.is ∙ first_of kind ports.first) in
     let is : rs ≡ holds ask.session ask.admission (ports_from kind p) ∷ [] = subst (λ (n : ℕ). rs ≡ holds ask.session ask.admission (ports_from kind n) ∷ []) (sym first) ports.is in
     subst (λ (l : List Record). Acted v u (ports_step ask kind from) (Ok l)) is acted
 
 pub some_held : (ask : Ask) (kind : UdpPorts) (from : ℕ) (v u : View) (rs : List Record) → Acted v u (ports_step ask kind from) (Ok rs) → None ≡ first_port_in rs → ⊥
 some_held ask kind from v u rs acted told =
     let ports = ports_made ask kind from v u rs acted in
-    none_some ports.first (told ∙ ap first_port_in ports.is ∙ first_of kind ports.first)
+    none-some ports.first (told ∙ ap first_port_in ports.is ∙ first_of kind ports.first)

@@ -1,8 +1,8 @@
 -- The numbers under which a seat holds and adds.
-use Rattle.std.proofs.Common.{◌≡◌, ◌≢◌, ◌==◌, ℕ, zero, suc, true, false, cond, List, [], ◌∷◌, ◌++◌, refl, sym, ◌∙◌, ap, subst, arith, inl, inr, Result, Ok, Err}
+use Rattle.std.proofs.Common.{◌≡◌, ◌≢◌, ◌==◌, ℕ, zero, suc, true, false, cond, List, [], ◌∷◌, ◌++◌, refl, sym, ◌∙◌, ap, subst, inl, inr, Result, Ok, Err}
 use Rattle.std.specs.Prelude.{Option, Some, None, nat_lt}
-use Rattle.std.proofs.lemmas.Bool.{cases_eq}
-use Rattle.std.proofs.lemmas.Bool.Decides.{nat_tests}
+use Rattle.std.proofs.lemmas.Bool.{cases_eq, ne_eqb}
+use Rattle.std.proofs.lemmas.Option.{none-some, same_Some}
 use Rattle.std.proofs.lemmas.List.Elements.{filter-append}
 use Rattle.std.specs.FinMap.{get, entries}
 use Rattle.rtsp_record.specs.declared.holdings.Admission.{Admission}
@@ -68,10 +68,7 @@ quiet_giving n s (r ∷ rs) g = (one r g.0, quiet_giving n s rs g.1)
     one r h = refl
 
 other : (a n : ℕ) → n ≢ a → (a == n) ≡ false
-other a n apart = elim (a == n) as (λ t. (a == n) ≡ t → t ≡ false) [ true ↦ λ on. absurd (apart (sym (is_same a n on))) | false ↦ λ _. refl ] refl
-  where
-    is_same : (a n : ℕ) → (a == n) ≡ true → a ≡ n
-    is_same a n h = grind (arith, nat_tests)
+other a n apart = ne_eqb a n (λ e. apart (sym e))
 
 quiet_pair : (n s a : ℕ) (o : Option ℕ) → n ≢ a → Quiet n (hold_chosen s a (as_pair o))
 quiet_pair n s a None apart = tt
@@ -146,12 +143,6 @@ quiet_answer n v u step (Err r) apart acted = refl
 quiet_answer n v u step (Ok rs) apart acted =
     subst (λ rs. uses n (entries_by v.actor rs) ≡ []) (made_is v u step rs acted) (quiet_entries n v.actor (made v.whole (book_of acted.journal) step) (quiet_made n v.whole (book_of acted.journal) step apart))
 
-none_some : {X : Type 0} (x : X) → ◌≡◌ {A = Option X} None (Some x) → ⊥
-none_some x e = cc
-
-same_some : (x y : ℕ) → ◌≡◌ {A = Option ℕ} (Some x) (Some y) → x ≡ y
-same_some x y e = cc
-
 pub acts_use_drawn : ActsUseDrawn
 acts_use_drawn v u step answer own names acted =
     let e = entries_by v.actor (written answer) in
@@ -159,10 +150,10 @@ acts_use_drawn v u step answer own names acted =
     λ n apart some.
     subst (λ d. Has d n) (sym acted.drawn) (own n (λ none. some (ap (uses n) acted.mine ∙ filter-append (λ (e : Entry). is_use_of n e.change) v.mine e ∙ ap (λ l. l ++ uses n e) none ∙ quiet_answer n v u step answer apart acted))) in
     elim (admission_of step) as (λ o. admission_of step ≡ o → UsesDrawn u) [
-      | None ↦ λ is n some. old n (λ a there. absurd (none_some a (sym is ∙ there))) some
+      | None ↦ λ is n some. old n (λ a there. absurd (none-some a (sym is ∙ there))) some
       | Some x ↦ λ is n some. elim (cases_eq n x) [
         | inl same ↦ subst (λ k. Has u.drawn k) (sym same) (subst (λ d. Has d x) (sym acted.drawn) (names x is))
-        | inr apart ↦ old n (λ a there same. apart (same ∙ same_some a x (sym there ∙ is))) some
+        | inr apart ↦ old n (λ a there same. apart (same ∙ same_Some a x (sym there ∙ is))) some
       ]
     ] refl
 
@@ -198,10 +189,10 @@ module _ (ask : Ask) where
       (acts_use_drawn v u step answer own.0 (λ x is. subst (Has v.drawn) (sym (of x is)) own.1) acted, subst (λ d. Has d ask.admission) (sym acted.drawn) own.1)
 
   owns_own : (v u : View) (step : Step) (answer : Result (List Record) Refusal) → admission_of step ≡ Some ask.admission → Acted v u step answer → Owns v → Owns u
-  owns_own v u step answer is acted own = owns v u step answer (λ x there. same_some x ask.admission (sym there ∙ is)) acted own
+  owns_own v u step answer is acted own = owns v u step answer (λ x there. same_Some x ask.admission (sym there ∙ is)) acted own
 
   owns_none : (v u : View) (step : Step) (answer : Result (List Record) Refusal) → admission_of step ≡ None → Acted v u step answer → Owns v → Owns u
-  owns_none v u step answer is acted own = owns v u step answer (λ x there. absurd (none_some x (sym is ∙ there))) acted own
+  owns_none v u step answer is acted own = owns v u step answer (λ x there. absurd (none-some x (sym is ∙ there))) acted own
 
   owns_held : (v u : View) (step : Step) (x : Thing) → admission_of step ≡ Some ask.admission → Held ask step x v u → Owns v → Owns u
   owns_held v u step x is held own = owns_own v u step (Ok (holds ask.session ask.admission x ∷ [])) is held own

@@ -1,8 +1,7 @@
 -- What a Commit frees is of other admissions.
-use Rattle.std.proofs.Common.{◌≡◌, ◌==◌, ℕ, Bool, true, false, ◌&&◌, ◌||◌, not, List, [], ◌∷◌, ◌++◌, refl, ◌∙◌, ap, subst, arith, Ok}
+use Rattle.std.proofs.Common.{◌≡◌, ◌==◌, ℕ, Bool, true, false, ◌&&◌, ◌||◌, not, List, [], ◌∷◌, ◌++◌, refl, ◌∙◌, ap, subst, Ok}
 use Rattle.std.specs.Prelude.{Option, Some, None, is_some}
-use Rattle.std.proofs.lemmas.Bool.{or_parts}
-use Rattle.std.proofs.lemmas.Bool.Decides.{nat_tests}
+use Rattle.std.proofs.lemmas.Bool.{ne_eqb, or_parts}
 use Rattle.std.specs.FinMap.{get, entries, entries_sorted, get-entries}
 use Rattle.rtsp_record.specs.declared.holdings.Admission.{Admission}
 use Rattle.rtsp_record.specs.declared.holdings.Thing.{Thing}
@@ -91,9 +90,6 @@ other_adding a s v (Some e) apart =
     fine-append (FreesOther a) (dropping s e.0 e.1.stream) (adds s a v ∷ (freeing s e.0 e.1.address ++ freeing_rate s e.0 e.1.rate)) (other_dropping a s e.0 e.1.stream)
     (tt, fine-append (FreesOther a) (freeing s e.0 e.1.address) (freeing_rate s e.0 e.1.rate) (other_freeing a s e.0 e.1.address off) (other_rate a s e.0 e.1.rate off))
 
-is_same : (n m : ℕ) → (n == m) ≡ true → n ≡ m
-is_same n m h = grind (arith, nat_tests)
-
 on_track : (t : ℕ) (o : Option Stream) → is_track t o ≡ true → is_some o ≡ true
 on_track t None h = absurd cc
 on_track t (Some v) h = refl
@@ -107,10 +103,7 @@ other_admission f a t e none some =
     let there : under f e.0 ≡ e.1 = ap or_bare (get-entries f.admissions e.0 ∙ first_found (is_of_track t) (entries f.admissions) e (entries_sorted f.admissions) some) in
     let on : is_some e.1.stream ≡ true = on_track t e.1.stream (first_passes (is_of_track t) (entries f.admissions) e some) in
     let stream : has_stream_under f e.0 ≡ true = ap (λ (d : Admission). is_some d.stream) there ∙ on in
-    elim (a == e.0) as (λ v. (a == e.0) ≡ v → v ≡ false) [
-      | true ↦ λ same. absurd (on_off (has_stream_under f a) (ap (has_stream_under f) (is_same a e.0 same) ∙ stream) none)
-      | false ↦ λ _. refl
-    ] refl
+    ne_eqb a e.0 (λ same. on_off (has_stream_under f a) (ap (has_stream_under f) same ∙ stream) none)
 
 other_living : (c : Commit) (o : Option Session) → if_living o (is_wrong_commit c.admission c.stream) ≡ false → AllFine (FreesOther c.admission) (of_living o (committing c))
 other_living c None right = tt

@@ -1,6 +1,7 @@
 -- What stands under an admission while it is under way.
 use Rattle.std.proofs.Common.{◌≡◌, ◌≢◌, ◌⊎◌, ◌==◌, ℕ, Bool, true, false, ◌&&◌, not, cond, List, [], ◌∷◌, ◌++◌, length, refl, sym, ◌∙◌, ap, subst, arith, inl, inr, ⊎_elim}
 use Rattle.std.specs.Prelude.{Option, Some, None, is_some}
+use Rattle.std.proofs.lemmas.Bool.{eqb-false}
 use Rattle.std.proofs.lemmas.Bool.Decides.{nat_tests}
 use Rattle.std.specs.FinMap.{get, empty}
 use Rattle.rtsp_record.specs.declared.holdings.Thing.{Thing}
@@ -23,9 +24,6 @@ use Rattle.rtsp_book.proofs.Runs.{row_after-append}
 use Rattle.rtsp_record.proofs.Back.{after_all-append}
 use Rattle.rtsp_book.proofs.Keeping.{records-append}
 use Rattle.rtsp_admit.specs.Refused.{is_use_of, uses}
-
-is_other : (n m : ℕ) → (n == m) ≡ false → n ≢ m
-is_other n m h = λ e. absurd (grind (arith, nat_tests))
 
 -- at most these two things, a rate and an address, and no stream
 pub record Upto (x y : Option Thing) (d : Admission) : Type 0 where
@@ -60,12 +58,12 @@ pub quiet_row : (a : ℕ) (x y : Option Thing) (r : Record) (o : Option Session)
 quiet_row a x y (Open l) o off h = subst (Upto x y) (sym (under_opened l.id l.conn l.expires a)) (upto_bare x y)
 quiet_row a x y (Close l) o off h = tt
 quiet_row a x y (Hold k) None off h = tt
-quiet_row a x y (Hold k) (Some f) off h = at_under f k.admission (holding k.thing (under f k.admission)) a (Upto x y) (λ e. absurd (is_other k.admission a off (sym e))) h
+quiet_row a x y (Hold k) (Some f) off h = at_under f k.admission (holding k.thing (under f k.admission)) a (Upto x y) (λ e. absurd (eqb-false k.admission a off (sym e))) h
 quiet_row a x y (Free k) None off h = tt
 quiet_row a x y (Free k) (Some f) off h =
     at_under f k.admission (freed k.thing (under f k.admission)) a (Upto x y) (λ e. upto_freed x y k.thing (under f k.admission) (subst (λ c. Upto x y (under f c)) e h)) h
 quiet_row a x y (Add d) None off h = tt
-quiet_row a x y (Add d) (Some f) off h = at_under f d.admission (streaming (Some d.stream) (under f d.admission)) a (Upto x y) (λ e. absurd (is_other d.admission a off (sym e))) h
+quiet_row a x y (Add d) (Some f) off h = at_under f d.admission (streaming (Some d.stream) (under f d.admission)) a (Upto x y) (λ e. absurd (eqb-false d.admission a off (sym e))) h
 quiet_row a x y (Drop d) None off h = tt
 quiet_row a x y (Drop d) (Some f) off h =
     at_under f d.admission (streaming None (under f d.admission)) a (Upto x y) (λ e. upto_dropped x y (under f d.admission) (subst (λ c. Upto x y (under f c)) e h)) h

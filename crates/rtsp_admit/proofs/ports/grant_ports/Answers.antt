@@ -8,14 +8,14 @@ use Rattle.rtsp_admit.proofs.ports.grant_ports.Goals as goal
 
 pub returns-in-Bound-clause-ok : goal.returns-in-Bound-clause-ok
 returns-in-Bound-clause-ok g c =
-    let was = c.loop-first.invariant.1 in
+    let was = c.loop-first.invariant in
     record {
       first = c.in-Bound.first;
       is = c.thing.ensures;
-      tried = was.0;
+      tried = was.tried;
       from = c.loop-first.from;
       between = state_of c.loop-first.seat c.loop-first.binder;
-      tries = was.1;
+      tries = was.tries;
       last = c.in-Bound.ensures.tried;
     }
 
@@ -25,19 +25,18 @@ returns-in-Bound-clause-address g c = subst IsAddress (sym c.thing.ensures) (is_
 pub loop-first-preserved : goal.loop-first-preserved
 loop-first-preserved g c =
     let was = c.loop-first.invariant in
-    let same = c.try_ports.ensures.same in (
-      (same.0 ∙ was.0.0, same.1 ∙ was.0.1),
-      (
-        c.in-Returned.first ∷ was.1.0,
-        record {
-          start = c.loop-first.from;
-          between = state_of c.loop-first.seat c.loop-first.binder;
-          before = was.1.1;
-          returned = c.in-Returned.ensures.tried;
-          next = c.next_above-from.ensures;
-        },
-      ),
-    )
+    let same = c.try_ports.ensures.same in
+    record {
+      same = (same.0 ∙ was.same.0, same.1 ∙ was.same.1);
+      tried = c.in-Returned.first ∷ was.tried;
+      tries = record {
+        start = c.loop-first.from;
+        between = state_of c.loop-first.seat c.loop-first.binder;
+        before = was.tries;
+        returned = c.in-Returned.ensures.tried;
+        next = c.next_above-from.ensures;
+      };
+    }
 
 pub loop-first-smaller : goal.loop-first-smaller
 loop-first-smaller g c =
@@ -50,5 +49,5 @@ loop-first-smaller g c =
 
 pub returns-in-Refused-clause-err : goal.returns-in-Refused-clause-err
 returns-in-Refused-clause-err g c =
-    let was = c.loop-first.invariant.1 in
-    record { tried = was.0; from = c.loop-first.from; between = state_of c.loop-first.seat c.loop-first.binder; tries = was.1; last = c.in-Refused.ensures.tried }
+    let was = c.loop-first.invariant in
+    record { tried = was.tried; from = c.loop-first.from; between = state_of c.loop-first.seat c.loop-first.binder; tries = was.tries; last = c.in-Refused.ensures.tried }

@@ -4,8 +4,11 @@ use Rattle.rtsp_admit.specs.Runs.{Tried, state_of}
 use Rattle.rtsp_admit.proofs.ports.grant_ports.Given as goal
 
 abbrev pub invariant-loop-first : goal.invariant-loop-first
-invariant-loop-first g l =
-    SameSeat l.fn.seat l.seat × ((tried : List ℕ) × Tried g.B.Binder.calls l.ask l.kind tried l.from (state_of l.fn.seat l.fn.binder) (state_of l.seat l.binder))
+invariant-loop-first g l = record {
+  same : SameSeat l.fn.seat l.seat;
+  tried : List ℕ;
+  tries : Tried g.B.Binder.calls l.ask l.kind tried l.from (state_of l.fn.seat l.fn.binder) (state_of l.seat l.binder);
+}
 
 -- each try is for ports above those before
 abbrev pub decreases-loop-first : goal.decreases-loop-first

@@ -8,19 +8,18 @@ use Rattle.rtsp_expiry.proofs.sweeping.act_all.Goals as goal
 pub loop-ended-preserved : goal.loop-ended-preserved
 loop-ended-preserved g c =
     let was = c.loop-ended.invariant in
-    let same = c.act_into.ensures.same in (
-      (same.0 ∙ was.0.0, same.1 ∙ was.0.1),
-      (
-        c.act_into.new.made ∷ was.1.0,
-        record {
-          between = state_of c.loop-ended.seat c.loop-ended.binder;
-          before = was.1.1;
-          acted = c.in-Ok.ensures.acted;
-          unbound = c.unbind_freed.ensures;
-        },
-        omega (arith, was.1.2),
-      ),
-    )
+    let same = c.act_into.ensures.same in
+    record {
+      same = (same.0 ∙ was.same.0, same.1 ∙ was.same.1);
+      made = c.act_into.new.made ∷ was.made;
+      accepted = record {
+        between = state_of c.loop-ended.seat c.loop-ended.binder;
+        before = was.accepted;
+        acted = c.in-Ok.ensures.acted;
+        unbound = c.unbind_freed.ensures;
+      };
+      count = omega (arith, was.count);
+    }
 
 pub returns-in-Err-clause-run : goal.returns-in-Err-clause-run
 returns-in-Err-clause-run g c =
@@ -29,10 +28,10 @@ returns-in-Err-clause-run g c =
     let v = seat_view c.loop-ended.seat in
     let nothing = only_nothing v.whole acted.journal c.args.step.now c.in-Err.field-0 c.requires.step acted.answers in
     record {
-      made = was.1.0;
+      made = was.made;
       last = state_of c.loop-ended.seat c.loop-ended.binder;
-      accepted = was.1.1;
-      count = was.1.2;
+      accepted = was.accepted;
+      count = was.count;
       stops = record {
         below = c.loop-ended-test.true;
         refused = subst (λ (r : Refusal). Acted v (seat_view c.act_into.new.self) c.args.step.now (Err r)) nothing acted;
@@ -44,9 +43,9 @@ pub returns-clause-run : goal.returns-clause-run
 returns-clause-run g c =
     let was = c.loop-ended.invariant in
     record {
-      made = was.1.0;
+      made = was.made;
       last = state_of c.loop-ended.seat c.loop-ended.binder;
-      accepted = was.1.1;
-      count = omega (arith, was.1.2, c.loop-ended-test.false, c.loop-ended.auto.ended-end);
+      accepted = was.accepted;
+      count = omega (arith, was.count, c.loop-ended-test.false, c.loop-ended.auto.ended-end);
       stops = (refl, refl);
     }

@@ -6,5 +6,9 @@ use Rattle.rtsp_expiry.specs.Sweeps.{Accepted}
 use Rattle.rtsp_expiry.proofs.sweeping.act_all.Given as goal
 
 abbrev pub invariant-loop-ended : goal.invariant-loop-ended
-invariant-loop-ended g l =
-    SameSeat l.fn.seat l.seat × ((made : List (List Record)) × Accepted g.B.Binder.calls l.step made (state_of l.fn.seat l.fn.binder) (state_of l.seat l.binder) × (l.ended ≡ length made))
+invariant-loop-ended g l = record {
+  same : SameSeat l.fn.seat l.seat;
+  made : List (List Record);
+  accepted : Accepted g.B.Binder.calls l.step made (state_of l.fn.seat l.fn.binder) (state_of l.seat l.binder);
+  count : l.ended ≡ length made;
+}
