@@ -2,12 +2,10 @@
 
 ghost use Rattle.rtsp_lock.specs.Calls.{IsSeatOf};
 
-use crate::counted_words::CountedWords;
-use crate::devices::{NoPlays, StandingClock};
-use crate::exit::Exit;
-use crate::port_set::PortSet;
 use rtsp_book::Kept;
+use rtsp_command_line::Exit;
 use rtsp_content::Table;
+use rtsp_devices::{CountedWords, NoPlays, PortSet, StandingClock};
 use rtsp_engine::{Asker, ByteIn, ByteOut, Desk, ServeEnd};
 use rtsp_lock::{BookLock, BookSeat, LockBook, open};
 use rtsp_server::whole_of;

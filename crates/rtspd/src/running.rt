@@ -1,12 +1,11 @@
 //! The programs, by their command lines: a conversation over standard input and output, the audit
 //! of a journal, and the server.
 
-use crate::command_line::{CommandLine, read_words};
 use crate::example::EXAMPLE;
-use crate::exit::Exit;
 use crate::one_connection::OneConnection;
 use crate::serving::run_serve;
 use rtsp_book::PlainBook;
+use rtsp_command_line::{CommandLine, Exit, read_words};
 use rtsp_content::{Table, TableFault};
 use rtsp_engine::{ByteOut, CountedReader, CountedWriter, ServeEnd, StreamFault, TURNS};
 use rtsp_grammar::MessageFault;

@@ -1,7 +1,7 @@
 //! The program that serves the connections of a socket.
 
-use crate::exit::Exit;
 use crate::running::read_table;
+use rtsp_command_line::Exit;
 use rtsp_engine::{ByteOut, CountedWriter, StreamFault};
 use rtsp_server::{Server, ServerFault};
 use std::alloc::Global;

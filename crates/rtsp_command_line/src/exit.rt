@@ -1,0 +1,56 @@
+//! How a program ends.
+
+ghost use Rattle.std.specs.Prelude.{◌≡◌};
+ghost use Rattle.rtsp_command_line.specs.Exits.{status_of};
+
+use thiserror::Error;
+
+/// How a program ended: its exit status, and by `Display` its line on standard error, which is
+/// empty where all went well.
+#[derive(Clone, Copy, Debug, PartialEq, Eq, Error)]
+pub enum Exit {
+    /// All was done.
+    #[error("")]
+    Done,
+    /// The words after the program's name aren't a command line.
+    #[error("rtspd: bad command line")]
+    BadCommandLine,
+    /// The configuration is refused.
+    #[error("rtspd: bad configuration")]
+    BadConfiguration,
+    /// The journal's entry of this number, counted from 1, can't be read.
+    #[error("rtspd: entry {0}: not a record")]
+    NotARecord(u64),
+    /// The journal's entry of this number, counted from 1, doesn't follow from those before it.
+    #[error("rtspd: entry {0}: not allowed")]
+    NotAllowed(u64),
+    /// The journal has more lines than are read, or more entries than its limit allows.
+    #[error("rtspd: journal too long")]
+    JournalTooLong,
+    /// A file, a socket or a standard stream couldn't be read or written.
+    #[error("rtspd: read or write failed")]
+    DeviceFailed,
+    /// The connection ended with a message that can't be read.
+    #[error("rtspd: bad message")]
+    BadMessage,
+    /// Memory ran out.
+    #[error("rtspd: out of memory")]
+    OutOfMemory,
+}
+
+impl Exit {
+    /// The status that the process ends with.
+    pub fn status(&self) -> u8
+        ensures { result ≡ status_of self.now }
+    {
+        match self {
+            Exit::Done => 0,
+            Exit::BadCommandLine | Exit::BadConfiguration => 1,
+            Exit::NotARecord(_) => 2,
+            Exit::NotAllowed(_) | Exit::JournalTooLong => 3,
+            Exit::DeviceFailed => 4,
+            Exit::BadMessage => 5,
+            Exit::OutOfMemory => 6,
+        }
+    }
+}

@@ -1,0 +1,2 @@
+pub mod CountedWords
+pub mod PortSet

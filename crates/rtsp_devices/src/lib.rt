@@ -1,0 +1,17 @@
+//! What a program has in place of sockets, random words, a clock and whoever sends plays, where its
+//! answers are to be the same in each run.
+//!
+//! The definitions of `specs/` read in this order: PortSet (which ports are bound), CountedWords
+//! (words that are counted).
+
+#![tactic(auto)]
+
+mod counted_words;
+mod no_plays;
+mod port_set;
+mod standing_clock;
+
+pub use counted_words::CountedWords;
+pub use no_plays::NoPlays;
+pub use port_set::PortSet;
+pub use standing_clock::StandingClock;

@@ -1,0 +1,26 @@
+//! Who learns of plays where none is sent.
+
+use rtsp_engine::Plays;
+use std::alloc::{AllocError, Global};
+
+/// Nobody who learns of plays.
+#[derive(Drop)]
+pub struct NoPlays;
+
+impl Plays for NoPlays {
+    ghost use Rattle.std.specs.Prelude.{⊤};
+
+    ghost calls = { record { notes = λ b session cseq uri c. ⊤; lacks = λ b c. ⊥; settles = λ b accepted c. ⊤ } };
+
+    fn note(
+        &mut self,
+        _alloc: Global,
+        _session: u64,
+        _cseq: u32,
+        _uri: &[u8],
+    ) -> Result<(), AllocError> {
+        Ok(())
+    }
+
+    fn settle(&mut self, _accepted: bool) {}
+}

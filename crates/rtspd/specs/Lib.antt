@@ -1,4 +1,0 @@
-pub mod CountedWords
-pub mod PortSet
-pub mod CommandLine
-pub mod Exits
