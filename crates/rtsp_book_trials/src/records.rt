@@ -37,6 +37,8 @@ fn a_move_is_taken_back(rt: HostRuntime) {
     });
     assert!(rt; change.inverse() == back);
     assert!(rt; change.session() == 2);
+    assert!(rt; change.newly_owed() == 1);
+    assert!(rt; back.newly_owed() == 0);
 }
 
 const STREAM: Stream = Stream {
