@@ -14,7 +14,7 @@ use Rattle.rtsp_admit.specs.Runs.{Admits}
 use Rattle.rtsp_state.specs.declared.fault.Fault.TheVariants as faults
 use Rattle.rtsp_state.specs.declared.plan.Plan.{Plan}
 use Rattle.rtsp_state.specs.declared.plan.Plan.TheVariants as plans
-use Rattle.rtsp_state.specs.declared.plan.StepPlan.{StepPlan}
+use Rattle.rtsp_state.specs.declared.step_plan.StepPlan.{StepPlan}
 use Rattle.rtsp_state.specs.declared.setup_plan.Drawn.{Drawn}
 use Rattle.rtsp_state.specs.declared.setup_plan.SetupPlan.{SetupPlan}
 use Rattle.rtsp_state.specs.declared.status.Status.TheVariants.{ServerError, Unavailable}
