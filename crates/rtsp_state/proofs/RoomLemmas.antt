@@ -133,7 +133,6 @@ word_most words.SsrcIs = lit≤ tt
 word_most words.SeqIs = lit≤ tt
 word_most words.RtptimeIs = lit≤ tt
 word_most words.Comma = lit≤ tt
-word_most words.Slash = lit≤ tt
 word_most words.PositionIs = lit≤ tt
 word_most words.DurationIs = lit≤ tt
 word_most words.LineEnd = lit≤ tt
