@@ -58,15 +58,15 @@ grown_touch : (conn : ℕ) (name : Option Name) (step : Option Step) (found agai
     → Grown v u (touch_records conn name step found again v u run)
 grown_touch conn name None found again v u run = grown_none v u run.1
 grown_touch conn name (Some touch) found again v u run =
-    still v run.1 u run.0 (grown_acted v run.1 touch (Ok run.0) run.2) (grown_looks_again conn name run.0 found again run.1 u run.3)
+    still v run.between u run.made (grown_acted v run.between touch (Ok run.made) run.acted) (grown_looks_again conn name run.made found again run.between u run.looks)
 
 grown_numbers : (session : SetupSession) (id : ℕ) (n : Numbers) (v u : View) → DrawsNumbers session id n v u → Grown v u []
-grown_numbers (New expires startup) id n v u run = grown_then v run.1.0 u [] [] (grown_looked v run.1.0 run.1.1.looked) (grown_looked run.1.0 u run.1.2.looked)
+grown_numbers (New expires startup) id n v u run = grown_then v run.between u [] [] (grown_looked v run.between run.session.looked) (grown_looked run.between u run.admission.looked)
 grown_numbers (Living key) id n v u run = grown_looked v u run.1.looked
 
 grown_spent : (session : SetupSession) (at : Spent) (v u : View) → LacksNumber session at v u → Grown v u []
 grown_spent (New expires startup) spent.Session v u run = grown_looked v u run.looked
-grown_spent (New expires startup) spent.Admission v u run = grown_then v run.1 u [] [] (grown_looked v run.1 run.2.looked) (grown_looked run.1 u run.3.looked)
+grown_spent (New expires startup) spent.Admission v u run = grown_then v run.between u [] [] (grown_looked v run.between run.draws.looked) (grown_looked run.between u run.lacks.looked)
 grown_spent (Living key) spent.Session v u run = absurd run
 grown_spent (Living key) spent.Admission v u run = grown_looked v u run.looked
 
@@ -75,8 +75,8 @@ module _ {B W C P : Type 0} (d : Devices B W C P) where
   same_view s t same = grown_none s.view t.view (ap (λ (x : State B W C P). x.view) same)
 
   grown_setup : (conn : ℕ) (plan : SetupPlan) (outcome : SetUp) (s t : State B W C P) (run : SetsUp d conn plan outcome s t) → Grown s.view t.view (setup_records d conn plan outcome s t run)
-  grown_setup conn plan (NoWord at) s t run = grown_none s.view t.view run.1
-  grown_setup conn plan (NoNumber at) s t run = grown_spent plan.session at s.view t.view run.2
+  grown_setup conn plan (NoWord at) s t run = grown_none s.view t.view run.view
+  grown_setup conn plan (NoNumber at) s t run = grown_spent plan.session at s.view t.view run.number
   grown_setup conn plan (Tried n made) s t run =
       grown_then s.view run.between t.view [] (setup_records d conn plan (Tried n made) s t run) (grown_numbers plan.session run.given.id n s.view run.between run.numbers)
       (admissions_grow d.binder (ask_of plan (drawn_with conn run.given n)) made (record { view = run.between; binder = s.binder }) (record { view = t.view; binder = t.binder }) run.admits)

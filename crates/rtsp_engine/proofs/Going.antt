@@ -184,12 +184,12 @@ module _ {S : Type 0} (R : S → Item → List ℕ → S → Type 0) (L : S → 
   ends_told bytes text fault WriteFault s t h k =
       elim k [
         | inl part ↦ inl (record { text = text; gathered = inr (fault, h); part = part })
-        | inr mute ↦ inr (record { between = mute.0; fault = fault; faulted = gathered_fault bytes text fault s (with_text mute.0 t) h mute.1; part = mute.2 })
+        | inr mute ↦ inr (record { between = mute.between; fault = fault; faulted = gathered_fault bytes text fault s (with_text mute.between t) h mute.answers; part = mute.part })
       ]
   ends_told bytes text fault (Fault told) s t h k = record {
-    between = k.1.0;
-    faulted = subst (λ z. FaultedAfter R L bytes z s (with_text k.1.0 t)) (sym k.0) (gathered_fault bytes text fault s (with_text k.1.0 t) h k.1.1);
-    told = subst (λ z. Appends k.1.0 t.text (fault_response z)) (sym k.0) k.1.2;
+    between = k.1.between;
+    faulted = subst (λ z. FaultedAfter R L bytes z s (with_text k.1.between t)) (sym k.0) (gathered_fault bytes text fault s (with_text k.1.between t) h k.1.answers);
+    told = subst (λ z. Appends k.1.between t.text (fault_response z)) (sym k.0) k.1.told;
   }
   ends_told bytes text fault Closed s t h k = absurd k
   ends_told bytes text fault ReadFault s t h k = absurd k

@@ -39,7 +39,7 @@ use Rattle.rtsp_engine.specs.declared.serving.ServeEnd.TheVariants.{Closed, Read
 -- of a renewal
 abbrev pub touch_records : (conn : ℕ) (name : Option Name) (step : Option Step) (found again : Option (ℕ × Session)) (v u : View) → RenewsBy conn name step found again v u → List Record
 touch_records conn name None found again v u run = []
-touch_records conn name (Some touch) found again v u run = run.0
+touch_records conn name (Some touch) found again v u run = run.made
 
 abbrev pub renewal_records : (service : Service) (request : ParsedValue) (moment : ℕ) (found again : Option (ℕ × Session)) (v u : View)
     → Renews service request moment found again v u → List Record

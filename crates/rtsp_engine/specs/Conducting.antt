@@ -14,7 +14,7 @@ use Rattle.rtsp_admit.specs.Runs.{Admits}
 use Rattle.rtsp_state.specs.declared.fault.Fault.TheVariants as faults
 use Rattle.rtsp_state.specs.declared.plan.Plan.{Plan}
 use Rattle.rtsp_state.specs.declared.plan.Plan.TheVariants as plans
-use Rattle.rtsp_state.specs.declared.plan.StepPlan.{StepPlan}
+use Rattle.rtsp_state.specs.declared.step_plan.StepPlan.{StepPlan}
 use Rattle.rtsp_state.specs.declared.setup_plan.Drawn.{Drawn}
 use Rattle.rtsp_state.specs.declared.setup_plan.SetupPlan.{SetupPlan}
 use Rattle.rtsp_state.specs.declared.status.Status.TheVariants.{ServerError, Unavailable}
@@ -27,7 +27,9 @@ use Rattle.rtsp_engine.specs.Drawing.{opens, GivesWords, LacksWord, DrawsNumbers
 use Rattle.rtsp_engine.specs.declared.conducting.SetUp.{SetUp}
 use Rattle.rtsp_engine.specs.declared.conducting.SetUp.TheVariants.{NoWord, NoNumber, Tried}
 use Rattle.rtsp_engine.specs.declared.drawing.GivenWords.{GivenWords}
+use Rattle.rtsp_engine.specs.declared.drawing.Lacking.{Lacking}
 use Rattle.rtsp_engine.specs.declared.drawing.Numbers.{Numbers}
+use Rattle.rtsp_engine.specs.declared.drawing.Spent.{Spent}
 
 -- the session of a play that a step begins
 abbrev pub played : Step → Option ℕ
@@ -81,11 +83,23 @@ module _ {B W C P : Type 0} (d : Devices B W C P) where
     pub numbers : DrawsNumbers plan.session given.id n s.view between
     pub admits : Admits d.binder (ask_of plan (drawn_with conn given n)) made (record { view = between; binder = s.binder }) (record { view = t.view; binder = t.binder })
 
+  -- a word can't be had, and no number is drawn
+  pub record StopsAtWord (plan : SetupPlan) (at : Lacking) (s t : State B W C P) : Type 0 where
+    pub word : LacksWord d.words (opens plan.session) at s.words t.words
+    pub view : t.view ≡ s.view
+    pub binder : t.binder ≡ s.binder
+
+  -- the words are drawn, and a number isn't left
+  pub record StopsAtNumber (plan : SetupPlan) (at : Spent) (s t : State B W C P) : Type 0 where
+    pub given : GivenWords
+    pub words : GivesWords d.words (opens plan.session) given s.words t.words
+    pub number : LacksNumber plan.session at s.view t.view
+    pub binder : t.binder ≡ s.binder
+
   -- how far a track that is to be set up comes
   abbrev pub SetsUp : ℕ → SetupPlan → SetUp → State B W C P → State B W C P → Type 0
-  SetsUp conn plan (NoWord at) s t = LacksWord d.words (opens plan.session) at s.words t.words × (t.view ≡ s.view) × (t.binder ≡ s.binder)
-  SetsUp conn plan (NoNumber at) s t =
-      (given : GivenWords) × GivesWords d.words (opens plan.session) given s.words t.words × LacksNumber plan.session at s.view t.view × (t.binder ≡ s.binder)
+  SetsUp conn plan (NoWord at) s t = StopsAtWord plan at s t
+  SetsUp conn plan (NoNumber at) s t = StopsAtNumber plan at s t
   SetsUp conn plan (Tried n made) s t = Tries conn plan n made s t
 
   pub record ConductsSetup (conn : ℕ) (plan : SetupPlan) (response : Response) (s t : State B W C P) : Type 0 where

@@ -41,11 +41,17 @@ abbrev pub LooksAgain : ℕ → Option Name → List Record → Option (ℕ × S
 LooksAgain conn name [] found again v u = (again ≡ found) × (u ≡ v)
 LooksAgain conn name (r ∷ rs) found again v u = Looks conn name again v u
 
+-- a renewal is made, and the session is then this
+pub record Renewed (conn : ℕ) (name : Option Name) (touch : Step) (found again : Option (ℕ × Session)) (v u : View) : Type 0 where
+  pub made : List Record
+  pub between : View
+  pub acted : Acted v between touch (Ok made)
+  pub looks : LooksAgain conn name made found again between u
+
 -- the session that was found is renewed, where it is to be, and is then this
 abbrev pub RenewsBy : ℕ → Option Name → Option Step → Option (ℕ × Session) → Option (ℕ × Session) → View → View → Type 0
 RenewsBy conn name None found again v u = (again ≡ found) × (u ≡ v)
-RenewsBy conn name (Some touch) found again v u =
-    (made : List Record) × (w : View) × Acted v w touch (Ok made) × LooksAgain conn name made found again w u
+RenewsBy conn name (Some touch) found again v u = Renewed conn name touch found again v u
 
 abbrev pub Renews : Service → ParsedValue → ℕ → Option (ℕ × Session) → Option (ℕ × Session) → View → View → Type 0
 Renews service request moment found again v u =

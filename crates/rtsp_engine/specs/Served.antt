@@ -60,13 +60,23 @@ abbrev pub with_output : {S : Type 0} → Output S → Line S → Line S
 with_output output s = record { unread = s.unread; output = output }
 
 -- answers were written, and then what is said of a fault
+pub record TellsFault (fault : MessageFault) (text : List ℕ) (wrote writes : Option (List ℕ)) : Type 0 where
+  pub between : Option (List ℕ)
+  pub answers : Appends wrote between text
+  pub told : Appends between writes (fault_response fault)
+
+-- the same, where what is said could be written in part only
+pub record TellsPart (fault : MessageFault) (text : List ℕ) (wrote writes : Option (List ℕ)) : Type 0 where
+  pub between : Option (List ℕ)
+  pub answers : Appends wrote between text
+  pub part : WritesPart between writes (fault_response fault)
+
+-- what is written after a piece was pushed, and how the connection ends then, if it does
 abbrev pub Written : Option ServeEnd → Result (Unit {0}) MessageFault → List ℕ → Option (List ℕ) → Option (List ℕ) → Type 0
 Written None (Ok done) text wrote writes = Appends wrote writes text
 Written None (Err fault) text wrote writes = ⊥
-Written (Some (Fault told)) (Err fault) text wrote writes =
-    (told ≡ fault) × ((between : Option (List ℕ)) × Appends wrote between text × Appends between writes (fault_response fault))
-Written (Some WriteFault) (Err fault) text wrote writes =
-    WritesPart wrote writes text ⊎ ((between : Option (List ℕ)) × Appends wrote between text × WritesPart between writes (fault_response fault))
+Written (Some (Fault told)) (Err fault) text wrote writes = (told ≡ fault) × TellsFault fault text wrote writes
+Written (Some WriteFault) (Err fault) text wrote writes = WritesPart wrote writes text ⊎ TellsPart fault text wrote writes
 Written (Some WriteFault) (Ok done) text wrote writes = WritesPart wrote writes text
 Written (Some end) pushed text wrote writes = ⊥
 

@@ -5,7 +5,7 @@ use Rattle.rtsp_grammar.specs.declared.message.Response.{Response}
 use Rattle.rtsp_grammar.specs.Writing.{response_text}
 use Rattle.rtsp_record.specs.Books.{Session}
 use Rattle.rtsp_state.specs.declared.plan.Plan.{Plan}
-use Rattle.rtsp_state.specs.declared.plan.StepPlan.{StepPlan}
+use Rattle.rtsp_state.specs.declared.step_plan.StepPlan.{StepPlan}
 use Rattle.rtsp_state.specs.declared.setup_plan.SetupPlan.{SetupPlan}
 use Rattle.rtsp_state.specs.ParsedRequest.{ParsedValue}
 use Rattle.rtsp_engine.specs.Conducting.{ConductsStep, ConductsSetup, Conducts}

@@ -4,7 +4,7 @@ use Rattle.std.specs.Prelude.{◌&&◌, ◌||◌, nat_le, IfSome}
 use Rattle.std.specs.List.{list_all}
 use Rattle.std.specs.Char.{digit_value}
 use Rattle.std.specs.Str.Parse.{digits_value}
-use Rattle.std.proofs.lemmas.Bool.{cases_lt, lt-ltb, le-ltb, leb-true, le-leb, or_cases, eqb-true, and_parts, and_from}
+use Rattle.std.proofs.lemmas.Bool.{cases_lt, lt-ltb, le-ltb, leb-true, le-leb, or_left, or_right, or_cases, eqb-true, and_parts, and_from}
 use Rattle.std.proofs.lemmas.List.{take_all}
 use Rattle.std.proofs.lemmas.Int.Digits.{digits_value_more}
 use Rattle.rtsp_text.specs.Hexadecimal.{hex_digit, hex_text}
@@ -25,14 +25,6 @@ letter_is : (c : ℕ) → 97 ≤ c → c ≤ 102 → digit_value c ≡ c - 87
 letter_is c low high =
     let a = le-ltb c 48 (omega arith) in let b = le-ltb c 58 (omega arith) in let d = le-ltb c 65 (omega arith) in
     let e = le-ltb c 91 (omega arith) in let f = le-ltb c 97 low in let g = lt-ltb c 123 (omega arith) in rw (a, b, d, e, f, g) refl
-
-or_left : (x y : Bool) → x ≡ true → (x || y) ≡ true
-or_left true y e = refl
-or_left false y e = absurd cc
-
-or_right : (x y : Bool) → y ≡ true → (x || y) ≡ true
-or_right true y e = refl
-or_right false y e = e
 
 -- a digit that is read is the one that is written
 digit_facts : (b : ℕ) → is_hex_digit b ≡ true → (digit_value b < 16) × (hex_digit (digit_value b) ≡ b)

@@ -17,9 +17,9 @@ use Rattle.rtsp_state.specs.declared.fault.Fault.{Fault}
 use Rattle.rtsp_state.specs.declared.fault.Fault.TheVariants as faults
 use Rattle.rtsp_state.specs.declared.order_of_refusals.Asked.{Asked}
 use Rattle.rtsp_state.specs.declared.response_start.ResponseStart.{ResponseStart}
-use Rattle.rtsp_state.specs.declared.plan.Details.{Details}
-use Rattle.rtsp_state.specs.declared.plan.Details.TheVariants as details
-use Rattle.rtsp_state.specs.declared.plan.StepPlan.{StepPlan}
+use Rattle.rtsp_state.specs.declared.step_plan.Details.{Details}
+use Rattle.rtsp_state.specs.declared.step_plan.Details.TheVariants as details
+use Rattle.rtsp_state.specs.declared.step_plan.StepPlan.{StepPlan}
 use Rattle.rtsp_state.specs.declared.plan.Plan.{Plan}
 use Rattle.rtsp_state.specs.declared.plan.Plan.TheVariants as plans
 use Rattle.rtsp_state.specs.declared.setup_plan.SessionKey.{SessionKey}

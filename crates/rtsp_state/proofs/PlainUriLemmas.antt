@@ -4,6 +4,7 @@ use Rattle.std.specs.Prelude.{codes, decimal, IfSome}
 use Rattle.std.specs.List.{list_all}
 use Rattle.std.proofs.lemmas.Bool.{and_parts, and_right, cases_eq, eqb-true, ne_eqb, true≢false, both_ways}
 use Rattle.std.proofs.lemmas.Bool.Decides.{nat_tests}
+use Rattle.std.proofs.lemmas.Option.{none-some}
 use Rattle.std.proofs.lemmas.List.Elements.{All-nil, All-cons, All-weaker}
 use Rattle.std.proofs.lemmas.Str.{IsUtf8-from_ascii}
 use Rattle.percent_encoding.specs.declared.ascii_set.TheConstants.{CONTROLS}
@@ -166,12 +167,9 @@ record ArePlain (host : List ℕ) (port : Option ℕ) (path : List ℕ) : Type 0
   fits : IfSome port (λ n. n < 2 ^ 16)
   plain : is_plain_path path ≡ true
 
-none_some : (n : ℕ) → None ≡ Some n → ⊥
-none_some n e = cc
-
 port_valid : (port : Option ℕ) → IfSome port (λ n. n < 2 ^ 16) → IsPortOf (codes "rtsp") port
 port_valid None fits = tt
-port_valid (Some n) fits = (fits, λ same. none_some n (sym rtsp_port ∙ same))
+port_valid (Some n) fits = (fits, λ same. none-some n (sym rtsp_port ∙ same))
 
 host_there : (host : List ℕ) (port : Option ℕ) (path : List ℕ) → 0 < length host → cannot_have_credentials_or_port (plain_parts host port path) ≡ false
 host_there host port path some = rw (is_empty_nonempty host some, rtsp_kind) refl
@@ -229,16 +227,27 @@ own_uri host port path h =
     let url = plain_parts host port path in
     uri_some (serialize url) (IsUtf8-from_ascii (serialize url) (IsAscii-serialize url (valid host port path h))) ∙ own_text host port path h
 
--- a plain URI is a URL with its path, which is written as it stands
-pub plain_url : (text path : List ℕ) → IsPlainUri text path → (url : Parts) × (uri_of text ≡ Some url) × (url.path ≡ path) × (bare_text url ≡ text)
+-- a text is a URL with this path, and is written as it stands
+pub record IsUrlWith (text path : List ℕ) : Type 0 where
+  pub url : Parts
+  pub is_read : uri_of text ≡ Some url
+  pub same_path : url.path ≡ path
+  pub same_text : bare_text url ≡ text
+
+pub plain_url : (text path : List ℕ) → IsPlainUri text path → IsUrlWith text path
 plain_url text path h =
     let port = h.follows.port in
     let spelled : text ≡ codes "rtsp://" ++ (h.host ++ (port_text port ++ path)) = h.spelled ∙ ap (λ l. codes "rtsp://" ++ (h.host ++ l)) h.follows.spelled in
     let plain : ArePlain h.host port path = record { some = h.some; named = h.named; fits = h.follows.fits; plain = h.plain } in
-    (plain_parts h.host port path, ap uri_of (spelled ∙ sym (serialized h.host port path)) ∙ own_uri h.host port path plain, refl, bare h.host port path ∙ sym spelled)
+    record {
+      url = plain_parts h.host port path;
+      is_read = ap uri_of (spelled ∙ sym (serialized h.host port path)) ∙ own_uri h.host port path plain;
+      same_path = refl;
+      same_text = bare h.host port path ∙ sym spelled;
+    }
 
 -- so its path alone says what media it names
 pub plain_media : (table : TableValue) (text path : List ℕ) → IsPlainUri text path → media_of table (uri_of text) ≡ target_at (with_slash text) (find_of table path)
 plain_media table text path h =
-    let (url, is_url, same_path, same_text) = plain_url text path h in
-    ap (media_of table) is_url ∙ (λ i. target_at (with_slash (same_text i)) (find_of table (same_path i)))
+    let read = plain_url text path h in
+    ap (media_of table) read.is_read ∙ (λ i. target_at (with_slash (read.same_text i)) (find_of table (read.same_path i)))

@@ -11,7 +11,7 @@ use Rattle.rtsp_text.specs.Hexadecimal.{hex_text}
 use Rattle.rtsp_transport.specs.Granted.{port_text, ports_text, transport_text}
 use Rattle.rtsp_transport.specs.declared.write.Granted.TheVariants.{Udp, Mux, Inter}
 use Rattle.rtsp_text.proofs.HexLemmas.{length-hex_text}
-use Rattle.rtsp_state.specs.declared.plan.StreamInfo.{StreamInfo}
+use Rattle.rtsp_state.specs.declared.rtp_info.StreamInfo.{StreamInfo}
 use Rattle.rtsp_state.specs.FixedText.{word_room}
 use Rattle.rtsp_state.specs.Bounds.{stream_room, info_room}
 use Rattle.rtsp_state.specs.Room.{RoomText, Takes}
@@ -133,7 +133,6 @@ word_most words.SsrcIs = lit≤ tt
 word_most words.SeqIs = lit≤ tt
 word_most words.RtptimeIs = lit≤ tt
 word_most words.Comma = lit≤ tt
-word_most words.Slash = lit≤ tt
 word_most words.PositionIs = lit≤ tt
 word_most words.DurationIs = lit≤ tt
 word_most words.LineEnd = lit≤ tt

@@ -19,7 +19,7 @@ use Rattle.rtsp_state.specs.declared.request.Name.{Name}
 use Rattle.rtsp_state.specs.declared.response_start.ResponseStart.{ResponseStart}
 use Rattle.rtsp_state.specs.declared.plan.Plan.{Plan}
 use Rattle.rtsp_state.specs.declared.plan.Plan.TheVariants as plans
-use Rattle.rtsp_state.specs.declared.plan.StepPlan.{StepPlan}
+use Rattle.rtsp_state.specs.declared.step_plan.StepPlan.{StepPlan}
 use Rattle.rtsp_text.specs.Results.{◌>>=◌}
 use Rattle.rtsp_state.specs.Fault.{must}
 use Rattle.rtsp_state.specs.Lines.{start_lines, public_line, unsupported_line}

@@ -18,7 +18,7 @@ use Rattle.rtsp_state.specs.declared.fault.Fault.{Fault}
 use Rattle.rtsp_state.specs.declared.fault.Fault.TheVariants as faults
 use Rattle.rtsp_state.specs.declared.order_of_refusals.Asked.{Asked}
 use Rattle.rtsp_state.specs.declared.response_start.ResponseStart.{ResponseStart}
-use Rattle.rtsp_state.specs.declared.plan.StepPlan.{StepPlan}
+use Rattle.rtsp_state.specs.declared.step_plan.StepPlan.{StepPlan}
 use Rattle.rtsp_state.specs.declared.plan.Plan.{Plan}
 use Rattle.rtsp_state.specs.declared.plan.Plan.TheVariants as plans
 use Rattle.rtsp_state.specs.declared.setup_plan.SessionKey.{SessionKey}

@@ -10,14 +10,14 @@ use Rattle.rtsp_book.specs.declared.asks.Admitted.{Admitted}
 use Rattle.rtsp_book.specs.declared.refusals.Refusal.{Refusal}
 use Rattle.rtsp_state.specs.declared.status.Status.TheVariants.{Success}
 use Rattle.rtsp_state.specs.declared.timing.Timing.{Timing}
-use Rattle.rtsp_state.specs.declared.plan.StreamInfo.{StreamInfo}
-use Rattle.rtsp_state.specs.declared.plan.Details.{Details}
-use Rattle.rtsp_state.specs.declared.plan.Details.TheVariants as details
-use Rattle.rtsp_state.specs.declared.plan.StepPlan.{StepPlan}
+use Rattle.rtsp_state.specs.declared.rtp_info.StreamInfo.{StreamInfo}
+use Rattle.rtsp_state.specs.declared.step_plan.Details.{Details}
+use Rattle.rtsp_state.specs.declared.step_plan.Details.TheVariants as details
+use Rattle.rtsp_state.specs.declared.step_plan.StepPlan.{StepPlan}
 use Rattle.rtsp_state.specs.declared.setup_plan.SessionKey.{SessionKey}
 use Rattle.rtsp_state.specs.declared.setup_plan.SetupPlan.{SetupPlan}
 use Rattle.rtsp_state.specs.SetupPlan.{key_of, setup_start}
-use Rattle.rtsp_state.specs.declared.step_response.Played.{Played}
+use Rattle.rtsp_state.specs.declared.step_plan.Played.{Played}
 use Rattle.rtsp_state.specs.Lines.{cseq_line, opened_line, transport_line, accept_ranges_line, properties_line, media_range_line, range_line, seek_line, start_lines}
 use Rattle.rtsp_state.specs.Info.{info_line}
 use Rattle.rtsp_state.specs.Response.{response, refusal_response}

@@ -3,10 +3,10 @@ use Rattle.std.specs.Prelude.{ℕ, ◌+◌, length, List, sum_by, bytes_eq, ◌|
 use Rattle.rtsp_grammar.specs.Header.{HeaderText}
 use Rattle.rtsp_grammar.specs.declared.message.Response.{Response}
 use Rattle.rtsp_state.specs.declared.words.Field.TheVariants as fields
-use Rattle.rtsp_state.specs.declared.plan.StreamInfo.{StreamInfo}
-use Rattle.rtsp_state.specs.declared.plan.StepPlan.{StepPlan}
-use Rattle.rtsp_state.specs.declared.plan.Details.{Details}
-use Rattle.rtsp_state.specs.declared.plan.Details.TheVariants as details
+use Rattle.rtsp_state.specs.declared.rtp_info.StreamInfo.{StreamInfo}
+use Rattle.rtsp_state.specs.declared.step_plan.StepPlan.{StepPlan}
+use Rattle.rtsp_state.specs.declared.step_plan.Details.{Details}
+use Rattle.rtsp_state.specs.declared.step_plan.Details.TheVariants as details
 use Rattle.rtsp_state.specs.Words.{name_of_field}
 
 -- one stream in RTP-Info: its URI, and at most 55 bytes

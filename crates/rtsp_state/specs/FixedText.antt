@@ -48,7 +48,6 @@ word_room words.SsrcIs = 7
 word_room words.SeqIs = 5
 word_room words.RtptimeIs = 9
 word_room words.Comma = 1
-word_room words.Slash = 1
 word_room words.PositionIs = 10
 word_room words.DurationIs = 10
 word_room words.LineEnd = 2

@@ -5,7 +5,7 @@ use Rattle.rtsp_grammar.specs.Header.{HeaderText}
 use Rattle.rtsp_text.specs.Hexadecimal.{hex_text}
 use Rattle.rtsp_state.specs.declared.words.Field.TheVariants as fields
 use Rattle.rtsp_state.specs.declared.words.Word.TheVariants as words
-use Rattle.rtsp_state.specs.declared.plan.StreamInfo.{StreamInfo}
+use Rattle.rtsp_state.specs.declared.rtp_info.StreamInfo.{StreamInfo}
 use Rattle.rtsp_state.specs.Words.{name_of_field, text_of}
 
 -- the sequence number of a play's first packet: the session's first one and what was sent, modulo 2^16

@@ -22,8 +22,8 @@ use Rattle.rtsp_content.specs.PresentationValue.{PresentationValue}
 use Rattle.rtsp_content.specs.TrackValue.{TrackValue}
 use Rattle.rtsp_book.specs.declared.steps.Step.TheVariants as steps
 use Rattle.rtsp_state.specs.declared.play.Units.{Units}
-use Rattle.rtsp_state.specs.declared.plan.StreamInfo.{StreamInfo}
-use Rattle.rtsp_state.specs.declared.plan.Details.TheVariants as details
+use Rattle.rtsp_state.specs.declared.rtp_info.StreamInfo.{StreamInfo}
+use Rattle.rtsp_state.specs.declared.step_plan.Details.TheVariants as details
 use Rattle.rtsp_state.specs.Values.{single_value}
 use Rattle.rtsp_state.specs.Context.{ContextValue, Living, streams_of, is_other, timing_of, known}
 

@@ -11,7 +11,7 @@ use Rattle.rtsp_text.specs.Results.{◌>>=◌}
 use Rattle.rtsp_state.specs.Fault.{must}
 use Rattle.rtsp_book.specs.Sessions.{is_ready}
 use Rattle.rtsp_book.specs.declared.steps.Step.TheVariants as steps
-use Rattle.rtsp_state.specs.declared.plan.Details.TheVariants as details
+use Rattle.rtsp_state.specs.declared.step_plan.Details.TheVariants as details
 use Rattle.rtsp_state.specs.Response.{without_session}
 use Rattle.rtsp_state.specs.Context.{ContextValue, Living, streams_of, is_other, has_track}
 

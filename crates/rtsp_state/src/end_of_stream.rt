@@ -7,10 +7,9 @@ ghost use Rattle.rtsp_state.specs.Notify.{IsEnded, stop_of, sent_of, reason_line
 
 use crate::context::streams_of;
 use crate::media_uri::MediaUri;
-use crate::plan::RtpInfo;
 use crate::play::rtp_info;
 use crate::room::Room;
-use crate::rtp_info::{info_size, put_info_value};
+use crate::rtp_info::{RtpInfo, info_size, put_info_value};
 use crate::words::{Field, name_of_field};
 use rtsp_book::SessionView;
 use rtsp_content::Presentation;

@@ -8,9 +8,10 @@ ghost use Rattle.rtsp_state.specs.Pause.{pause, pause_presentation};
 
 use crate::context::{Context, is_other, streams_of, timing_of};
 use crate::fault::{Fault, must};
-use crate::plan::{Details, Plan, StepPlan};
+use crate::plan::Plan;
 use crate::request::Target;
 use crate::status::Status;
+use crate::step_plan::{Details, StepPlan};
 use rtsp_book::{SessionView, Step};
 use std::alloc::Global;
 

@@ -9,9 +9,11 @@ ghost use Rattle.rtsp_state.specs.Play.{fault_of, range_in, from_of, units_in, u
 use crate::context::{Context, is_other, streams_of, timing_of};
 use crate::fault::{Fault, must};
 use crate::media_base::MediaBase;
-use crate::plan::{Details, Plan, RtpInfo, StepPlan, StreamInfo};
+use crate::plan::Plan;
 use crate::request::Target;
+use crate::rtp_info::{RtpInfo, StreamInfo};
 use crate::status::Status;
+use crate::step_plan::{Details, StepPlan};
 use crate::values::single_value;
 use rtsp_book::{Play, SessionView, Step};
 use rtsp_content::{Presentation, Track};

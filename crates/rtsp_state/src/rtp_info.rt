@@ -1,15 +1,73 @@
-//! The RTP-Info header (RFC 7826 section 18.45), written into room.
+//! The streams of a play, and the RTP-Info header (RFC 7826 section 18.45) that shows them, written
+//! into room.
 
-ghost use Rattle.std.specs.Prelude.{◌≡◌, ◌≤◌, ◌+◌, ◌-◌, ◌^◌, ◌++◌, length, min};
+ghost use Rattle.std.specs.Prelude.{◌≡◌, ◌≤◌, ◌+◌, ◌-◌, ◌^◌, [], ◌∷◌, ◌++◌, length, min, OnOk};
 ghost use Rattle.rtsp_grammar.specs.Writing.{header_text};
 ghost use Rattle.rtsp_state.specs.Room.{Takes};
 ghost use Rattle.rtsp_state.specs.Bounds.{stream_room, info_room};
 ghost use Rattle.rtsp_state.specs.Info.{source_part, seq_text, rtptime_text, stream_info_text, next_stream_info, info_text, info_line};
 
 use crate::headers::{put_end, put_name, put_word};
-use crate::plan::StreamInfo;
 use crate::room::Room;
 use crate::words::{Field, Word};
+use rtsp_grammar::Text;
+use std::alloc::{AllocError, Global};
+use std::marker::Model;
+
+/// One stream in RTP-Info (RFC 7826 section 18.45).
+#[derive(Debug, Drop)]
+pub struct StreamInfo {
+    /// The URI of its track.
+    pub url: Text,
+    pub ssrc: u32,
+    /// The sequence number of the session's first packet.
+    pub seq: u16,
+    /// The timestamp of the session's first packet.
+    pub rtptime: u32,
+    /// How many ticks of the timestamp a unit lasts.
+    pub ticks: u32,
+}
+
+/// The streams in RTP-Info, in the order of the table.
+#[derive(Debug, Drop)]
+pub struct RtpInfo {
+    items: Vec<StreamInfo>,
+}
+
+impl Model for RtpInfo {
+    ghost use Rattle.std.specs.Prelude.{List};
+    ghost use Rattle.rtsp_state.specs.declared.rtp_info.StreamInfo.{StreamInfo};
+
+    ghost Value = { List StreamInfo };
+
+    ghost view = { λ p. p.items.items };
+}
+
+impl RtpInfo {
+    /// No streams yet. It takes no memory.
+    pub fn new(alloc: Global) -> RtpInfo
+        ensures { result ≡ [] }
+    {
+        RtpInfo {
+            items: Vec::new(alloc),
+        }
+    }
+
+    /// Adds the next stream of the table. It is refused where there is no memory for it.
+    pub fn push(&mut self, stream: StreamInfo) -> Result<(), AllocError>
+        ensures { OnOk result (self.new ≡ self.old ++ stream ∷ []) }
+    {
+        self.items.push(stream)?;
+        Ok(())
+    }
+
+    /// The streams, in the order in which they were added.
+    pub fn as_slice(&self) -> &[StreamInfo]
+        ensures { result.now ≡ self.now }
+    {
+        self.items.as_slice()
+    }
+}
 
 #[tactic(auto, unfolding(crate::specs::Info::source_part))]
 fn put_source(room: &mut Room, stream: &StreamInfo)

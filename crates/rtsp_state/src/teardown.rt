@@ -8,9 +8,10 @@ ghost use Rattle.rtsp_state.specs.Teardown.{teardown, teardown_presentation, tea
 
 use crate::context::{Context, has_track, is_other, streams_of};
 use crate::fault::{Fault, must};
-use crate::plan::{Details, Plan, StepPlan};
+use crate::plan::Plan;
 use crate::request::Target;
 use crate::status::Status;
+use crate::step_plan::{Details, StepPlan};
 use rtsp_book::{SessionView, Step};
 use rtsp_record::Phase;
 use std::alloc::Global;

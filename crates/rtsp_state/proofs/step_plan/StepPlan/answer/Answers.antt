@@ -5,7 +5,7 @@ use Rattle.rtsp_grammar.specs.Writing.{response_text}
 use Rattle.rtsp_book.specs.declared.receipts.Receipt.{Receipt}
 use Rattle.rtsp_book.specs.declared.refusals.Refusal.{Refusal}
 use Rattle.rtsp_state.specs.Answer.{step_answer}
-use Rattle.rtsp_state.proofs.plan.StepPlan.answer.Goals as goal
+use Rattle.rtsp_state.proofs.step_plan.StepPlan.answer.Goals as goal
 
 pub returns-in-Ok-clause-text : goal.returns-in-Ok-clause-text
 returns-in-Ok-clause-text c =

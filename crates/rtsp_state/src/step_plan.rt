@@ -1,4 +1,4 @@
-//! The response to a step: room before it is made, and the text after it.
+//! A step of a living session, and the response to it: room before the step, and the text after it.
 
 ghost use Rattle.std.specs.Prelude.{◌≡◌, ◌≤◌, ◌+◌, ◌-◌, ◌^◌, ◌++◌, ◌∷◌, [], min, OnOk};
 ghost use Rattle.std.specs.Result.{result_map_both};
@@ -9,16 +9,37 @@ ghost use Rattle.rtsp_state.specs.Lines.{range_line};
 ghost use Rattle.rtsp_state.specs.Answer.{moved, paused_at, played_in, played_lines, shown_lines, done, step_answer};
 
 use crate::headers::{put_end, put_range, put_response_start, put_seek_style};
-use crate::plan::{Details, StepPlan, StreamInfo};
 use crate::refusals::write_refused_step;
+use crate::response_start::ResponseStart;
 use crate::room::Room;
-use crate::rtp_info::{info_size, put_info};
+use crate::rtp_info::{RtpInfo, StreamInfo, info_size, put_info};
 use crate::status::Status;
 use crate::status_line::put_status_line;
 use crate::timing::Timing;
-use rtsp_book::{Receipt, Refusal};
+use rtsp_book::{Receipt, Refusal, Step};
 use rtsp_record::{Phase, Record};
 use std::alloc::AllocError;
+
+/// A step of a living session, and what the response to it shows.
+#[derive(Debug, Drop)]
+pub struct StepPlan {
+    /// What a response shows first where the step is refused.
+    pub start: ResponseStart,
+    /// What it shows first once the step is made.
+    pub done: ResponseStart,
+    pub step: Step,
+    pub details: Details,
+}
+
+/// What the response to a step shows beside its start.
+#[derive(Debug, Drop)]
+pub enum Details {
+    Nothing,
+    /// Where the session is paused: at the point that the step moves to, or at this one.
+    Paused { timing: Timing, at: u32 },
+    /// What is played.
+    Played { timing: Timing, info: RtpInfo },
+}
 
 impl StepPlan {
     /// Makes room for the response, whatever comes of the step.

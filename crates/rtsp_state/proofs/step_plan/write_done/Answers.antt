@@ -6,7 +6,7 @@ use Rattle.rtsp_state.specs.declared.status.Status.TheVariants as statuses
 use Rattle.rtsp_state.specs.Lines.{start_lines}
 use Rattle.rtsp_state.specs.Answer.{moved, shown_lines}
 use Rattle.rtsp_state.proofs.MessageLemmas.{message_two}
-use Rattle.rtsp_state.proofs.step_response.write_done.Goals as goal
+use Rattle.rtsp_state.proofs.step_plan.write_done.Goals as goal
 
 pub returns-clause-text : goal.returns-clause-text
 returns-clause-text c =
