@@ -1,7 +1,6 @@
 //! The state table: what a method comes to in each state of the session that its request names.
 
-ghost use Rattle.std.specs.Prelude.{◌≡◌, None, option_map, IfOk};
-ghost use Rattle.rtsp_state.specs.declared.method.Method.TheVariants as methods;
+ghost use Rattle.std.specs.Prelude.{◌≡◌, option_map, IfOk};
 ghost use Rattle.rtsp_state.specs.Fault.{Gives};
 ghost use Rattle.rtsp_state.specs.Conduct.{IsConducted};
 ghost use Rattle.rtsp_state.specs.Context.{context_value};
@@ -43,52 +42,6 @@ fn session_found(
     }
 }
 
-// The rows of the methods that are for a living session alone, however it is named.
-fn teardown_row(
-    alloc: Global,
-    context: &Context<'_>,
-    view: Option<&SessionView>,
-    target: &Target,
-) -> Result<Plan, Fault>
-    ensures value { Gives result (row (context_value context.now) methods.Teardown (option_map (λ v. v.now) view.entry) None target.now) }
-    ensures conducted { IfOk result IsConducted }
-{
-    match view {
-        Some(view) => teardown(alloc, context, view, target),
-        None => Err(Fault::Refused(Status::SessionNotFound)),
-    }
-}
-
-fn play_row(
-    alloc: Global,
-    context: &Context<'_>,
-    view: Option<&SessionView>,
-    target: &Target,
-) -> Result<Plan, Fault>
-    ensures value { Gives result (row (context_value context.now) methods.Play (option_map (λ v. v.now) view.entry) None target.now) }
-    ensures conducted { IfOk result IsConducted }
-{
-    match view {
-        Some(view) => play(alloc, context, view, target),
-        None => Err(Fault::Refused(Status::SessionNotFound)),
-    }
-}
-
-fn pause_row(
-    alloc: Global,
-    context: &Context<'_>,
-    view: Option<&SessionView>,
-    target: &Target,
-) -> Result<Plan, Fault>
-    ensures value { Gives result (row (context_value context.now) methods.Pause (option_map (λ v. v.now) view.entry) None target.now) }
-    ensures conducted { IfOk result IsConducted }
-{
-    match view {
-        Some(view) => pause(alloc, context, view, target),
-        None => Err(Fault::Refused(Status::SessionNotFound)),
-    }
-}
-
 // The row of a method.
 fn row(
     alloc: Global,
@@ -105,9 +58,18 @@ fn row(
         Method::Options => options(context),
         Method::Describe => describe(alloc, context, target),
         Method::Setup => setup(alloc, context, view, name, &target),
-        Method::Teardown => teardown_row(alloc, context, view, &target),
-        Method::Play => play_row(alloc, context, view, &target),
-        Method::Pause => pause_row(alloc, context, view, &target),
+        Method::Teardown => match view {
+            Some(view) => teardown(alloc, context, view, &target),
+            None => Err(Fault::Refused(Status::SessionNotFound)),
+        },
+        Method::Play => match view {
+            Some(view) => play(alloc, context, view, &target),
+            None => Err(Fault::Refused(Status::SessionNotFound)),
+        },
+        Method::Pause => match view {
+            Some(view) => pause(alloc, context, view, &target),
+            None => Err(Fault::Refused(Status::SessionNotFound)),
+        },
         Method::GetParameter => get_parameter(alloc, context, view, &target),
         Method::SetParameter => set_parameter(context),
     }
