@@ -83,8 +83,8 @@ position_from-places test i (y ∷ xs) =
       | inl pass ↦ rw pass (here pass)
       | inr fails ↦ rw fails (places-behind test i y xs (position_from test (i + 1) xs) fails (position_from-places test (i + 1) xs))
     ] where
-  here : test y ≡ true → PassesAt test i (y ∷ xs) i
-  here pass = record { index = 0; element = y; counted = omega arith; stands = refl; passes = pass }
+      here : test y ≡ true → PassesAt test i (y ∷ xs) i
+      here pass = record { index = 0; element = y; counted = omega arith; stands = refl; passes = pass }
 
 -- no path of the presentation, and of none of its tracks
 abbrev pub IsElsewhere : PresentationValue → List ℕ → Type 0
@@ -168,8 +168,8 @@ find_from-names i (p ∷ ps) path =
           (names-track_or i p ps path (position_from (is_track_path p path) 0 p.tracks) (find_from (i + 1) ps path) (presentation_path-false p path other)
           (position_from-places (is_track_path p path) 0 p.tracks) (find_from-names (i + 1) ps path))
     ] where
-  here : is_presentation_path p path ≡ true → NamesPresentationFrom i (p ∷ ps) path i
-  here is = record { index = 0; presentation = p; counted = omega arith; stands = refl; path_is = presentation_path-true p path is }
+      here : is_presentation_path p path ≡ true → NamesPresentationFrom i (p ∷ ps) path i
+      here is = record { index = 0; presentation = p; counted = omega arith; stands = refl; path_is = presentation_path-true p path is }
 
 names-from_0 : (table : TableValue) (path : List ℕ) (found : Found) → NamesFrom 0 table.presentations path found → Names table path found
 names-from_0 table path (Presentation n) h =
