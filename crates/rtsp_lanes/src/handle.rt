@@ -1,0 +1,62 @@
+//! A thread's way to the book.
+
+ghost use Rattle.std.specs.Prelude.{◌≡◌, IfSome};
+ghost use Rattle.std.specs.Arc.{arc_value};
+ghost use Rattle.rtsp_lock.specs.Calls.{IsSeatOf, SameSeat, Looked, Drew, Forgot, Made, seat_view};
+
+use rtsp_lock::{BookLock, BookSeat};
+use std::sync::{Arc, Wait};
+
+/// A seat together with the lock that it is of. It may go to another thread.
+#[derive(Drop)]
+pub struct BookHandle {
+    pub lock: Arc<BookLock>,
+    pub seat: BookSeat,
+    ghost ours: { IsSeatOf seat (arc_value lock) },
+}
+
+impl BookHandle {
+    /// The handle of a seat of this lock.
+    pub fn new(lock: Arc<BookLock>, seat: BookSeat) -> BookHandle
+        requires { IsSeatOf seat (arc_value lock) }
+        ensures lock { result.lock ≡ lock }
+        ensures seat { result.seat ≡ seat }
+    {
+        BookHandle { lock, seat }
+    }
+
+    /// A handle with a seat of its own, which bears a number that no seat has drawn. There is none
+    /// where the numbers are used up.
+    pub fn split<R: Wait>(&mut self, rt: &R) -> Option<BookHandle>
+        ensures same { SameSeat self.old.seat self.new.seat }
+        ensures lock { arc_value self.new.lock ≡ arc_value self.old.lock }
+        ensures other { IfSome result (λ h. arc_value h.lock ≡ arc_value self.old.lock) }
+        ensures made { IfSome result (λ h. Made (seat_view self.old.seat) (seat_view self.new.seat) (seat_view h.seat)) }
+    {
+        let lock = Arc::try_clone(&self.lock).ok()?;
+        let seat = self.seat.split(rt, &self.lock).ok()?;
+        Some(BookHandle { lock, seat })
+    }
+
+    /// A number that no seat has drawn, if one is left.
+    pub fn draw<R: Wait>(&mut self, rt: &R) -> Option<u64>
+        ensures same { SameSeat self.old.seat self.new.seat }
+        ensures lock { arc_value self.new.lock ≡ arc_value self.old.lock }
+        ensures looked { Looked (seat_view self.old.seat) (seat_view self.new.seat) }
+        ensures drawn { IfSome result (λ n. Drew (seat_view self.old.seat) (seat_view self.new.seat) n) }
+    {
+        self.seat.draw(rt, &self.lock).ok()
+    }
+
+    /// Forgets all sessions that have ended: their entries leave the journal. It is one pass over
+    /// the whole journal with the lock held, some 10 ms where that has a million entries, so every
+    /// other thread that wants the book waits as long: lanes with their answers, and pacers before
+    /// their next packet.
+    pub fn forget<R: Wait>(&mut self, rt: &R)
+        ensures same { SameSeat self.old.seat self.new.seat }
+        ensures lock { arc_value self.new.lock ≡ arc_value self.old.lock }
+        ensures forgot { Forgot (seat_view self.old.seat) (seat_view self.new.seat) }
+    {
+        self.seat.forget(rt, &self.lock);
+    }
+}
