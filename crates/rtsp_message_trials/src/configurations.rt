@@ -3,6 +3,7 @@
 use crate::example::EXAMPLE;
 use rtsp_content::*;
 use std::alloc::{AllocError, Global};
+use std::process::Abort;
 use std::test::Fail;
 
 const TONE_SDP: &str = "\
@@ -31,39 +32,44 @@ fn fault_of(alloc: Global, text: &str) -> Option<TableFault> {
     }
 }
 
-// The fault of the example with a part of it replaced.
-fn fault_with(alloc: Global, old: &str, new: &str) -> Result<Option<TableFault>, AllocError> {
+// The example with a part of it replaced has this fault, or none.
+fn assert_fault(
+    rt: &impl Abort,
+    alloc: Global,
+    old: &str,
+    new: &str,
+    fault: Option<TableFault>,
+) -> Result<(), AllocError> {
     let text = EXAMPLE.replacen(alloc, old, new, 1)?;
-    Ok(fault_of(alloc, text.as_str()))
+    assert!(rt; fault_of(alloc, text.as_str()) == fault, "{new}");
+    Ok(())
 }
 
 #[test]
 fn describes_the_example(rt: HostRuntime) -> Result<(), Fail> {
     let table = Table::read(rt.alloc(), EXAMPLE.as_bytes())?;
-    let presentation = table.presentation(0).expect(&rt, "the first");
-    assert!(rt; presentation.sdp() == TONE_SDP.as_bytes());
+    let presentation = table.presentation(0);
+    assert!(rt; matches!(presentation, Some(it) if it.sdp() == TONE_SDP.as_bytes()));
     Ok(())
 }
+
+const SERVER: Server = Server {
+    first_port: 5000,
+    pairs: 2,
+    uplink: 160_000,
+    sessions: 4,
+    timeout: 60,
+    renewal_step: 1,
+    journal: 1_000_000,
+    workers: 4,
+};
 
 #[test]
 fn reads_the_example(rt: HostRuntime) -> Result<(), Fail> {
     let table = Table::read(rt.alloc(), EXAMPLE.as_bytes())?;
-    let server = Server {
-        first_port: 5000,
-        pairs: 2,
-        uplink: 160_000,
-        sessions: 4,
-        timeout: 60,
-        renewal_step: 1,
-        journal: 1_000_000,
-        workers: 4,
-    };
-    assert!(rt; table.server() == server && table.presentations().len() == 1);
+    assert!(rt; table.server() == SERVER && table.presentations().len() == 1);
     assert!(rt; table.presentation(1).is_none());
-    let presentation = table.presentation(0).expect(&rt, "the first");
-    assert!(rt; shows_the_presentation(presentation));
-    let track = presentation.track(1).expect(&rt, "the second");
-    assert!(rt; shows_the_track(track) && presentation.rate(track) == 80_000);
+    assert!(rt; matches!(table.presentation(0), Some(it) if shows_the_presentation(it)));
     Ok(())
 }
 
@@ -77,6 +83,14 @@ fn shows_the_presentation(presentation: &Presentation) -> bool {
     presentation.name() == "tone"
         && numbers == [500, 20, 10_000, 2]
         && presentation.track(2).is_none()
+        && shows_the_second_track(presentation)
+}
+
+fn shows_the_second_track(presentation: &Presentation) -> bool {
+    match presentation.track(1) {
+        Some(track) => shows_the_track(track) && presentation.rate(track) == 80_000,
+        None => false,
+    }
 }
 
 fn shows_the_track(track: &Track) -> bool {
@@ -96,25 +110,26 @@ fn has_the_texts(track: &Track) -> bool {
         && track.file() == "tone-b.raw"
 }
 
+const PATHS: [(&str, Found); 13] = [
+    ("/tone", Found::Presentation(0)),
+    ("/tone/", Found::Presentation(0)),
+    ("/tone/a", Found::Track(0, 0)),
+    ("/tone/b", Found::Track(0, 1)),
+    ("/none", Found::Nothing),
+    ("/tone/c", Found::Nothing),
+    ("/tone/a/", Found::Nothing),
+    ("//tone", Found::Nothing),
+    ("/tone//", Found::Nothing),
+    ("/%74one", Found::Nothing),
+    ("tone", Found::Nothing),
+    ("/", Found::Nothing),
+    ("", Found::Nothing),
+];
+
 #[test]
 fn finds_by_path(rt: HostRuntime) -> Result<(), Fail> {
     let table = Table::read(rt.alloc(), EXAMPLE.as_bytes())?;
-    let paths = [
-        ("/tone", Found::Presentation(0)),
-        ("/tone/", Found::Presentation(0)),
-        ("/tone/a", Found::Track(0, 0)),
-        ("/tone/b", Found::Track(0, 1)),
-        ("/none", Found::Nothing),
-        ("/tone/c", Found::Nothing),
-        ("/tone/a/", Found::Nothing),
-        ("//tone", Found::Nothing),
-        ("/tone//", Found::Nothing),
-        ("/%74one", Found::Nothing),
-        ("tone", Found::Nothing),
-        ("/", Found::Nothing),
-        ("", Found::Nothing),
-    ];
-    for (path, found) in paths {
+    for (path, found) in PATHS {
         assert!(rt; table.find(path.as_bytes()) == found, "{path}");
     }
     Ok(())
@@ -122,153 +137,168 @@ fn finds_by_path(rt: HostRuntime) -> Result<(), Fail> {
 
 #[test]
 fn rounds_rates_up(rt: HostRuntime) -> Result<(), Fail> {
-    let text = EXAMPLE.replacen(rt.alloc(), "octets = 160", "octets = 1", 1)?;
-    let text = text
-        .as_str()
-        .replacen(rt.alloc(), "unit_ms = 20", "unit_ms = 3", 1)?;
-    let table = Table::read(rt.alloc(), text.as_bytes())?;
-    let presentation = table.presentation(0).expect(&rt, "the first");
-    let track = presentation.track(0).expect(&rt, "the first");
-    assert!(rt; presentation.rate(track) == 109_334);
+    let table = of_short_units(rt.alloc())?;
+    assert!(rt; first_rate(&table) == Some(109_334));
     Ok(())
 }
 
+// The example with an octet in each unit of 3 ms of its first track.
+fn of_short_units(alloc: Global) -> Result<Table, Fail> {
+    let text = EXAMPLE.replacen(alloc, "octets = 160", "octets = 1", 1)?;
+    let text = text
+        .as_str()
+        .replacen(alloc, "unit_ms = 20", "unit_ms = 3", 1)?;
+    Ok(Table::read(alloc, text.as_bytes())?)
+}
+
+fn first_rate(table: &Table) -> Option<u64> {
+    let presentation = table.presentation(0)?;
+    let track = presentation.track(0)?;
+    Some(presentation.rate(track))
+}
+
+const FAULTS: [(&str, &str, TableFault); 8] = [
+    ("pairs = 2", "pairs = 4097", TableFault::BadValue),
+    ("uplink = 160000\n", "", TableFault::Missing),
+    ("name = \"b\"", "name = \"a\"", TableFault::Duplicate),
+    (
+        "first_port = 5000\npairs = 2",
+        "first_port = 1",
+        TableFault::BadValue,
+    ),
+    ("sessions = 4", "workers = 0", TableFault::Missing),
+    ("[[presentation]]", "[presentation]", TableFault::BadValue),
+    ("[server]", "server = 1\n[x]", TableFault::BadValue),
+    (
+        "[server]",
+        "presentation = 1\n[server]",
+        TableFault::NotToml,
+    ),
+];
+
+const KEYS: [&str; 15] = [
+    "server",
+    "first_port",
+    "pairs",
+    "uplink",
+    "sessions",
+    "name",
+    "units",
+    "unit_ms",
+    "media",
+    "pt",
+    "encoding",
+    "clock",
+    "octets",
+    "ticks",
+    "file",
+];
+
 #[test]
 fn names_the_fault(rt: HostRuntime) -> Result<(), AllocError> {
-    let faults = [
-        ("pairs = 2", "pairs = 4097", TableFault::BadValue),
-        ("uplink = 160000\n", "", TableFault::Missing),
-        ("name = \"b\"", "name = \"a\"", TableFault::Duplicate),
-        (
-            "first_port = 5000\npairs = 2",
-            "first_port = 1",
-            TableFault::BadValue,
-        ),
-        ("sessions = 4", "workers = 0", TableFault::Missing),
-        ("[[presentation]]", "[presentation]", TableFault::BadValue),
-        ("[server]", "server = 1\n[x]", TableFault::BadValue),
-        (
-            "[server]",
-            "presentation = 1\n[server]",
-            TableFault::NotToml,
-        ),
-    ];
-    for (old, new, fault) in faults {
-        assert!(rt; fault_with(rt.alloc(), old, new)? == Some(fault), "{new}");
+    for (old, new, fault) in FAULTS {
+        assert_fault(&rt, rt.alloc(), old, new, Some(fault))?;
+    }
+    for key in KEYS {
+        assert_fault(&rt, rt.alloc(), key, "x", Some(TableFault::Missing))?;
     }
     assert!(rt; fault_of(rt.alloc(), "=") == Some(TableFault::NotToml));
     assert!(rt; fault_of(rt.alloc(), "") == Some(TableFault::Missing));
-    for key in [
-        "server",
-        "first_port",
-        "pairs",
-        "uplink",
-        "sessions",
-        "name",
-        "units",
-        "unit_ms",
-        "media",
-        "pt",
-        "encoding",
-        "clock",
-        "octets",
-        "ticks",
-        "file",
-    ] {
-        assert!(rt;
-            fault_with(rt.alloc(), key, "x")? == Some(TableFault::Missing),
-            "{key}"
-        );
-    }
     Ok(())
+}
+
+const LIMITS: [(&str, &str, &str); 38] = [
+    (
+        "first_port = 5000",
+        "first_port = 1024",
+        "first_port = 1022",
+    ),
+    (
+        "first_port = 5000",
+        "first_port = 5002",
+        "first_port = 5001",
+    ),
+    (
+        "first_port = 5000",
+        "first_port = 65532",
+        "first_port = 65534",
+    ),
+    ("pairs = 2", "pairs = 0", "pairs = -1"),
+    ("pairs = 2", "pairs = 4096", "pairs = 4097"),
+    ("uplink = 160000", "uplink = 0", "uplink = -1"),
+    (
+        "uplink = 160000",
+        "uplink = 1000000000000",
+        "uplink = 1000000000001",
+    ),
+    ("sessions = 4", "sessions = 1", "sessions = 0"),
+    ("sessions = 4", "sessions = 4096", "sessions = 4097"),
+    ("timeout = 60", "timeout = 1", "timeout = 0"),
+    ("timeout = 60", "timeout = 86400", "timeout = 86401"),
+    (
+        "timeout = 60",
+        "renewal_step = 59999",
+        "renewal_step = 60000",
+    ),
+    (
+        "timeout = 60",
+        "timeout = 1\nrenewal_step = 999",
+        "timeout = 1\nrenewal_step = 1000",
+    ),
+    ("timeout = 60", "renewal_step = 1", "renewal_step = 0"),
+    ("timeout = 60", "journal = 1", "journal = 0"),
+    ("timeout = 60", "journal = 1000000", "journal = 1000001"),
+    ("timeout = 60", "workers = 1", "workers = 0"),
+    ("timeout = 60", "workers = 64", "workers = 65"),
+    ("timeout = 60", "colour = \"red\"", "timeout = \"60\""),
+    ("units = 500", "units = 1", "units = 0"),
+    ("units = 500", "units = 10000000", "units = 10000001"),
+    ("unit_ms = 20", "unit_ms = 1", "unit_ms = 0"),
+    ("unit_ms = 20", "unit_ms = 1000", "unit_ms = 1001"),
+    (
+        "media = \"audio\"",
+        "media = \"video\"",
+        "media = \"Audio\"",
+    ),
+    ("pt = 0", "pt = 127", "pt = 128"),
+    ("pt = 0", "pt = 0x7f", "pt = 0.0"),
+    ("\"PCMU\"", "\"L16-44\"", "\"L16/44\""),
+    (
+        "\"PCMU\"",
+        "\"ABCDEFGHIJKLMNOPQRSTUVWXYZ123456\"",
+        "\"ABCDEFGHIJKLMNOPQRSTUVWXYZ1234567\"",
+    ),
+    ("clock = 8000", "clock = 1", "clock = 0"),
+    ("clock = 8000", "clock = 1000000", "clock = 1000001"),
+    ("octets = 160", "octets = 1", "octets = 0"),
+    ("octets = 160", "octets = 1400", "octets = 1401"),
+    ("ticks = 160", "ticks = 1", "ticks = 0"),
+    ("ticks = 160", "ticks = 1000000", "ticks = 1000001"),
+    ("\"tone-a.raw\"", "\"\"", "[]"),
+    ("\"tone\"", "\"b\"", "\"\""),
+    ("\"tone\"", "\"to_n-3\"", "\"to.ne\""),
+    ("\"a\"", "\"tone\"", "\"A\""),
+];
+
+// A part of the example may be replaced by what is good, and not by what is bad.
+fn assert_limit(
+    rt: &impl Abort,
+    alloc: Global,
+    old: &str,
+    good: &str,
+    bad: &str,
+) -> Result<(), AllocError> {
+    assert_fault(rt, alloc, old, good, None)?;
+    assert_fault(rt, alloc, old, bad, Some(TableFault::BadValue))
 }
 
 #[test]
 fn keeps_every_limit(rt: HostRuntime) -> Result<(), AllocError> {
-    let limits = [
-        (
-            "first_port = 5000",
-            "first_port = 1024",
-            "first_port = 1022",
-        ),
-        (
-            "first_port = 5000",
-            "first_port = 5002",
-            "first_port = 5001",
-        ),
-        (
-            "first_port = 5000",
-            "first_port = 65532",
-            "first_port = 65534",
-        ),
-        ("pairs = 2", "pairs = 0", "pairs = -1"),
-        ("pairs = 2", "pairs = 4096", "pairs = 4097"),
-        ("uplink = 160000", "uplink = 0", "uplink = -1"),
-        (
-            "uplink = 160000",
-            "uplink = 1000000000000",
-            "uplink = 1000000000001",
-        ),
-        ("sessions = 4", "sessions = 1", "sessions = 0"),
-        ("sessions = 4", "sessions = 4096", "sessions = 4097"),
-        ("timeout = 60", "timeout = 1", "timeout = 0"),
-        ("timeout = 60", "timeout = 86400", "timeout = 86401"),
-        (
-            "timeout = 60",
-            "renewal_step = 59999",
-            "renewal_step = 60000",
-        ),
-        (
-            "timeout = 60",
-            "timeout = 1\nrenewal_step = 999",
-            "timeout = 1\nrenewal_step = 1000",
-        ),
-        ("timeout = 60", "renewal_step = 1", "renewal_step = 0"),
-        ("timeout = 60", "journal = 1", "journal = 0"),
-        ("timeout = 60", "journal = 1000000", "journal = 1000001"),
-        ("timeout = 60", "workers = 1", "workers = 0"),
-        ("timeout = 60", "workers = 64", "workers = 65"),
-        ("timeout = 60", "colour = \"red\"", "timeout = \"60\""),
-        ("units = 500", "units = 1", "units = 0"),
-        ("units = 500", "units = 10000000", "units = 10000001"),
-        ("unit_ms = 20", "unit_ms = 1", "unit_ms = 0"),
-        ("unit_ms = 20", "unit_ms = 1000", "unit_ms = 1001"),
-        (
-            "media = \"audio\"",
-            "media = \"video\"",
-            "media = \"Audio\"",
-        ),
-        ("pt = 0", "pt = 127", "pt = 128"),
-        ("pt = 0", "pt = 0x7f", "pt = 0.0"),
-        ("\"PCMU\"", "\"L16-44\"", "\"L16/44\""),
-        (
-            "\"PCMU\"",
-            "\"ABCDEFGHIJKLMNOPQRSTUVWXYZ123456\"",
-            "\"ABCDEFGHIJKLMNOPQRSTUVWXYZ1234567\"",
-        ),
-        ("clock = 8000", "clock = 1", "clock = 0"),
-        ("clock = 8000", "clock = 1000000", "clock = 1000001"),
-        ("octets = 160", "octets = 1", "octets = 0"),
-        ("octets = 160", "octets = 1400", "octets = 1401"),
-        ("ticks = 160", "ticks = 1", "ticks = 0"),
-        ("ticks = 160", "ticks = 1000000", "ticks = 1000001"),
-        ("\"tone-a.raw\"", "\"\"", "[]"),
-        ("\"tone\"", "\"b\"", "\"\""),
-        ("\"tone\"", "\"to_n-3\"", "\"to.ne\""),
-        ("\"a\"", "\"tone\"", "\"A\""),
-    ];
-    for (old, good, bad) in limits {
-        assert!(rt; fault_with(rt.alloc(), old, good)?.is_none(), "{good}");
-        assert!(rt;
-            fault_with(rt.alloc(), old, bad)? == Some(TableFault::BadValue),
-            "{bad}"
-        );
+    for (old, good, bad) in LIMITS {
+        assert_limit(&rt, rt.alloc(), old, good, bad)?;
     }
-    assert!(rt; fault_with(rt.alloc(), "tone", NAME_OF_64)?.is_none());
     let longer = format!(in rt.alloc(); "{NAME_OF_64}a")?;
-    let fault = fault_with(rt.alloc(), "tone", longer.as_str())?;
-    assert!(rt; fault == Some(TableFault::BadValue));
-    Ok(())
+    assert_limit(&rt, rt.alloc(), "tone", NAME_OF_64, longer.as_str())
 }
 
 // A configuration with this many presentations, the first of which has this many tracks.
@@ -278,31 +308,40 @@ fn with_counts(alloc: Global, presentations: u16, tracks: u16) -> Result<String,
         "[server]\nfirst_port = 5000\npairs = 2\nuplink = 160000\nsessions = 4\n",
     )?;
     for presentation in 0..presentations {
-        let head = format!(in alloc;
-            "[[presentation]]\nname = \"p{presentation}\"\nunits = 1\nunit_ms = 1\n"
-        )?;
-        text.push_str(head.as_str())?;
+        push_presentation(&mut text, alloc, presentation)?;
         let count = if presentation == 0 { tracks } else { 1 };
         for track in 0..count {
-            let lines = format!(in alloc;
-                "[[presentation.track]]\nname = \"t{track}\"\nmedia = \"video\"\npt = 96\nencoding = \"H264\"\nclock = 90000\noctets = 1400\nticks = 90\nfile = \"f\"\n"
-            )?;
-            text.push_str(lines.as_str())?;
+            push_track(&mut text, alloc, track)?;
         }
     }
     Ok(text)
 }
 
+fn push_presentation(text: &mut String, alloc: Global, number: u16) -> Result<(), AllocError> {
+    let head = format!(in alloc;
+        "[[presentation]]\nname = \"p{number}\"\nunits = 1\nunit_ms = 1\n"
+    )?;
+    text.push_str(head.as_str())
+}
+
+fn push_track(text: &mut String, alloc: Global, number: u16) -> Result<(), AllocError> {
+    let lines = format!(in alloc;
+        "[[presentation.track]]\nname = \"t{number}\"\nmedia = \"video\"\npt = 96\nencoding = \"H264\"\nclock = 90000\noctets = 1400\nticks = 90\nfile = \"f\"\n"
+    )?;
+    text.push_str(lines.as_str())
+}
+
+const COUNTS: [(u16, u16, Option<TableFault>); 5] = [
+    (256, 8, None),
+    (257, 8, Some(TableFault::BadValue)),
+    (1, 9, Some(TableFault::BadValue)),
+    (1, 0, Some(TableFault::Missing)),
+    (0, 0, Some(TableFault::Missing)),
+];
+
 #[test]
 fn counts_tables(rt: HostRuntime) -> Result<(), AllocError> {
-    let counts = [
-        (256, 8, None),
-        (257, 8, Some(TableFault::BadValue)),
-        (1, 9, Some(TableFault::BadValue)),
-        (1, 0, Some(TableFault::Missing)),
-        (0, 0, Some(TableFault::Missing)),
-    ];
-    for (presentations, tracks, fault) in counts {
+    for (presentations, tracks, fault) in COUNTS {
         let text = with_counts(rt.alloc(), presentations, tracks)?;
         assert!(rt;
             fault_of(rt.alloc(), text.as_str()) == fault,

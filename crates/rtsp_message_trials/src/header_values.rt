@@ -1,8 +1,10 @@
+use rtsp_text::Text;
 use rtsp_transport::{
-    ChannelPair, Granted, Pick, TextFault, is_known, pick, read_cseq, read_session, read_startup,
-    read_tags, read_transports, session_id, write_session_id, write_ssrc, write_transport,
+    ChannelPair, Granted, Parameter, Pick, Spec, TextFault, is_known, pick, read_cseq,
+    read_session, read_startup, read_tags, read_transports, session_id, write_session_id,
+    write_ssrc, write_transport,
 };
-use std::alloc::Global;
+use std::alloc::{AllocError, Global};
 use std::process::Abort;
 use std::test::Fail;
 
@@ -17,30 +19,33 @@ const UDP: Pick = Pick::Udp {
     rtcp_port: 8001,
 };
 
+// The first of them that can be served, or why none can.
+const FIRST_USABLE: [(&str, Pick); 6] = [
+    ("RTP/AVP/TCP;interleaved=1-2", Pick::Inter { wish: None }),
+    ("RTP/AVP;unicast;dest_addr=\":8000\"/\":8001\"", UDP),
+    (
+        "rtp/avp/udp ; mode=\"play\";dest_addr=\"127.0.0.1:8000\"/\":8001\"",
+        UDP,
+    ),
+    (
+        "RTP/AVP;dest_addr=\"192.0.2.9:8000\"/\"192.0.2.9:8001\"",
+        Pick::Prohibited,
+    ),
+    (
+        "RTP/AVP;dest_addr=\"[x]:8000\"/\":8001\"",
+        Pick::Unsupported,
+    ),
+    ("RTP/AVP/TCP;interleaved=0-1;mode=RECORD", Pick::Unsupported),
+];
+
 #[test]
 fn first_usable_transport(rt: HostRuntime) -> Result<(), Fail> {
     let wish = ChannelPair::new(2);
     assert!(rt; matches!(wish, Some(pair) if pair.rtp() == 2) && ChannelPair::new(3).is_none());
-    let own = b"rtp/avp/udp ; mode=\"play\";dest_addr=\"127.0.0.1:8000\"/\":8001\"";
-    let other = b"RTP/AVP;dest_addr=\"192.0.2.9:8000\"/\"192.0.2.9:8001\"";
-    let bracket = b"RTP/AVP;dest_addr=\"[x]:8000\"/\":8001\"";
-    let cases = [
-        (
-            b"RTP/SAVP;unicast, RTP/AVP/TCP;interleaved=2-3".as_slice(),
-            Pick::Inter { wish },
-        ),
-        (b"RTP/AVP/TCP;interleaved=1-2", Pick::Inter { wish: None }),
-        (b"RTP/AVP;unicast;dest_addr=\":8000\"/\":8001\"", UDP),
-        (own, UDP),
-        (other, Pick::Prohibited),
-        (bracket, Pick::Unsupported),
-        (
-            b"RTP/AVP/TCP;interleaved=0-1;mode=RECORD",
-            Pick::Unsupported,
-        ),
-    ];
-    for (text, expected) in cases.iter() {
-        assert!(rt; picked(rt.alloc(), text)? == *expected);
+    let over_channels = ["RTP/SAVP;unicast, RTP/AVP/TCP;interleaved=2-3"];
+    come_to(&rt, rt.alloc(), &over_channels, Pick::Inter { wish })?;
+    for (text, expected) in FIRST_USABLE {
+        come_to(&rt, rt.alloc(), &[text], expected)?;
     }
     Ok(())
 }
@@ -94,22 +99,33 @@ fn transports_on_one_port(rt: HostRuntime) -> Result<(), Fail> {
     come_to(&rt, alloc, &foreign, Pick::Prohibited)
 }
 
+const NO_TREES: [&[u8]; 5] = [
+    b"",
+    b"RTP/AVP,",
+    b"RTP/AVP;;a",
+    b"RTP/AVP;a=\"",
+    b"a,a,a,a,a,a,a,a,a,a,a,a,a,a,a,a,a",
+];
+
+// Two transports, the first of which has two parameters.
+fn are_two(specs: &[Spec]) -> bool {
+    specs.len() == 2
+        && specs[0].protocol.as_bytes() == b"RTP/AVP".as_slice()
+        && are_two_parameters(specs[0].parameters.as_slice())
+}
+
+fn are_two_parameters(parameters: &[Parameter]) -> bool {
+    parameters.len() == 2
+        && parameters[1].name.as_bytes() == b"b".as_slice()
+        && parameters[1].value.is_none()
+}
+
 #[test]
 fn transports_as_trees(rt: HostRuntime) -> Result<(), Fail> {
-    let specs = read_transports(rt.alloc(), b" RTP/AVP ; a=\";,\";b,X")?;
-    assert!(rt; specs.len() == 2 && specs[0].protocol.as_bytes() == b"RTP/AVP".as_slice());
-    let parameters = specs[0].parameters.as_slice();
-    assert!(rt; parameters.len() == 2 && parameters[1].name.as_bytes() == b"b".as_slice());
-    assert!(rt; parameters[1].value.is_none());
-    let seventeen = b"a,a,a,a,a,a,a,a,a,a,a,a,a,a,a,a,a".as_slice();
-    for text in [
-        b"".as_slice(),
-        b"RTP/AVP,",
-        b"RTP/AVP;;a",
-        b"RTP/AVP;a=\"",
-        seventeen,
-    ] {
-        assert!(rt; matches!(read_transports(rt.alloc(), text), Err(TextFault::Malformed)));
+    assert!(rt; are_two(&read_transports(rt.alloc(), b" RTP/AVP ; a=\";,\";b,X")?));
+    for text in NO_TREES {
+        let refused = read_transports(rt.alloc(), text).err();
+        assert!(rt; refused == Some(TextFault::Malformed));
     }
     Ok(())
 }
@@ -132,16 +148,21 @@ const OVER_CHANNELS: Granted = Granted::Inter {
     ssrc: 1,
 };
 
+// What players are told that were granted these, and an SSRC, each on a line.
+fn write_granted(out: &mut Vec<u8>) -> Result<(), AllocError> {
+    write_transport(out, &OVER_UDP)?;
+    out.push(b'\n')?;
+    write_transport(out, &OVER_ONE_PORT)?;
+    out.push(b'\n')?;
+    write_transport(out, &OVER_CHANNELS)?;
+    out.push(b'\n')?;
+    write_ssrc(out, 0xab)
+}
+
 #[test]
 fn transports_of_answers(rt: HostRuntime) -> Result<(), Fail> {
     let mut out = Vec::new(rt.alloc());
-    write_transport(&mut out, &OVER_UDP)?;
-    out.push(b'\n')?;
-    write_transport(&mut out, &OVER_ONE_PORT)?;
-    out.push(b'\n')?;
-    write_transport(&mut out, &OVER_CHANNELS)?;
-    out.push(b'\n')?;
-    write_ssrc(&mut out, 0xab)?;
+    write_granted(&mut out)?;
     let expected =
         b"RTP/AVP;unicast;dest_addr=\":8000\"/\":8001\";src_addr=\":5000\"/\":5001\";ssrc=00000003
 RTP/AVP;unicast;dest_addr=\":8000\";src_addr=\":5000\";RTCP-mux;ssrc=00000001
@@ -151,41 +172,56 @@ RTP/AVP/TCP;unicast;interleaved=0-1;ssrc=00000001
     Ok(())
 }
 
+const ID_31: &[u8] = b"0000000000000000000000000000001f";
+
+const IDS: [(&[u8], Option<u128>); 3] = [
+    (ID_31, Some(31)),
+    (b"0000000000000000000000000000001F", None),
+    (b"1f", None),
+];
+
+const NO_SESSIONS: [&[u8]; 3] = [b"a b", b"", b"abc ;timeout=9"];
+
+fn is_no_session(text: &[u8]) -> bool {
+    matches!(read_session(text), Err(TextFault::Malformed))
+}
+
 #[test]
 fn sessions(rt: HostRuntime) -> Result<(), Fail> {
-    assert!(rt; read_session(b"abc;timeout=9")? == b"abc".as_slice());
-    for text in [b"a b".as_slice(), b"", b"abc ;timeout=9"] {
-        assert!(rt; matches!(read_session(text), Err(TextFault::Malformed)));
+    for (text, id) in IDS {
+        assert!(rt; session_id(text) == id);
     }
-    let text = b"0000000000000000000000000000001f";
-    let ids = [
-        session_id(text),
-        session_id(b"0000000000000000000000000000001F"),
-        session_id(b"1f"),
-    ];
-    assert!(rt; ids == [Some(31), None, None]);
+    for text in NO_SESSIONS {
+        assert!(rt; is_no_session(text));
+    }
+    assert!(rt; read_session(b"abc;timeout=9")? == b"abc".as_slice());
     let mut out = Vec::new(rt.alloc());
     write_session_id(&mut out, 31)?;
-    assert!(rt; out.as_slice() == text.as_slice());
+    assert!(rt; out.as_slice() == ID_31);
     Ok(())
 }
 
 #[test]
 fn numbers(rt: HostRuntime) {
-    assert!(rt; matches!(read_startup(b"00000007"), Ok(7)));
-    assert!(rt; matches!(read_startup(b"123456789"), Err(TextFault::Malformed)));
-    assert!(rt; matches!(read_cseq(b"123456789"), Ok(123_456_789)));
-    assert!(rt; matches!(read_cseq(b"1234567890"), Err(TextFault::Malformed)));
+    assert!(rt; read_startup(b"00000007") == Ok(7));
+    assert!(rt; read_startup(b"123456789") == Err(TextFault::Malformed));
+    assert!(rt; read_cseq(b"123456789") == Ok(123_456_789));
+    assert!(rt; read_cseq(b"1234567890") == Err(TextFault::Malformed));
+}
+
+fn are_three(tags: &[Text]) -> bool {
+    tags.len() == 3
+        && tags[1].as_bytes() == b"x.y".as_slice()
+        && is_known(tags[0].as_bytes())
+        && !is_known(tags[1].as_bytes())
 }
 
 #[test]
 fn tags(rt: HostRuntime) -> Result<(), Fail> {
-    let tags = read_tags(rt.alloc(), b"play.basic, x.y ,z")?;
-    assert!(rt; tags.len() == 3 && tags[1].as_bytes() == b"x.y".as_slice());
-    assert!(rt; is_known(tags[0].as_bytes()) && !is_known(tags[1].as_bytes()));
+    assert!(rt; are_three(&read_tags(rt.alloc(), b"play.basic, x.y ,z")?));
     assert!(rt; !is_known(b"Play.basic"));
     assert!(rt; is_known(b"setup.rtp.rtcp.mux") && !is_known(b"setup.rtp.rtcp"));
-    let cut = read_tags(rt.alloc(), b"play.basic,");
-    assert!(rt; matches!(cut, Err(TextFault::Malformed)));
+    let cut = read_tags(rt.alloc(), b"play.basic,").err();
+    assert!(rt; cut == Some(TextFault::Malformed));
     Ok(())
 }

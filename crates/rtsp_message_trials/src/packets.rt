@@ -8,6 +8,7 @@ use rtsp_record::{Holding, Id, Life, Phase, Record, Setup, Stream, Thing, Transi
 use rtsp_rtp::*;
 use rtsp_sessions::{BookRep, PlainBook, SessionView};
 use std::alloc::Global;
+use std::process::Abort;
 use std::test::Fail;
 
 // A server with two pairs of ports, and bandwidth for two streams of the example.
@@ -150,15 +151,20 @@ fn a_packet_and_its_frame(rt: HostRuntime) -> Result<(), Fail> {
         panic!(rt; "there is a track")
     };
     let mut packet = packet(track, &stream(0), &PLAYING, 1, &[7; 160]);
-    let header = [0x80, 0, 0, 0, 0, 0, 0, 0x40, 0, 0, 0, 1];
-    let datagram = packet.datagram();
-    assert!(rt;
-        datagram.starts_with(&header) && datagram.ends_with(&[7; 160]) && datagram.len() == 172
-    );
-    assert!(rt; packet.frame(0).starts_with(&[0x24, 0, 0, 0xac, 0x80, 0]));
-    assert!(rt; packet.frame(3).starts_with(&[0x24, 3]) && packet.frame(3).len() == 176);
+    assert!(rt; is_second_unit(packet.datagram()) && is_framed(&mut packet));
     assert!(rt; Packet::new().datagram().is_empty());
     Ok(())
+}
+
+fn is_second_unit(datagram: &[u8]) -> bool {
+    let header = [0x80, 0, 0, 0, 0, 0, 0, 0x40, 0, 0, 0, 1];
+    datagram.starts_with(&header) && datagram.ends_with(&[7; 160]) && datagram.len() == 172
+}
+
+fn is_framed(packet: &mut Packet) -> bool {
+    packet.frame(0).starts_with(&[0x24, 0, 0, 0xac, 0x80, 0])
+        && packet.frame(3).starts_with(&[0x24, 3])
+        && packet.frame(3).len() == 176
 }
 
 // A moment, what a turn comes to then, how many packets are sent by then, and when the next one is
@@ -197,61 +203,87 @@ fn is_turned(pacer: &mut Pacer, view: &SessionView, sink: &mut Keeps, wanted: &T
     comes_to == turn && sink.sent == sent && pacer.next_due() == next
 }
 
-#[test]
-fn a_turn_sends_what_is_due(rt: HostRuntime) -> Result<(), Fail> {
-    let table = Table::read(rt.alloc(), EXAMPLE.as_bytes())?;
-    let Some(view) = session(rt.alloc(), &[0], PLAYING)? else {
-        panic!(rt; "it is open")
-    };
-    let Some(mut pacer) = Pacer::start(&view, &table.presentations()[0]) else {
+fn assert_turned(
+    rt: &impl Abort,
+    pacer: &mut Pacer,
+    view: &SessionView,
+    sink: &mut Keeps,
+    turns: &[Turned],
+) {
+    for (number, wanted) in turns.iter().enumerate() {
+        assert!(rt; is_turned(pacer, view, sink, wanted), "turn {number}");
+    }
+}
+
+// A pacer of a session that plays.
+fn pacer_of(rt: &impl Abort, alloc: Global, view: &SessionView) -> Result<Pacer, Fail> {
+    let table = Table::read(alloc, EXAMPLE.as_bytes())?;
+    let Some(pacer) = Pacer::start(view, &table.presentations()[0]) else {
         panic!(rt; "it plays")
     };
-    let mut sink = failing_at(2);
-    assert!(rt; pacer.session() == 2 && pacer.next_due() == Some(0));
-    for (number, wanted) in TURNS.iter().enumerate() {
-        assert!(rt;
-            is_turned(&mut pacer, &view, &mut sink, wanted),
-            "turn {number}"
-        );
-    }
-    assert!(rt; sink.failures == 1 && sink.last_unit == 499);
-    assert!(rt; sink.heads[0] == [0x80, 0, 0xff, 0xff, 0xff, 0xff, 0xff, 0xa0, 0, 0, 0, 1]);
-    assert!(rt; sink.heads[2] == [0x80, 0, 0, 1, 0, 0, 0, 0xe0, 0, 0, 0, 1]);
-    Ok(())
+    Ok(pacer)
 }
 
 #[test]
-fn a_turn_of_two_tracks_and_of_another_play(rt: HostRuntime) -> Result<(), Fail> {
-    let table = Table::read(rt.alloc(), EXAMPLE.as_bytes())?;
-    let presentation = &table.presentations()[0];
-    let phase = Phase::Playing {
-        since: 1_000,
-        from: 7,
-        stop: 9,
-        sent: 1,
-    };
-    let Some(view) = session(rt.alloc(), &[1, 0], phase)? else {
+fn a_turn_sends_what_is_due(rt: HostRuntime) -> Result<(), Fail> {
+    let Some(view) = session(rt.alloc(), &[0], PLAYING)? else {
         panic!(rt; "it is open")
     };
-    let Some(mut pacer) = Pacer::start(&view, presentation) else {
-        panic!(rt; "it plays")
+    let mut pacer = pacer_of(&rt, rt.alloc(), &view)?;
+    assert!(rt; pacer.session() == 2 && pacer.next_due() == Some(0));
+    let mut sink = failing_at(2);
+    assert_turned(&rt, &mut pacer, &view, &mut sink, &TURNS);
+    assert!(rt; has_failed_once(&sink));
+    Ok(())
+}
+
+// The first packet and the one that couldn't be sent at first have these headers.
+fn has_failed_once(sink: &Keeps) -> bool {
+    sink.failures == 1
+        && sink.last_unit == 499
+        && sink.heads[0] == [0x80, 0, 0xff, 0xff, 0xff, 0xff, 0xff, 0xa0, 0, 0, 0, 1]
+        && sink.heads[2] == [0x80, 0, 0, 1, 0, 0, 0, 0xe0, 0, 0, 0, 1]
+}
+
+const OF_TWO_UNITS: Phase = Phase::Playing {
+    since: 1_000,
+    from: 7,
+    stop: 9,
+    sent: 1,
+};
+
+#[test]
+fn a_turn_of_two_tracks_and_of_another_play(rt: HostRuntime) -> Result<(), Fail> {
+    let Some(view) = session(rt.alloc(), &[1, 0], OF_TWO_UNITS)? else {
+        panic!(rt; "it is open")
     };
+    let mut pacer = pacer_of(&rt, rt.alloc(), &view)?;
     let mut sink = failing_at(usize::MAX);
-    let Some(other) = session(rt.alloc(), &[1, 0], PLAYING)? else {
+    assert_other_play(&rt, rt.alloc(), &mut pacer, &mut sink)?;
+    assert_turned(&rt, &mut pacer, &view, &mut sink, &TURNS_OF_TWO);
+    assert!(rt; has_both_tracks(&sink));
+    Ok(())
+}
+
+// Another play of the session isn't the pacer's.
+fn assert_other_play(
+    rt: &impl Abort,
+    alloc: Global,
+    pacer: &mut Pacer,
+    sink: &mut Keeps,
+) -> Result<(), Fail> {
+    let Some(other) = session(alloc, &[1, 0], PLAYING)? else {
         panic!(rt; "it is open")
     };
     assert!(rt; !pacer.is_of(other.session(), other.phase()));
-    assert!(rt; is_turned(&mut pacer, &other, &mut sink, &OTHER_TURN));
-    for (number, wanted) in TURNS_OF_TWO.iter().enumerate() {
-        assert!(rt;
-            is_turned(&mut pacer, &view, &mut sink, wanted),
-            "turn {number}"
-        );
-    }
-    assert!(rt; sink.last_unit == 8);
-    assert!(rt; sink.heads[0] == [0x80, 0, 0, 0, 0, 0, 0, 0x40, 0, 0, 0, 1]);
-    assert!(rt; sink.heads[1] == [0x80, 8, 0, 0, 0, 0, 0, 0x40, 0, 0, 0, 2]);
+    assert!(rt; is_turned(pacer, &other, sink, &OTHER_TURN));
     Ok(())
+}
+
+fn has_both_tracks(sink: &Keeps) -> bool {
+    sink.last_unit == 8
+        && sink.heads[0] == [0x80, 0, 0, 0, 0, 0, 0, 0x40, 0, 0, 0, 1]
+        && sink.heads[1] == [0x80, 8, 0, 0, 0, 0, 0, 0x40, 0, 0, 0, 2]
 }
 
 #[test]

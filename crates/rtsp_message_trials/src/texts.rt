@@ -3,7 +3,7 @@ use rtsp_text::{
     is_token, is_token_byte, number_of, split_once, three_digits, trim_end, trim_start, trimmed,
     write_decimal, write_hex_u32, write_hex_u128,
 };
-use std::alloc::AllocError;
+use std::alloc::{AllocError, Global};
 use std::test::Fail;
 
 #[test]
@@ -40,14 +40,18 @@ fn numbers(rt: HostRuntime) -> Result<(), Fail> {
     Ok(())
 }
 
+fn write_numbers(out: &mut Vec<u8>) -> Result<(), AllocError> {
+    write_decimal(out, 120)?;
+    append_all(out, &[b" ", b"", b"- "])?;
+    write_hex_u32(out, 0x00ab_cdef)?;
+    out.push(b' ')?;
+    write_hex_u128(out, 31)
+}
+
 #[test]
 fn written(rt: HostRuntime) -> Result<(), Fail> {
     let mut out = Vec::new(rt.alloc());
-    write_decimal(&mut out, 120)?;
-    append_all(&mut out, &[b" ", b"", b"- "])?;
-    write_hex_u32(&mut out, 0x00ab_cdef)?;
-    out.push(b' ')?;
-    write_hex_u128(&mut out, 31)?;
+    write_numbers(&mut out)?;
     let len = out.len();
     let written = out.push(b'!');
     all_or_nothing(&mut out, len, written.map_err(|_| AllocError))?;
@@ -56,17 +60,27 @@ fn written(rt: HostRuntime) -> Result<(), Fail> {
     Ok(())
 }
 
-#[test]
-fn texts_and_lists(rt: HostRuntime) -> Result<(), Fail> {
-    let copied = Text::from_slice(rt.alloc(), b"npt")?;
-    let fixed = Text::fixed(b"2.0");
-    let own = Text::from_vec(Vec::from_slice(rt.alloc(), b"a")?);
-    let found = [copied.as_bytes(), fixed.as_bytes(), own.as_bytes()];
-    assert!(rt; found == [b"npt".as_slice(), b"2.0", b"a"]);
-    let mut list = List::new(rt.alloc());
+fn is_text(text: &Text, bytes: &[u8]) -> bool {
+    text.as_bytes() == bytes
+}
+
+fn of_1_and_2(alloc: Global) -> Result<List<u8>, AllocError> {
+    let mut list = List::new(alloc);
     list.push(1u8)?;
     list.push(2u8)?;
-    let items = List::from_vec(Vec::from_slice(rt.alloc(), b"xy")?);
-    assert!(rt; list.as_slice() == [1, 2].as_slice() && items.as_slice() == b"xy".as_slice());
+    Ok(list)
+}
+
+fn of_bytes(alloc: Global, bytes: &[u8]) -> Result<List<u8>, AllocError> {
+    Ok(List::from_vec(Vec::from_slice(alloc, bytes)?))
+}
+
+#[test]
+fn texts_and_lists(rt: HostRuntime) -> Result<(), Fail> {
+    assert!(rt; is_text(&Text::from_slice(rt.alloc(), b"npt")?, b"npt"));
+    assert!(rt; is_text(&Text::fixed(b"2.0"), b"2.0"));
+    assert!(rt; is_text(&Text::from_vec(Vec::from_slice(rt.alloc(), b"a")?), b"a"));
+    assert!(rt; of_1_and_2(rt.alloc())?.as_slice() == [1, 2].as_slice());
+    assert!(rt; of_bytes(rt.alloc(), b"xy")?.as_slice() == b"xy".as_slice());
     Ok(())
 }
