@@ -2,11 +2,11 @@
 
 ghost use Rattle.rtsp_lock.specs.Calls.{IsSeatOf, SameSeat};
 
-use crate::handle::BookHandle;
 use crate::service::Service;
 use rtsp_content::Table;
 use rtsp_engine::{Asker, Binder, Clock, Connection, Desk, Plays, Words};
 use rtsp_grammar::MessageFault;
+use rtsp_lanes::BookHandle;
 use rtsp_lock::{BookLock, BookSeat};
 use rtsp_sockets::{PieceClock, PortBinder};
 use rtsp_state::Room;
@@ -48,35 +48,33 @@ fn push_lent<'a, R: Wait, B: Binder, W: Words, C: Clock, P: Plays>(
     desk.push(alloc, input, piece, room)
 }
 
-impl BookHandle {
-    /// Takes a piece of a connection's input, as `Desk::push` does, over the server's sockets and
-    /// its clock, which is read once at most.
-    pub(crate) fn push<R: Wait + Net + rt::Clock, W: Words, P: Plays>(
-        &mut self,
-        service: &Service<'_, R>,
-        asker: Asker,
-        words: &mut W,
-        plays: &mut P,
-        input: &mut Connection,
-        piece: &[u8],
-        room: &mut Room,
-    ) -> Result<(), MessageFault> {
-        let mut binder = PortBinder::new(service.rt, &service.shared.ports);
-        let mut clock = PieceClock::new(service.rt, service.shared.begun);
-        push_lent(
-            service.rt,
-            service.alloc,
-            &mut self.seat,
-            &self.lock,
-            &mut binder,
-            words,
-            &mut clock,
-            plays,
-            service.table,
-            asker,
-            input,
-            piece,
-            room,
-        )
-    }
+/// Takes a piece of a connection's input, as `Desk::push` does, over the connection's handle of the
+/// book, the server's sockets and its clock, which is read once at most.
+pub(crate) fn answer_piece<R: Wait + Net + rt::Clock, W: Words, P: Plays>(
+    service: &Service<'_, R>,
+    handle: &mut BookHandle,
+    asker: Asker,
+    words: &mut W,
+    plays: &mut P,
+    input: &mut Connection,
+    piece: &[u8],
+    room: &mut Room,
+) -> Result<(), MessageFault> {
+    let mut binder = PortBinder::new(service.rt, &service.shared.ports);
+    let mut clock = PieceClock::new(service.rt, service.shared.begun);
+    push_lent(
+        service.rt,
+        service.alloc,
+        &mut handle.seat,
+        &handle.lock,
+        &mut binder,
+        words,
+        &mut clock,
+        plays,
+        service.table,
+        asker,
+        input,
+        piece,
+        room,
+    )
 }

@@ -1,6 +1,7 @@
 //! A connection of a lane.
 
-use crate::handle::BookHandle;
+use crate::answering::answer_piece;
+use crate::leaving::take_leave;
 use crate::limits::{ANSWERS, MESSAGE_LIMIT, PAUSE, PIECE, PIECES, SILENCE_LIMIT};
 use crate::reading::{Reading, read_piece};
 use crate::service::Service;
@@ -10,6 +11,7 @@ use mio::event::Event;
 use mio::net::TcpStream;
 use rtsp_engine::{Asker, Connection, fault_response};
 use rtsp_grammar::MessageFault;
+use rtsp_lanes::BookHandle;
 use rtsp_sockets::{Message, Outlet, Put, prepare};
 use rtsp_state::Room;
 use std::net::Net;
@@ -223,9 +225,16 @@ impl Client {
         let asker = self.asker;
         let all = self.input.len().saturating_add(piece.len());
         let given = words.given();
-        let pushed = self
-            .handle
-            .push(service, asker, words, plays, &mut self.input, piece, room);
+        let pushed = answer_piece(
+            service,
+            &mut self.handle,
+            asker,
+            words,
+            plays,
+            &mut self.input,
+            piece,
+            room,
+        );
         self.has_setup = self.has_setup || words.given() != given;
         // Where some of the bytes have gone, an item was finished, and what is left is another one.
         if self.input.is_idle() {
@@ -366,7 +375,7 @@ impl Client {
         } = self;
         outlet.close(rt);
         shared.outlets.remove(rt, asker.conn);
-        handle.hang_up(rt, shared, asker.conn);
+        take_leave(rt, &mut handle, shared, asker.conn);
         shared.gate.leave();
     }
 }

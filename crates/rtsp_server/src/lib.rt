@@ -1,9 +1,9 @@
 //! The threads of a server: lanes that serve connections, what paces the packets, and what ends
 //! sessions whose time is over.
 //!
-//! `server` starts all of them and joins them. `pool` runs a thread for each lane. `socket_lane` is
-//! a lane of sockets, `client` a connection of it, `acceptor` where connections come from. `handle`
-//! is a thread's way to the book; `answering` and `leaving` are what is done by it.
+//! `server` starts all of them and joins them. `socket_lane` is a lane of sockets, `client` a
+//! connection of it, `acceptor` where connections come from. `answering` and `leaving` are what is
+//! done by a thread's handle of the book.
 
 #![tactic(auto)]
 
@@ -11,10 +11,8 @@ mod acceptor;
 mod answering;
 mod client;
 mod gate;
-mod handle;
 mod leaving;
 mod limits;
-mod pool;
 mod reading;
 mod server;
 mod service;
@@ -24,11 +22,10 @@ mod stop_bell;
 mod sweeper;
 mod tools;
 
-pub use handle::BookHandle;
 pub use limits::{
     ACCEPT_RETRY, ACCEPTS, ANSWERS, CONNECTIONS, MESSAGE_LIMIT, PAUSE, PIECE, PIECES,
     SILENCE_LIMIT, SWEEP_EVERY, SWEEP_SESSIONS,
 };
-pub use pool::{Lane, LaneTurn, PoolEnd, run_pool};
-pub use server::{Server, ServerFault, whole_of};
+pub use rtsp_lanes::{BookHandle, Lane, LaneTurn, PoolEnd, run_pool, whole_of};
+pub use server::{Server, ServerFault};
 pub use socket_lane::SocketLane;

@@ -2,19 +2,16 @@
 
 ghost use Rattle.std.specs.Prelude.{◌≡◌};
 ghost use Rattle.rtsp_lock.specs.Calls.{IsSeatOf};
-ghost use Rattle.rtsp_record.specs.Choices.{HasPorts};
 
 use crate::gate::Gate;
-use crate::handle::BookHandle;
-use crate::pool::{PoolEnd, run_pool};
 use crate::shared::Shared;
 use crate::socket_lane::SocketLane;
 use crate::sweeper::run_sweeper;
 use mio::net::TcpListener;
 use rtsp_content::Table;
-use rtsp_lock::{BookLock, BookSeat, open};
+use rtsp_lanes::{BookHandle, PoolEnd, open_book, run_pool, whole_of};
+use rtsp_lock::{BookLock, BookSeat};
 use rtsp_pacing::{Bell, Bells, PacerParts, PacerPlays, pace};
-use rtsp_record::Whole;
 use rtsp_sockets::{Media, MediaFault, PortTable};
 use std::alloc::{AllocError, Global};
 use std::fs::File;
@@ -101,34 +98,6 @@ fn cores<R: Threads>(rt: &R) -> usize {
     match thread::available_parallelism(rt) {
         Ok(cores) => cores.get(),
         Err(_) => 1,
-    }
-}
-
-// A handle of an empty book.
-fn open_book(alloc: Global, whole: &Whole) -> Result<BookHandle, AllocError>
-    requires { HasPorts whole.now }
-{
-    let (lock, seat) = open(alloc, whole)?;
-    match Arc::new(alloc, lock) {
-        Ok(lock) => Ok(BookHandle::new(lock, seat)),
-        Err(_) => Err(AllocError),
-    }
-}
-
-/// What there is to hold by a configuration.
-pub fn whole_of(table: &Table) -> Whole
-    ensures ports { HasPorts result }
-    ensures pairs { (result.first_port ≡ table.now.server.first_port) × (result.pairs ≡ table.now.server.pairs) }
-    ensures limits { (result.uplink ≡ table.now.server.uplink) × (result.sessions ≡ table.now.server.sessions) }
-    ensures journal { result.journal ≡ table.now.server.journal }
-{
-    let server = table.server();
-    Whole {
-        first_port: server.first_port,
-        pairs: server.pairs,
-        uplink: server.uplink,
-        sessions: server.sessions,
-        journal: server.journal,
     }
 }
 

@@ -2,9 +2,7 @@
 
 use crate::acceptor::{Accepted, Acceptor};
 use crate::client::{Client, Visit};
-use crate::handle::BookHandle;
 use crate::limits::{ACCEPTS, SWEEP_EVERY};
-use crate::pool::{Lane, LaneTurn};
 use crate::service::Service;
 use crate::shared::Shared;
 use crate::tools::Tools;
@@ -12,6 +10,7 @@ use mio::net::TcpStream;
 use mio::unix::SourceFd;
 use mio::{Events, Interest, Poll, Token, Waker};
 use rtsp_content::Table;
+use rtsp_lanes::{BookHandle, Lane, LaneTurn};
 use rtsp_sockets::RandomWords;
 use slab::Slab;
 use std::alloc::Global;

@@ -1,8 +1,9 @@
 //! The thread that ends sessions whose time is over, and forgets those that have ended.
 
-use crate::handle::BookHandle;
+use crate::leaving::end_expired;
 use crate::limits::SWEEP_EVERY;
 use crate::shared::Shared;
+use rtsp_lanes::BookHandle;
 use std::net::Net;
 use std::rt;
 use std::sync::Wait;
@@ -23,7 +24,7 @@ pub(crate) fn run_sweeper<R: Wait + Net + rt::Clock>(
         {
             break;
         }
-        handle.sweep(rt, shared, shared.now(rt));
+        end_expired(rt, &mut handle, shared, shared.now(rt));
         handle.forget(rt);
     }
 }
