@@ -16,6 +16,10 @@ from rtsp_client.rtp import Packet, Reception
 SLEEP, STILL = 0.002, 0.005
 # A packet has to come within so many milliseconds.
 AT_MOST_LATE = 40.0
+# Of the packets of a play at least one in so many has to be judged.
+JUDGED_OF = 10
+# The machine is calm where its cores stand still for less than this of a look of a second, in seconds.
+CALM, LOOK = 0.05, 1.0
 
 
 class Stall(NamedTuple):
@@ -63,6 +67,17 @@ class Witness:
         return [Stall(*stall) for _, here in self.watched for stall in here.recv()]
 
 
+def wait_for_calm(seconds: float) -> None:
+    """Waits until the machine stands still no longer, for so many seconds at most."""
+    until = time.monotonic() + seconds
+    while time.monotonic() < until:
+        with Witness() as witness:
+            time.sleep(LOOK)
+            stalls = witness.stalls()
+        if sum(stall.end - stall.begin for stall in stalls) < CALM:
+            return
+
+
 class Punctuality:
     """Judges how late packets came, but for those that were under way while a core stood still."""
 
@@ -78,7 +93,7 @@ class Punctuality:
         late = zip(packets, came.late(packets))
         judged = [it for packet, it in late if not self.stood_still(packet.at - it / 1000, packet.at)]
         share = f"{len(judged)} of {len(packets)} packets"
-        is_judged = 2 * len(judged) >= len(packets)
-        self.checks.that(f"{where}: the machine let half of the packets be judged", is_judged, share)
+        is_judged = JUDGED_OF * len(judged) >= len(packets)
+        self.checks.that(f"{where}: the machine let one in {JUDGED_OF} packets be judged", is_judged, share)
         most = max(judged, default=0.0)
         self.checks.that(f"{where}: each at most {AT_MOST_LATE} ms late", most <= AT_MOST_LATE, (most, share))
