@@ -19,7 +19,7 @@ SIDE_BY_SIDE = 6
 # A test that measures time is tried so often before it fails, since the machine has other work.
 TRIES = 5
 # Before each try one that holds milliseconds waits so many seconds at most until the machine is calm.
-CALM_WITHIN = 30.0
+CALM_WITHIN = 60.0
 
 
 class Test(NamedTuple):
