@@ -18,6 +18,8 @@ from .witness import wait_for_calm
 SIDE_BY_SIDE = 6
 # A test that measures time is tried so often before it fails, since the machine has other work.
 TRIES = 5
+# One that holds milliseconds is tried more often, since a host may be busy for minutes.
+ALONE_TRIES = 10
 # Before each try one that holds milliseconds waits so many seconds at most until the machine is calm.
 CALM_WITHIN = 60.0
 
@@ -45,7 +47,7 @@ def serving_test(limit: int, is_timed: bool = False, is_long: bool = False, is_a
     """Marks a function as a test; its name is the test's."""
 
     def marked(test: Callable[[Checks], None]) -> Callable[[Checks], None]:
-        tries = TRIES if is_timed or is_alone else 1
+        tries = ALONE_TRIES if is_alone else TRIES if is_timed else 1
         TESTS[test.__name__] = Test(test.__name__, test, limit, tries, is_long, is_alone)
         return test
 
