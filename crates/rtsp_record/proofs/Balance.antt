@@ -58,22 +58,14 @@ row_sum m s o = weigh (λ e. of_session m e.1) s o
 pub row_balance : (m : Measure) (r : Record) (o : Option Session) → Own r o → row_sum m (session_of r) (effect r o) + gain m (inverse_of r) ≡ row_sum m (session_of r) o + gain m r
 row_balance m (Open k) o h = omega (arith, session-opened m k.id k.conn k.expires, ap (row_sum m k.session) h)
 row_balance m (Close k) o h = omega (arith, session-opened m k.id k.conn k.expires, ap (row_sum m k.session) h)
-row_balance m (Hold k) None h = absurd h
+row_balance m r None h = absurd h
 row_balance m (Hold k) (Some f) h = omega (arith, session-under m f k.admission (holding k.thing (under f k.admission)), hold_more m k.thing (under f k.admission) h.no_such)
-row_balance m (Free k) None h = absurd h
 row_balance m (Free k) (Some f) h = omega (arith, session-under m f k.admission (freed k.thing (under f k.admission)), free_less m k.thing (under f k.admission) h.held)
-row_balance m (Add k) None h = absurd h
 row_balance m (Add k) (Some f) h = omega (arith, session-under m f k.admission (streaming (Some k.stream) (under f k.admission)), ap (if_there m.stream) h.no_stream)
-row_balance m (Drop k) None h = absurd h
 row_balance m (Drop k) (Some f) h = omega (arith, session-under m f k.admission (streaming None (under f k.admission)), ap (if_there m.stream) h.there)
-row_balance m (Move k) None h = absurd h
 row_balance m (Move k) (Some f) h = omega (arith, ap m.phase h.phase)
-row_balance m (Touch k) None h = absurd h
 row_balance m (Touch k) (Some f) h = refl
-row_balance m (Bind k) None h = absurd h
-row_balance m (Bind k) (Some f) h = omega (arith, ap (if_there m.binding) h)
-row_balance m (Unbind k) None h = absurd h
-row_balance m (Unbind k) (Some f) h = omega (arith, ap (if_there m.binding) h)
+row_balance m r (Some f) h = omega (arith, ap (if_there m.binding) h)
 
 -- one equation for every sum and every record
 pub balance : (m : Measure) (b : Book) (r : Record) → Own r (get b (session_of r)) → amount m (after b r) + gain m (inverse_of r) ≡ amount m b + gain m r

@@ -200,28 +200,19 @@ same_admissions_sound : (w : Whole) (f : Session) (p : Phase) (e : ℕ) (k : Opt
 same_admissions_sound w f p e k ok less plays =
     record { normal = ok.normal; based = ok.based; apart = λ a v is. omega (arith, less v, ok.apart a v is); playing = plays; few = ok.few; in_whole = ok.in_whole }
 
+-- the two of a payload ask for different things, so what is held or set up has a lemma for each; the rest is one clause
 pub row_sound : (w : Whole) (b : Book) (r : Record) (o : Option Session) → Own r o → Others w r b → SoundRow w o → SoundRow w (effect r o)
 row_sound w b (Open k) o h g ok = opened_sound w k.id k.conn k.expires
 row_sound w b (Close k) o h g ok = tt
-row_sound w b (Hold k) None h g ok = absurd h
+row_sound w b r None h g ok = absurd h
 row_sound w b (Hold k) (Some f) h g ok = hold_sound w b k f h g ok
-row_sound w b (Free k) None h g ok = absurd h
 row_sound w b (Free k) (Some f) h g ok = free_sound w k f h ok
-row_sound w b (Add k) None h g ok = absurd h
 row_sound w b (Add k) (Some f) h g ok = add_sound w k f h ok
-row_sound w b (Drop k) None h g ok = absurd h
 row_sound w b (Drop k) (Some f) h g ok = drop_sound w k f h ok
-row_sound w b (Move k) None h g ok = absurd h
 row_sound w b (Move k) (Some f) h g ok =
     same_admissions_sound w f k.to f.expires f.binding ok (λ v. omega (arith, row_balance (clashing v) (Move k) (Some f) h)) (λ is. omega (arith, row_balance streams (Move k) (Some f) h, h.stream is))
-row_sound w b (Touch k) None h g ok = absurd h
-row_sound w b (Touch k) (Some f) h g ok = same_admissions_sound w f f.phase k.to f.binding ok (λ v. omega arith) ok.playing
-row_sound w b (Bind k) None h g ok = absurd h
-row_sound w b (Bind k) (Some f) h g ok =
-    same_admissions_sound w f f.phase f.expires (Some (k.conn, k.number)) ok (λ v. omega (arith, row_balance (clashing v) (Bind k) (Some f) h)) (λ is. omega (arith, row_balance streams (Bind k) (Some f) h, ok.playing is))
-row_sound w b (Unbind k) None h g ok = absurd h
-row_sound w b (Unbind k) (Some f) h g ok =
-    same_admissions_sound w f f.phase f.expires None ok (λ v. omega (arith, row_balance (clashing v) (Unbind k) (Some f) h)) (λ is. omega (arith, row_balance streams (Unbind k) (Some f) h, ok.playing is))
+row_sound w b r (Some f) h g ok =
+    same_admissions_sound w f f.phase _ _ ok (λ v. omega (arith, row_balance (clashing v) r (Some f) h)) (λ is. omega (arith, row_balance streams r (Some f) h, ok.playing is))
 
 -- one more where there was none, or none more
 pub room_if : (t : Bool) (n : ℕ) → (t ≡ true → n ≡ 0) → n ≤ 1 → n + one_if t ≤ 1
