@@ -19,6 +19,7 @@ use Rattle.rtsp_lock.specs.Entries.{Later}
 use Rattle.rtsp_lock.specs.Calls.{Acted, Looked}
 use Rattle.rtsp_lock.specs.Laws.{Grown}
 use Rattle.rtsp_lock.proofs.Entries.{later_self, later_more, later_then}
+use Rattle.rtsp_lock.proofs.Runs.{entries_by-append}
 use Rattle.rtsp_admit.specs.declared.failure.Failure.{Failure}
 use Rattle.rtsp_admit.specs.declared.failure.Failure.TheVariants as failure
 use Rattle.rtsp_admit.specs.declared.failure.NoAddress.{NoAddress}
@@ -28,10 +29,6 @@ use Rattle.rtsp_admit.specs.Binder.{Calls}
 use Rattle.rtsp_admit.specs.Steps.{chain_left, open_step, rate_step, ports_from, ports_step, chan_step, return_step, commit_step}
 use Rattle.rtsp_admit.specs.Runs.{State, with_view, Opened, NotOpened, Held, Rated, PortsReturned, PortsRefused, Tried, PortsGranted, NoPortsGranted, Addressed, NotAddressed, Fails}
 use Rattle.rtsp_admit.specs.Additions.{hold_records, opened_records, rated_records, unreturned_records, returned_records, tried_records, granted_records, ungranted_records, addressed_records, unaddressed_records, failed_records, AdmissionsGrow}
-
-entries_by-append : (actor : ℕ) (rs ss : List Record) → entries_by actor (rs ++ ss) ≡ entries_by actor rs ++ entries_by actor ss
-entries_by-append actor [] ss = refl
-entries_by-append actor (r ∷ rs) ss = ap (λ (l : List Entry). record { actor = actor; change = r } ∷ l) (entries_by-append actor rs ss)
 
 pub grown_self : (v : View) → Grown v v []
 grown_self v = record { whole = refl; actor = refl; next = omega arith; later = later_self v.seen_rounds v.seen; mine = sym (append-nil v.mine) }

@@ -1,7 +1,7 @@
 -- Where ports are chosen.
-use Rattle.std.proofs.Common.{◌≡◌, ℕ, ◌≤◌, ◌<◌, Bool, true, false, ◌&&◌, List, [], ◌∷◌, length, refl, sym, ◌∙◌, ap, subst, arith, Ok}
-use Rattle.std.specs.Prelude.{Option, Some, None, is_none, nat_le}
-use Rattle.std.proofs.lemmas.Bool.Decides.{nat_tests}
+use Rattle.std.proofs.Common.{◌≡◌, ℕ, ◌≤◌, ◌<◌, false, List, [], ◌∷◌, length, refl, sym, ◌∙◌, ap, subst, arith, Ok}
+use Rattle.std.specs.Prelude.{Option, Some, None, is_none}
+use Rattle.std.proofs.lemmas.Bool.{and_parts, leb-true}
 use Rattle.std.proofs.lemmas.Option.{none-some, same_Some}
 use Rattle.rtsp_record.specs.declared.changes.Record.{Record}
 use Rattle.rtsp_record.specs.declared.holdings.Thing.TheVariants.{Pair, Port}
@@ -22,16 +22,12 @@ use Rattle.rtsp_admit.specs.Steps.{ports_from, next_above, ports_step, first_por
 use Rattle.rtsp_admit.specs.Runs.{Held}
 use Rattle.rtsp_admit.proofs.Going.{made_is}
 
-is_above : (from p : ℕ) (free : Bool) → (nat_le from p && free) ≡ true → from ≤ p
-is_above from p true on = grind (arith, nat_tests)
-is_above from p false on = absurd (grind (arith, nat_tests))
-
 -- the ports chosen are not below where they are looked for
 pair_from : (w : Whole) (b : Book) (from l : ℕ) → least_pair w b from ≡ Some l → from ≤ l
-pair_from w b from l is = is_above from l (is_pair_free b l) (pair_found (is_pair_free b) w from l is).taken
+pair_from w b from l is = leb-true from l (and_parts _ _ (pair_found (is_pair_free b) w from l is).taken).0
 
 port_from : (w : Whole) (b : Book) (from l : ℕ) → least_port w b from ≡ Some l → from ≤ l
-port_from w b from l is = is_above from l (is_port_free b l) (port_found (is_port_free b) w from l is).taken
+port_from w b from l is = leb-true from l (and_parts _ _ (port_found (is_port_free b) w from l is).taken).0
 
 pair_held : (s a p : ℕ) (o : Option ℕ) → hold_chosen s a (as_pair o) ≡ holds s a (Pair p) ∷ [] → o ≡ Some p
 pair_held s a p None h = absurd cc

@@ -1,7 +1,7 @@
 -- What a Commit frees is of other admissions.
-use Rattle.std.proofs.Common.{◌≡◌, ◌==◌, ℕ, Bool, true, false, ◌&&◌, ◌||◌, not, List, [], ◌∷◌, ◌++◌, refl, ◌∙◌, ap, subst, Ok}
+use Rattle.std.proofs.Common.{◌≡◌, ◌==◌, ℕ, true, false, ◌&&◌, ◌||◌, not, List, [], ◌∷◌, ◌++◌, refl, ◌∙◌, ap, subst, Ok}
 use Rattle.std.specs.Prelude.{Option, Some, None, is_some}
-use Rattle.std.proofs.lemmas.Bool.{ne_eqb, or_parts}
+use Rattle.std.proofs.lemmas.Bool.{ne_eqb, both_ways, or_parts}
 use Rattle.std.specs.FinMap.{get, entries, entries_sorted, get-entries}
 use Rattle.rtsp_record.specs.declared.holdings.Admission.{Admission}
 use Rattle.rtsp_record.specs.declared.holdings.Thing.{Thing}
@@ -94,16 +94,13 @@ on_track : (t : ℕ) (o : Option Stream) → is_track t o ≡ true → is_some o
 on_track t None h = absurd cc
 on_track t (Some v) h = refl
 
-on_off : (v : Bool) → v ≡ true → v ≡ false → ⊥
-on_off v on off = absurd (cc)
-
 -- the stream of the same track is under another admission
 other_admission : (f : Session) (a t : ℕ) (e : ℕ × Admission) → has_stream_under f a ≡ false → first_with (is_of_track t) (entries f.admissions) ≡ Some e → (a == e.0) ≡ false
 other_admission f a t e none some =
     let there : under f e.0 ≡ e.1 = ap or_bare (get-entries f.admissions e.0 ∙ first_found (is_of_track t) (entries f.admissions) e (entries_sorted f.admissions) some) in
     let on : is_some e.1.stream ≡ true = on_track t e.1.stream (first_passes (is_of_track t) (entries f.admissions) e some) in
     let stream : has_stream_under f e.0 ≡ true = ap (λ (d : Admission). is_some d.stream) there ∙ on in
-    ne_eqb a e.0 (λ same. on_off (has_stream_under f a) (ap (has_stream_under f) same ∙ stream) none)
+    ne_eqb a e.0 (λ same. both_ways (has_stream_under f a) none (ap (has_stream_under f) same ∙ stream))
 
 other_living : (c : Commit) (o : Option Session) → if_living o (is_wrong_commit c.admission c.stream) ≡ false → AllFine (FreesOther c.admission) (of_living o (committing c))
 other_living c None right = tt

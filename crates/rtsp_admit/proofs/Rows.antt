@@ -1,9 +1,9 @@
 -- What stands under an admission while it is under way.
 use Rattle.std.proofs.Common.{◌≡◌, ◌≢◌, ◌⊎◌, ◌==◌, ℕ, Bool, true, false, ◌&&◌, not, cond, List, [], ◌∷◌, ◌++◌, length, refl, sym, ◌∙◌, ap, subst, arith, inl, inr, ⊎_elim}
 use Rattle.std.specs.Prelude.{Option, Some, None, is_some}
-use Rattle.std.proofs.lemmas.Bool.{eqb-false}
+use Rattle.std.proofs.lemmas.Bool.{eqb-false, both_ways}
 use Rattle.std.proofs.lemmas.Bool.Decides.{nat_tests}
-use Rattle.std.specs.FinMap.{get, empty}
+use Rattle.std.specs.FinMap.{get}
 use Rattle.rtsp_record.specs.declared.holdings.Thing.{Thing}
 use Rattle.rtsp_record.specs.declared.holdings.Thing.TheVariants.{Pair, Port, Chan, Rate}
 use Rattle.rtsp_record.specs.declared.holdings.Admission.{Admission}
@@ -21,8 +21,7 @@ use Rattle.rtsp_record.proofs.Rows.{under-own, at_under}
 use Rattle.rtsp_record.proofs.Sound.{under_opened, same_nat}
 use Rattle.rtsp_record.proofs.Strands.{row_after}
 use Rattle.rtsp_book.proofs.Runs.{row_after-append}
-use Rattle.rtsp_record.proofs.Back.{after_all-append}
-use Rattle.rtsp_book.proofs.Keeping.{records-append}
+use Rattle.rtsp_undo.proofs.Journals.{book_more}
 use Rattle.rtsp_admit.specs.Refused.{is_use_of, uses}
 
 -- at most these two things, a rate and an address, and no stream
@@ -116,9 +115,6 @@ pub record Left (s a : ℕ) (x y : Option Thing) (j : List Entry) : Type 0 where
   pub own : Within a x y (get (book_of j) s)
   pub no_add : HasNoAdd a j
 
-book_more : (j k : List Entry) → book_of (j ++ k) ≡ after_all (book_of j) (records_of k)
-book_more j k = ap (after_all empty) (records-append j k) ∙ after_all-append empty (records_of j) (records_of k)
-
 -- entries without such leave no more
 pub left_quiet : (s a : ℕ) (x y : Option Thing) (j k : List Entry) → count a k ≡ 0 → Left s a x y j → Left s a x y (j ++ k)
 left_quiet s a x y j k none l =
@@ -166,9 +162,6 @@ IsFirst (Some (Pair p)) = ⊥
 IsFirst (Some (Port p)) = ⊥
 IsFirst (Some (Chan c k)) = ⊥
 
-not_both : (v : Bool) → v ≡ true → v ≡ false → ⊥
-not_both v on off = absurd (cc)
-
 both : (v u : Bool) → v ≡ true → u ≡ false → (v && not u) ≡ true
 both true true on off = absurd cc
 both true false on off = refl
@@ -201,7 +194,7 @@ address_back s a f x t frees_it held h =
         ends = refl;
         upto = record {
           rate = h.rate;
-          address = inl (⊎_elim (λ e. e) (λ e. absurd (not_both _ (both (is_held f a t) (has_stream_under f a) (held e) (ap is_some h.stream)) off)) h.address);
+          address = inl (⊎_elim (λ e. e) (λ e. absurd (both_ways _ off (both (is_held f a t) (has_stream_under f a) (held e) (ap is_some h.stream)))) h.address);
           stream = h.stream;
         };
         rate = refl;
@@ -227,7 +220,7 @@ first_back s a f g (Some (Rate n)) is h same stream =
     elim (is_held f a (Rate n) && not (has_stream_under f a)) as (λ v. (is_held f a (Rate n) && not (has_stream_under f a)) ≡ v → Within a None None (row_after (cond v (frees s a (Rate n) ∷ []) []) (Some g))) [
       | true ↦ λ _. subst (Upto None None) (sym (under-own g a (freed (Rate n) (under g a)))) (record { rate = inl refl; address = h.address; stream = h.stream })
       | false ↦ λ off. record {
-        rate = inl (⊎_elim (λ e. e) (λ e. absurd (not_both _ (both (is_held f a (Rate n)) (has_stream_under f a) (ap (is_this (Rate n)) (sym (ap as_rate same) ∙ e) ∙ same_nat n) (ap is_some stream)) off)) h.rate);
+        rate = inl (⊎_elim (λ e. e) (λ e. absurd (both_ways _ off (both (is_held f a (Rate n)) (has_stream_under f a) (ap (is_this (Rate n)) (sym (ap as_rate same) ∙ e) ∙ same_nat n) (ap is_some stream)))) h.rate);
         address = h.address;
         stream = h.stream;
       }

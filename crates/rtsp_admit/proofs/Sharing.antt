@@ -1,7 +1,7 @@
 -- A number that a seat drew is used by no other seat that keeps to its own.
 use Rattle.std.proofs.Common.{◌≡◌, ◌==◌, ℕ, zero, suc, Bool, true, false, cond, List, [], ◌∷◌, refl, sym, ◌∙◌, ap, subst, arith, inl, inr}
 use Rattle.std.specs.Prelude.{filter, Contains}
-use Rattle.std.proofs.lemmas.Bool.{cases_eq, eq-eqb}
+use Rattle.std.proofs.lemmas.Bool.{cases_eq, eq-eqb, both_ways}
 use Rattle.rtsp_record.specs.declared.changes.Entry.{Entry}
 use Rattle.rtsp_record.specs.declared.holdings.Whole.{Whole}
 use Rattle.rtsp_lock.specs.declared.view.View.{View}
@@ -29,9 +29,6 @@ only_of : (actor : ℕ) (l : List Entry) → ((e : Entry) → Contains l e → e
 only_of actor [] h = tt
 only_of actor (e ∷ l) h = (h e (0, omega arith, refl), only_of actor l (λ x is. let lt = is.1 in h x (suc is.0, omega (arith, lt), is.2)))
 
-on_off : (v : Bool) → v ≡ true → v ≡ false → ⊥
-on_off v on off = absurd (cc)
-
 -- another seat that keeps to its own numbers has no entry under one of this seat's
 no_other : (w : Whole) (u : View) (n : ℕ) (e : Entry) → Has u.drawn n → DrawingSeat w u e.actor → Contains (uses n u.seen) e → ⊥
 no_other w u n e drawn d is =
@@ -43,7 +40,7 @@ no_other w u n e drawn d is =
     let told = part_passing (λ (e : Entry). is_use_of n e.change) (entries_of x.actor u.seen) x.mine (common.told two.first two.second u x two.at_first two.at_second) in
     let left : filter (λ (e : Entry). e.actor == x.actor) (uses n u.seen) ≡ [] =
     filters (λ (e : Entry). e.actor == x.actor) (λ (e : Entry). is_use_of n e.change) u.seen ∙ subst (Part (uses n (entries_of x.actor u.seen))) none told in
-    on_off (e.actor == x.actor) (eq-eqb e.actor x.actor (sym d.actor)) (none_pass (λ (e : Entry). e.actor == x.actor) (uses n u.seen) e left is)
+    both_ways (e.actor == x.actor) (none_pass (λ (e : Entry). e.actor == x.actor) (uses n u.seen) e left is) (eq-eqb e.actor x.actor (sym d.actor))
 
 pub drawn_used_alone : DrawnUsedAlone
 drawn_used_alone w u n drawn others =

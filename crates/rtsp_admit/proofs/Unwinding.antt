@@ -6,15 +6,13 @@ use Rattle.std.proofs.lemmas.List.Elements.{filter-append}
 use Rattle.std.proofs.Math.Seq.{drop-append_seam}
 use Rattle.std.specs.FinMap.{get}
 use Rattle.rtsp_record.specs.declared.holdings.Admission.{Admission}
-use Rattle.rtsp_record.specs.declared.holdings.Thing.{Thing}
 use Rattle.rtsp_record.specs.declared.holdings.Whole.{Whole}
 use Rattle.rtsp_record.specs.declared.changes.Entry.{Entry}
 use Rattle.rtsp_record.specs.declared.changes.Record.{Record}
 use Rattle.rtsp_record.specs.declared.changes.Record.TheVariants.{Open, Hold, Add}
-use Rattle.rtsp_record.specs.Records.{frees}
 use Rattle.rtsp_record.specs.Tables.{Table, set}
 use Rattle.rtsp_record.specs.Books.{Session, Book, bare, kept, under, book_of}
-use Rattle.rtsp_record.specs.Rules.{as_rate, is_held, IsLegal}
+use Rattle.rtsp_record.specs.Rules.{as_rate, IsLegal}
 use Rattle.rtsp_record.specs.Sums.{one_if}
 use Rattle.rtsp_record.specs.Journals.{thinned}
 use Rattle.rtsp_record.specs.Sound.{SoundRow}
@@ -24,7 +22,6 @@ use Rattle.rtsp_book.specs.declared.steps.Chain.{Chain}
 use Rattle.rtsp_book.specs.declared.steps.Step.TheVariants as step
 use Rattle.rtsp_book.specs.Kept.{entries_by}
 use Rattle.rtsp_book.specs.Answers.{written}
-use Rattle.rtsp_book.specs.Sessions.{has_stream_under}
 use Rattle.rtsp_book.specs.Returns.{ending}
 use Rattle.rtsp_book.specs.Made.{taking_back, unwinding, of_living, made}
 use Rattle.rtsp_book.specs.Replies.{is_empty_chain, answered, no_refusal}
@@ -33,8 +30,9 @@ use Rattle.rtsp_record.proofs.Sound.{sound_of}
 use Rattle.rtsp_record.proofs.Strands.{row_after}
 use Rattle.rtsp_record.proofs.Trims.{AllFine}
 use Rattle.rtsp_book.proofs.Keeping.{book-extended}
-use Rattle.rtsp_book.proofs.Runs.{Giving, all_lone, lone_row, fine-append}
-use Rattle.rtsp_book.proofs.Ending.{ending_own, giving_ending}
+use Rattle.rtsp_book.proofs.Giving.{unwinding_gives, living_gives}
+use Rattle.rtsp_book.proofs.Runs.{Giving, all_lone, lone_row}
+use Rattle.rtsp_book.proofs.Ending.{ending_own}
 use Rattle.rtsp_undo.proofs.Journals.{less_admission_law, less_gone_law}
 use Rattle.rtsp_lock.specs.declared.view.View.{View}
 use Rattle.rtsp_lock.specs.Calls.{Acted}
@@ -74,19 +72,6 @@ giving_opened s t by [] g = refl
 giving_opened s t by (r ∷ rs) g =
     let e : Entry = record { actor = by; change = r } in
     ap (λ v. length (cond v (e ∷ openings t (entries_by by rs)) (openings t (entries_by by rs)))) (giving_opens s t r g.0) ∙ giving_opened s t by rs g.1
-
-taking_gives : (s a : ℕ) (f : Session) (o : Option Thing) → AllFine (Giving s) (taking_back s a f o)
-taking_gives s a f None = tt
-taking_gives s a f (Some x) =
-    elim (is_held f a x && not (has_stream_under f a)) as (λ t. AllFine (Giving s) (cond t (frees s a x ∷ []) [])) [ true ↦ (refl, tt) | false ↦ tt ]
-
-unwinding_gives : (ch : Chain) (o : Option Session) → AllFine (Giving ch.session) (of_living o (unwinding ch))
-unwinding_gives ch None = tt
-unwinding_gives ch (Some f) =
-    elim (ch.opened) as (λ t. AllFine (Giving ch.session) (cond t (ending ch.session f) (taking_back ch.session ch.admission f ch.second ++ taking_back ch.session ch.admission f ch.first))) [
-      | true ↦ giving_ending ch.session f
-      | false ↦ fine-append (Giving ch.session) (taking_back ch.session ch.admission f ch.second) (taking_back ch.session ch.admission f ch.first) (taking_gives ch.session ch.admission f ch.second) (taking_gives ch.session ch.admission f ch.first)
-    ]
 
 -- nothing under the admission, and no session where it was opened
 pub record Row (a : ℕ) (opened : Bool) (o : Option Session) : Type 0 where
@@ -131,7 +116,7 @@ unwind_quiet ch answer v u h = quiet answer h
     quiet (Err r) acted = record { takes = refl; opens = refl }
     quiet (Ok rs) acted =
         let is = made_is v u (step.Unwind ch) rs acted in
-        let gives = unwinding_gives ch (get (book_of acted.journal) ch.session) in
+        let gives = living_gives ch.session (get (book_of acted.journal) ch.session) (unwinding ch) (unwinding_gives ch) in
         subst (λ rs. Quiet ch.session ch.admission (entries_by v.actor rs)) is (record {
           takes = giving_count ch.session ch.admission v.actor (made v.whole (book_of acted.journal) (step.Unwind ch)) gives;
           opens = giving_opened ch.session ch.session v.actor (made v.whole (book_of acted.journal) (step.Unwind ch)) gives;
@@ -157,7 +142,7 @@ unwound ch answer v u h first second left = gone answer h left
         let is = made_is v u (step.Unwind ch) rs acted in
         let o = get b ch.session in
         let mades = of_living o (unwinding ch) in
-        let gives = unwinding_gives ch o in
+        let gives = living_gives ch.session o (unwinding ch) (unwinding_gives ch) in
         let after = left_quiet ch.session ch.admission ch.first ch.second acted.journal (entries_by v.actor mades) (giving_count ch.session ch.admission v.actor mades gives) there in
         let row = unwound_row v.whole ch o ((sound_of v.whole acted.journal acted.found.legal).rows ch.session) first second there.own in
         let ends : get (book_of (acted.journal ++ entries_by v.actor mades)) ch.session ≡ row_after mades o =

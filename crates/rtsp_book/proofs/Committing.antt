@@ -7,7 +7,7 @@ use Rattle.std.specs.FinMap.{entries, entries_sorted, get-entries}
 use Rattle.rtsp_record.specs.declared.streams.Stream.{Stream}
 use Rattle.rtsp_record.specs.declared.holdings.Whole.{Whole}
 use Rattle.rtsp_record.specs.declared.changes.Record.{Record}
-use Rattle.rtsp_record.specs.declared.changes.Record.TheVariants.{Open, Close, Hold, Free, Add, Drop, Move, Touch, Bind, Unbind}
+use Rattle.rtsp_record.specs.declared.changes.Record.TheVariants.{Bind}
 use Rattle.rtsp_record.specs.Records.{adds, drops}
 use Rattle.rtsp_record.specs.declared.holdings.Admission.{Admission}
 use Rattle.rtsp_record.specs.Books.{Session, Book, or_bare, streaming, under, with_under, after, after_all}
@@ -155,16 +155,8 @@ lone_adding s a v (Some e) =
     (refl, fine-append (Lone s) (freeing s e.0 e.1.address) (freeing_rate s e.0 e.1.rate) (all_lone s _ (giving_freeing s e.0 e.1.address)) (all_lone s _ (giving_freeing_rate s e.0 e.1.rate)))
 
 no_binding : (s c i : ℕ) (r : Record) → Lone s r → gain (bindings c i) r ≡ 0
-no_binding s c i (Open k) h = absurd h
-no_binding s c i (Close k) h = refl
-no_binding s c i (Hold k) h = absurd h
-no_binding s c i (Free k) h = refl
-no_binding s c i (Add k) h = refl
-no_binding s c i (Drop k) h = refl
-no_binding s c i (Move k) h = refl
-no_binding s c i (Touch k) h = refl
 no_binding s c i (Bind k) h = absurd h
-no_binding s c i (Unbind k) h = refl
+no_binding s c i r h = refl
 
 -- such records bind nothing
 pub lone_bound : (w : Whole) (s c i : ℕ) (b : Book) (rs : List Record) → AllFine (Lone s) rs → AllAllowed w b rs → amount (bindings c i) (after_all b rs) ≤ amount (bindings c i) b

@@ -17,13 +17,12 @@ use Rattle.rtsp_record.specs.Tables.{Table, set}
 use Rattle.rtsp_record.specs.declared.holdings.Admission.{Admission}
 use Rattle.rtsp_record.specs.Books.{Session, opening, opened, bare, or_bare, kept, streaming, under, with_under}
 use Rattle.rtsp_record.specs.Sums.{is_opening}
-use Rattle.rtsp_record.specs.Rules.{IsReady, IsAddress}
+use Rattle.rtsp_record.specs.Rules.{IsReady, as_rate, IsAddress}
 use Rattle.rtsp_record.specs.Journals.{thinned}
 use Rattle.rtsp_book.specs.Returns.{dropping, freeing, freeing_rate, giving_back, resetting, unbinding, ending}
 use Rattle.rtsp_record.proofs.Tables.{own, at_key, same_table, get-set, get-none, set-twice, set-same}
 use Rattle.rtsp_record.specs.Sound.{Normal}
 use Rattle.rtsp_record.proofs.Rows.{under-own, at_under, normal-under}
-use Rattle.rtsp_record.proofs.Balance.{rate_there}
 use Rattle.rtsp_record.specs.Sound.{SoundSession}
 use Rattle.rtsp_record.proofs.Strands.{row_after}
 use Rattle.rtsp_record.proofs.Trims.{AllFine}
@@ -72,7 +71,7 @@ freeing_rate_run s a f d normal is no_stream =
     elim (d.rate) as (λ o. d.rate ≡ o → Run (freeing_rate s a o) f (with_under f a (record d { rate = None }))) [
       | None ↦ λ none. run-to [] f f (with_under f a (record d { rate = None })) (sym (with_under-same f a (record d { rate = None }) normal (ap (λ (o : Option ℕ). record d { rate = o }) (sym none) ∙ sym is))) (run-none f)
       | Some n ↦ λ some. record {
-        own = (record { held = ap (λ (d : Admission). rate_there d.rate) is ∙ ap rate_there some; no_stream = ap (λ (d : Admission). d.stream) is ∙ no_stream }, tt);
+        own = (record { held = ap (λ (d : Admission). as_rate d.rate) is ∙ ap as_rate some; no_stream = ap (λ (d : Admission). d.stream) is ∙ no_stream }, tt);
         ends = ap (λ (d : Admission). Some (with_under f a (record d { rate = None }))) is;
       }
     ] refl

@@ -107,14 +107,14 @@ taking_gives s a f None = tt
 taking_gives s a f (Some x) =
     elim (is_held f a x && not (has_stream_under f a)) as (λ t. AllFine (Giving s) (cond t (frees s a x ∷ []) [])) [ true ↦ (refl, tt) | false ↦ tt ]
 
-unwinding_gives : (ch : Chain) (f : Session) → AllFine (Giving ch.session) (unwinding ch f)
+pub unwinding_gives : (ch : Chain) (f : Session) → AllFine (Giving ch.session) (unwinding ch f)
 unwinding_gives ch f =
     elim (ch.opened) as (λ t. AllFine (Giving ch.session) (cond t (ending ch.session f) (taking_back ch.session ch.admission f ch.second ++ taking_back ch.session ch.admission f ch.first))) [
       | true ↦ giving_ending ch.session f
       | false ↦ fine-append (Giving ch.session) (taking_back ch.session ch.admission f ch.second) (taking_back ch.session ch.admission f ch.first) (taking_gives ch.session ch.admission f ch.second) (taking_gives ch.session ch.admission f ch.first)
     ]
 
-living_gives : (s : ℕ) (o : Option Session) (g : Session → List Record) → ((f : Session) → AllFine (Giving s) (g f)) → AllFine (Giving s) (of_living o g)
+pub living_gives : (s : ℕ) (o : Option Session) (g : Session → List Record) → ((f : Session) → AllFine (Giving s) (g f)) → AllFine (Giving s) (of_living o g)
 living_gives s None g h = tt
 living_gives s (Some f) g h = h f
 

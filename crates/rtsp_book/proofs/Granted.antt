@@ -1,7 +1,7 @@
 -- What a step is answered may be recorded.
 use Rattle.std.proofs.Common.{◌≡◌, ℕ, ◌+◌, ◌≤◌, ◌<◌, Bool, true, false, ◌&&◌, ◌||◌, not, cond, List, [], ◌∷◌, ◌++◌, length, refl, sym, ◌∙◌, ap, subst, arith}
 use Rattle.std.specs.Prelude.{Option, Some, None, Result, Ok, Err, is_some, is_none, nat_lt, option_map}
-use Rattle.std.proofs.lemmas.Bool.{or_parts}
+use Rattle.std.proofs.lemmas.Bool.{not-false, or_parts}
 use Rattle.std.proofs.lemmas.Bool.Decides.{nat_tests}
 use Rattle.std.specs.FinMap.{get, entries, entries_sorted, get-entries}
 use Rattle.rtsp_record.specs.declared.holdings.Thing.{Thing}
@@ -46,7 +46,7 @@ use Rattle.rtsp_record.proofs.Strands.{row_after}
 use Rattle.rtsp_book.proofs.Runs.{OwnAll, Lone, Giving, all_lone, lone_allowed, lone_row, owed_given}
 use Rattle.rtsp_book.proofs.Ending.{giving_run, ending_own, giving_under, giving_unbinding, giving_ending}
 use Rattle.rtsp_record.proofs.Choices.{chosen_pair, chosen_port, chosen_chan_free}
-use Rattle.rtsp_book.proofs.Tests.{none_there, some_there, turned, no_more, some_more, ready_is}
+use Rattle.rtsp_book.proofs.Tests.{none_there, some_there, no_more, some_more, ready_is}
 use Rattle.rtsp_book.proofs.TakenBack.{own_return, two_back}
 use Rattle.rtsp_sessions.proofs.FirstRows.{first_found}
 use Rattle.rtsp_book.proofs.Committing.{MayCommit, Adding, adding_run, lone_adding, lone_bound}
@@ -136,7 +136,7 @@ module _ (w : Whole) (n : ℕ) (b : Book) (ok : Sound w b) (room : n + owed b �
       let parts = or_parts (not (is_ready f.phase)) (has_stream_under f a) first.0 in
       let there = or_parts (is_none (under f a).rate) (is_none (under f a).address) ready in
       record {
-        ready = ready_is f.phase (turned (is_ready f.phase) parts.0);
+        ready = ready_is f.phase (not-false (is_ready f.phase) parts.0);
         rate = some_there (under f a).rate there.0;
         address = some_there (under f a).address there.1;
         no_stream = none_there (under f a).stream parts.1;
@@ -273,7 +273,7 @@ module _ (w : Whole) (n : ℕ) (b : Book) (ok : Sound w b) (room : n + owed b �
 
   played : (d : Play) (f : Session) → get b d.session ≡ Some f → is_wrong_play d f ≡ false → is_full w n b (playing d f.phase) ≡ false → IsGranted w n b (playing d f.phase)
   played d f is right full =
-      let has = turned (has_stream f) (or_parts (not (has_stream f)) _ right).0 in
+      let has = not-false (has_stream f) (or_parts (not (has_stream f)) _ right).0 in
       lone_one d.session (moves d.session f.phase (begun d f.phase)) refl (own_move d.session f (begun d f.phase) is (λ _. some_more (of_session streams f) has)) full
 
   play_granted : (d : Play) → NoneFits (refusals w n b (step.Play d)) → IsGranted w n b (made w b (step.Play d))

@@ -8,7 +8,7 @@ use Rattle.rtsp_record.specs.declared.holdings.Whole.{Whole}
 use Rattle.rtsp_record.specs.declared.holdings.Thing.{Thing}
 use Rattle.rtsp_book.specs.declared.steps.Commit.{Commit}
 use Rattle.rtsp_record.specs.declared.changes.Record.{Record}
-use Rattle.rtsp_record.specs.declared.changes.Record.TheVariants.{Open, Close, Hold, Free, Add, Drop, Move, Touch, Bind, Unbind}
+use Rattle.rtsp_record.specs.declared.changes.Record.TheVariants.{Open, Hold, Add, Bind}
 use Rattle.rtsp_record.specs.Records.{holds}
 use Rattle.rtsp_record.specs.declared.payloads.Life.{Life}
 use Rattle.rtsp_record.specs.Books.{Session, Book}
@@ -111,15 +111,10 @@ answer_granted w n b step rs ok room ask is =
 
 giving_frees : (s : ℕ) (r : Record) → Giving s r → TakesNone r
 giving_frees s (Open l) h = absurd h
-giving_frees s (Close l) h = tt
 giving_frees s (Hold x) h = absurd h
-giving_frees s (Free x) h = tt
 giving_frees s (Add u) h = absurd h
-giving_frees s (Drop u) h = tt
-giving_frees s (Move m) h = tt
-giving_frees s (Touch t) h = absurd h
 giving_frees s (Bind k) h = absurd h
-giving_frees s (Unbind k) h = tt
+giving_frees s r h = tt
 
 all_free : (s : ℕ) (rs : List Record) → AllFine (Giving s) rs → TakesNoMemory rs
 all_free s [] h = tt

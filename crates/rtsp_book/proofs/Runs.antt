@@ -48,27 +48,15 @@ run-to rs f g h same run = subst (Run rs f) same run
 -- a record that asks nothing of other sessions
 abbrev pub Lone : ℕ → Record → Type 0
 Lone s (Open k) = ⊥
-Lone s (Close k) = k.session ≡ s
 Lone s (Hold k) = ⊥
-Lone s (Free k) = k.session ≡ s
-Lone s (Add k) = k.session ≡ s
-Lone s (Drop k) = k.session ≡ s
-Lone s (Move k) = k.session ≡ s
-Lone s (Touch k) = k.session ≡ s
 Lone s (Bind k) = ⊥
-Lone s (Unbind k) = k.session ≡ s
+Lone s r = session_of r ≡ s
 
 pub lone_session : (s : ℕ) (r : Record) → Lone s r → session_of r ≡ s
 lone_session s (Open k) h = absurd h
-lone_session s (Close k) h = h
 lone_session s (Hold k) h = absurd h
-lone_session s (Free k) h = h
-lone_session s (Add k) h = h
-lone_session s (Drop k) h = h
-lone_session s (Move k) h = h
-lone_session s (Touch k) h = h
 lone_session s (Bind k) h = absurd h
-lone_session s (Unbind k) h = h
+lone_session s r h = h
 
 lone_others : (s : ℕ) (w : Whole) (b : Book) (r : Record) → Lone s r → Others w r b
 lone_others s w b (Open k) h = absurd h
@@ -90,28 +78,16 @@ lone_row s b (r ∷ rs) l = lone_row s (after b r) rs l.1 ∙ ap (row_after rs) 
 
 -- a record that gives back, of this session
 abbrev pub Giving : ℕ → Record → Type 0
-Giving s (Open k) = ⊥
-Giving s (Close k) = k.session ≡ s
-Giving s (Hold k) = ⊥
-Giving s (Free k) = k.session ≡ s
 Giving s (Add k) = ⊥
-Giving s (Drop k) = k.session ≡ s
-Giving s (Move k) = (k.session ≡ s) × (is_opening k.from ≡ false) × (k.to ≡ opening)
 Giving s (Touch k) = ⊥
-Giving s (Bind k) = ⊥
-Giving s (Unbind k) = k.session ≡ s
+Giving s (Move k) = (k.session ≡ s) × (is_opening k.from ≡ false) × (k.to ≡ opening)
+Giving s r = Lone s r
 
 pub giving_lone : (s : ℕ) (r : Record) → Giving s r → Lone s r
-giving_lone s (Open k) h = absurd h
-giving_lone s (Close k) h = h
-giving_lone s (Hold k) h = absurd h
-giving_lone s (Free k) h = h
 giving_lone s (Add k) h = absurd h
-giving_lone s (Drop k) h = h
-giving_lone s (Move k) h = h.0
 giving_lone s (Touch k) h = absurd h
-giving_lone s (Bind k) h = absurd h
-giving_lone s (Unbind k) h = h
+giving_lone s (Move k) h = h.0
+giving_lone s r h = h
 
 pub all_lone : (s : ℕ) (rs : List Record) → AllFine (Giving s) rs → AllFine (Lone s) rs
 all_lone s [] h = tt
@@ -123,16 +99,12 @@ fine-append P (r ∷ rs) qs h g = (h.0, fine-append P rs qs h.1 g)
 
 -- each settles one return that is owed
 pub settles : (s : ℕ) (r : Record) → Giving s r → gain returns (inverse_of r) ≡ gain returns r + 1
-settles s (Open k) h = absurd h
 settles s (Close k) h = refl
-settles s (Hold k) h = absurd h
 settles s (Free k) h = refl
-settles s (Add k) h = absurd h
 settles s (Drop k) h = refl
 settles s (Move k) h = omega (arith, ap returns.phase h.2, ap (λ t. one_if (not t)) h.1)
-settles s (Touch k) h = absurd h
-settles s (Bind k) h = absurd h
 settles s (Unbind k) h = refl
+settles s r h = absurd h
 
 pub owed_given : (w : Whole) (s : ℕ) (b : Book) (rs : List Record) → AllFine (Giving s) rs → AllAllowed w b rs → length rs + owed (after_all b rs) ≡ owed b
 owed_given w s b [] g h = omega arith

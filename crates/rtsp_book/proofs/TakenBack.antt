@@ -1,7 +1,7 @@
 -- What a session holds may be taken back, one thing after another.
 use Rattle.std.proofs.Common.{◌≡◌, ◌≢◌, ℕ, true, false, ◌&&◌, not, cond, [], ◌∷◌, ◌++◌, refl, sym, ◌∙◌, ap}
 use Rattle.std.specs.Prelude.{Option, Some, None, is_none}
-use Rattle.std.proofs.lemmas.Bool.{and_parts}
+use Rattle.std.proofs.lemmas.Bool.{and_parts, not-true, not-false}
 use Rattle.rtsp_record.specs.declared.holdings.Admission.{Admission}
 use Rattle.rtsp_record.specs.declared.holdings.Thing.{Thing}
 use Rattle.rtsp_record.specs.Records.{frees}
@@ -15,14 +15,14 @@ use Rattle.rtsp_record.proofs.LastWords.{Kinds, OneKind, TwoKinds, kinds}
 use Rattle.rtsp_record.proofs.Rows.{under-own}
 use Rattle.rtsp_record.proofs.Trims.{AllFine}
 use Rattle.rtsp_book.proofs.Runs.{OwnAll, own-append, Giving, fine-append}
-use Rattle.rtsp_book.proofs.Tests.{none_there, turned, turned_off, held_is}
+use Rattle.rtsp_book.proofs.Tests.{none_there, held_is}
 
 pub own_free : (s a : ℕ) (x : Thing) (f : Session) → is_held f a x ≡ true → has_stream_under f a ≡ false → Own (frees s a x) (Some f)
 own_free s a x f held off = record { held = held_is f a x held; no_stream = none_there (under f a).stream off }
 
 pub own_return : (s a : ℕ) (x : Thing) (o : Option Session) → is_none o ≡ false → if_living o (λ f. has_stream_under f a) ≡ false → if_living o (λ f. not (is_held f a x)) ≡ false → Own (frees s a x) o
 own_return s a x None lives right held = absurd cc
-own_return s a x (Some f) lives right held = own_free s a x f (turned (is_held f a x) held) right
+own_return s a x (Some f) lives right held = own_free s a x f (not-false (is_held f a x) held) right
 
 -- a second thing is still held when the first is freed
 still_held : (x y : Thing) (d : Admission) → x ≢ y → alike x d ≡ Some x → alike y d ≡ Some y → alike y (freed x d) ≡ Some y
@@ -37,7 +37,7 @@ pub one_back : (s a : ℕ) (f : Session) (o : Option Thing) → OwnAll (taking_b
 one_back s a f None = (tt, tt)
 one_back s a f (Some x) =
     elim (is_held f a x && not (has_stream_under f a)) as (λ t. (is_held f a x && not (has_stream_under f a)) ≡ t → OwnAll (cond t (frees s a x ∷ []) []) (Some f) × AllFine (Giving s) (cond t (frees s a x ∷ []) [])) [
-      | true ↦ λ is. let parts = and_parts (is_held f a x) (not (has_stream_under f a)) is in ((own_free s a x f parts.0 (turned_off (has_stream_under f a) parts.1), tt), (refl, tt))
+      | true ↦ λ is. let parts = and_parts (is_held f a x) (not (has_stream_under f a)) is in ((own_free s a x f parts.0 (not-true (has_stream_under f a) parts.1), tt), (refl, tt))
       | false ↦ λ _. (tt, tt)
     ] refl
 
@@ -51,7 +51,7 @@ two_back s a f (Some x) (Some y) apart =
       | false ↦ λ _. one_back s a f (Some x)
       | true ↦ λ is.
           let parts = and_parts (is_held f a y) (not (has_stream_under f a)) is in
-          let off = turned_off (has_stream_under f a) parts.1 in
+          let off = not-true (has_stream_under f a) parts.1 in
           let d = freed y (under f a) in
           elim (is_held f a x && not (has_stream_under f a)) as (λ t. (is_held f a x && not (has_stream_under f a)) ≡ t → OwnAll (frees s a y ∷ cond t (frees s a x ∷ []) []) (Some f) × AllFine (Giving s) (frees s a y ∷ cond t (frees s a x ∷ []) [])) [
             | false ↦ λ _. ((own_free s a y f parts.0 off, tt), (refl, tt))

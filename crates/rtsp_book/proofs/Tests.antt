@@ -1,5 +1,5 @@
 -- What it says that a test of a step passed or failed.
-use Rattle.std.proofs.Common.{◌≡◌, ℕ, ◌<◌, Bool, true, false, not, refl, ap, arith}
+use Rattle.std.proofs.Common.{◌≡◌, ℕ, ◌<◌, true, false, refl, ap, arith}
 use Rattle.std.specs.Prelude.{Option, Some, None, IsSome, is_some, is_none, nat_lt}
 use Rattle.std.proofs.lemmas.Bool.Decides.{nat_tests}
 use Rattle.rtsp_record.specs.declared.holdings.Thing.{Thing}
@@ -17,14 +17,6 @@ none_there (Some x) h = absurd cc
 pub some_there : {A : Type 0} (o : Option A) → is_none o ≡ false → IsSome o
 some_there None h = absurd cc
 some_there (Some x) h = refl
-
-pub turned : (a : Bool) → not a ≡ false → a ≡ true
-turned true h = refl
-turned false h = absurd cc
-
-pub turned_off : (a : Bool) → not a ≡ true → a ≡ false
-turned_off true h = absurd cc
-turned_off false h = refl
 
 pub no_more : (n : ℕ) → nat_lt 0 n ≡ false → n ≡ 0
 no_more n h = grind (arith, nat_tests)

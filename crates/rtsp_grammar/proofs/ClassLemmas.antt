@@ -1,6 +1,6 @@
 -- Tests of each byte of a line, a token and a method.
 use Rattle.std.proofs.Common.{◌≡◌, ℕ, ◌-◌, ◌<◌, List, ◌++◌, length, get_or, refl, arith, Bool, true, false, eqb}
-use Rattle.std.specs.Prelude.{not, ◌&&◌, nat_eq, [], ◌∷◌}
+use Rattle.std.specs.Prelude.{not, nat_eq, [], ◌∷◌}
 use Rattle.std.specs.List.{list_all, starts_with}
 use Rattle.std.proofs.lemmas.Bool.{and_parts, not-true}
 use Rattle.rtsp_text.specs.Bytes.{is_blank, is_token, is_token_byte}

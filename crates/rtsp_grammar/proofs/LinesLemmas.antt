@@ -1,12 +1,12 @@
 -- The first of the lines of a text.
-use Rattle.std.proofs.Common.{◌≡◌, ℕ, ◌+◌, ◌-◌, ◌<◌, ◌≤◌, List, [], ◌∷◌, ◌++◌, length, take, drop, refl, sym, ap, subst, ◌∙◌, append_assoc, arith, true, Option, Some, None}
-use Rattle.std.specs.List.{list_all, AllByRecursion}
+use Rattle.std.proofs.Common.{◌≡◌, ℕ, ◌+◌, ◌-◌, ◌<◌, ◌≤◌, List, [], ◌∷◌, ◌++◌, length, take, refl, sym, ap, subst, ◌∙◌, append_assoc, arith, true, Option, Some, None}
+use Rattle.std.specs.List.{AllByRecursion}
 use Rattle.std.proofs.lemmas.List.{length-append, append-nil, take_at, length-drop}
 use Rattle.rtsp_text.proofs.ByteLemmas.{all_other}
 use Rattle.rtsp_grammar.specs.Bytes.{is_line_byte}
 use Rattle.rtsp_grammar.specs.Folds.{begins_blank}
 use Rattle.rtsp_grammar.specs.Item.{BeginsBlank}
-use Rattle.rtsp_grammar.specs.Lines.{AreLines, BeginsLines, HasLine, IsLine, IsPlain, line_text, lines_text}
+use Rattle.rtsp_grammar.specs.Lines.{AreLines, BeginsLines, HasLine, IsLine, line_text, lines_text}
 use Rattle.rtsp_grammar.specs.Reading.{line_and_others, split_line}
 use Rattle.rtsp_text.specs.SplitOnce.{split_once, IsSplitAt}
 use Rattle.rtsp_text.proofs.SplitLemmas.{split_found, split_is}

@@ -1,13 +1,13 @@
 -- A head that comes in pieces, scanned from the place where the scan stopped.
-use Rattle.std.proofs.Common.{◌≡◌, ◌≢◌, ℕ, suc, ◌+◌, ◌-◌, ◌<◌, ◌≤◌, List, [], ◌∷◌, ◌++◌, length, take, drop, refl, sym, ap, subst, ◌∙◌, append_assoc, arith, inl, inr, Bool, true, false, eqb, Option, Some, None}
-use Rattle.std.specs.Prelude.{IfSome, IsTrue, nat_eq, ◌&&◌}
-use Rattle.std.specs.List.{list_all, starts_with, AllByRecursion}
+use Rattle.std.proofs.Common.{◌≡◌, ◌≢◌, ℕ, suc, ◌+◌, ◌-◌, ◌<◌, ◌≤◌, List, [], ◌∷◌, ◌++◌, length, drop, refl, sym, ap, subst, ◌∙◌, append_assoc, arith, inl, inr, Bool, true, false, eqb, Some}
+use Rattle.std.specs.Prelude.{nat_eq}
+use Rattle.std.specs.List.{starts_with}
 use Rattle.std.proofs.lemmas.Bool.{eqb-true, and_from}
-use Rattle.std.proofs.lemmas.List.{take_all, length-append, length-drop, append-nil, drop_at, drop-append-le}
+use Rattle.std.proofs.lemmas.List.{take_all, length-append, append-nil, drop_at, drop-append-le}
 use Rattle.std.proofs.lemmas.List.Folds.{list_all-append}
 use Rattle.rtsp_grammar.specs.Bytes.{is_line_byte}
 use Rattle.rtsp_grammar.specs.Frame.{BeginsFrame}
-use Rattle.rtsp_grammar.specs.Lines.{blank_text, line_text, lines_text, IsLine, IsPlain, IsOpen, HasLine}
+use Rattle.rtsp_grammar.specs.Lines.{blank_text, line_text, lines_text, IsPlain, IsOpen, HasLine}
 use Rattle.rtsp_grammar.specs.Answer.{IsUndecided}
 use Rattle.rtsp_grammar.specs.Scan.{reached_after, reached_within, BeginsNoFrame, HasReached, IsReached, IsPlace}
 use Rattle.rtsp_grammar.specs.declared.scan.ScanPlace.{ScanPlace}

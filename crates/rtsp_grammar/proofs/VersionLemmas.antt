@@ -1,6 +1,6 @@
 -- Reading a version is the relation.
 use Rattle.std.proofs.Common.{◌≡◌, ℕ, List, [], ◌∷◌, ◌++◌, take, drop, refl, sym, ap, ◌∙◌, Bool, true, false, cond, eqb, eq-eqb, Option, Some, None}
-use Rattle.std.specs.Prelude.{◌&&◌, codes, nat_eq}
+use Rattle.std.specs.Prelude.{codes, nat_eq}
 use Rattle.std.specs.List.{list_all, starts_with}
 use Rattle.std.specs.Char.{is_ascii_digit}
 use Rattle.std.specs.Cmp.Lexicographic.{same_text}
@@ -10,7 +10,7 @@ use Rattle.rtsp_text.specs.Bytes.{is_other, is_number}
 use Rattle.rtsp_text.proofs.ByteLemmas.{some_parts, some_other, all_other, all_joined}
 use Rattle.rtsp_grammar.specs.Number.{number_of}
 use Rattle.rtsp_grammar.specs.Reading.{are_numbers, are_2_and_0, is_version, is_version_2_0, version_of}
-use Rattle.rtsp_grammar.specs.Version.{IsVersion, IsVersion20, IsOtherVersion, SpellsVersion, version_text, IsCanonicalVersion}
+use Rattle.rtsp_grammar.specs.Version.{IsVersion, IsVersion20, SpellsVersion, version_text, IsCanonicalVersion}
 use Rattle.rtsp_grammar.specs.declared.version.Version.{Version}
 use Rattle.rtsp_grammar.specs.declared.version.Version.TheVariants.{Rtsp2, Other}
 use Rattle.rtsp_text.specs.SplitOnce.{split_once}

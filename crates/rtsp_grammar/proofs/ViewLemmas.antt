@@ -1,7 +1,6 @@
 -- A text has one first line, and one head.
 use Rattle.std.proofs.Common.{◌≡◌, ℕ, zero, suc, ◌⊎◌, List, [], ◌∷◌, ◌++◌, length, refl, sym, ap, subst, ◌∙◌, append_assoc, arith, inl, inr, Bool, true, false, cond, eqb}
-use Rattle.std.specs.Prelude.{not, ◌||◌}
-use Rattle.std.proofs.lemmas.Bool.{eqb-true, and_parts}
+use Rattle.std.proofs.lemmas.Bool.{eqb-true, and_parts, not-true, or_parts}
 use Rattle.std.specs.List.{list_all, AllByRecursion}
 use Rattle.rtsp_grammar.specs.Bytes.{is_line_byte}
 use Rattle.rtsp_grammar.specs.Lines.{blank_text, line_text, lines_text, IsLine, IsBroken, IsOpen, BeginsBare}
@@ -26,14 +25,9 @@ abbrev pub view : List ℕ → View
 view [] = open_end
 view (b ∷ bytes) = cond (eqb b 10) broken (cond (eqb b 13) (after bytes) (onto b (view bytes)))
 
-neither : (a b : Bool) → not (a || b) ≡ true → (a ≡ false) × (b ≡ false)
-neither true b e = absurd cc
-neither false true e = absurd cc
-neither false false e = (refl, refl)
-
 -- a byte of a line goes to the front of what follows
 view_plain : (b : ℕ) (bytes : List ℕ) → is_line_byte b ≡ true → view (b ∷ bytes) ≡ onto b (view bytes)
-view_plain b bytes e = let n = neither (eqb b 13) (eqb b 10) e in rw (n.1, n.0) refl
+view_plain b bytes e = let n = or_parts (eqb b 13) (eqb b 10) (not-true _ e) in rw (n.1, n.0) refl
 
 pub view_ended : (line rest : List ℕ) → list_all is_line_byte line ≡ true → view (line ++ 13 ∷ 10 ∷ rest) ≡ ended line rest
 view_ended [] rest e = refl

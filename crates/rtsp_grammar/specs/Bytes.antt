@@ -1,7 +1,5 @@
 -- Classes of bytes (RFC 7826 section 20.1).
-use Rattle.std.specs.Prelude.{ℕ, Bool, ◌==◌, ◌||◌, ◌&&◌, not, nat_le, codes}
-use Rattle.std.specs.Char.{is_ascii_alphanumeric}
-use Rattle.std.specs.List.{list_any}
+use Rattle.std.specs.Prelude.{ℕ, Bool, ◌==◌, ◌||◌, ◌&&◌, not, nat_le}
 
 -- CR or LF
 abbrev pub is_line_end : ℕ → Bool

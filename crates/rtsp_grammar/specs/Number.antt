@@ -1,7 +1,5 @@
 -- Numbers in decimal digits.
-use Rattle.std.specs.Prelude.{ℕ, ◌+◌, ◌-◌, ◌*◌, ◌/◌, ◌%◌, Bool, List, [], ◌∷◌}
-use Rattle.std.specs.Char.{is_ascii_digit}
-use Rattle.rtsp_text.specs.Bytes.{is_some_of}
+use Rattle.std.specs.Prelude.{ℕ, ◌+◌, ◌-◌, ◌*◌, List, [], ◌∷◌}
 
 -- the number that digits write, where they follow those of n
 abbrev pub number_after : ℕ → List ℕ → ℕ

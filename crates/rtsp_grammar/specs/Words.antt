@@ -1,7 +1,7 @@
 -- Words of a message: tokens, methods and URIs (RFC 7826 section 20.1).
-use Rattle.std.specs.Prelude.{ℕ, Bool, ◌&&◌, not, ◌==◌, nat_eq, List, [], ◌∷◌, length}
-use Rattle.std.specs.List.{list_all, starts_with}
-use Rattle.rtsp_text.specs.Bytes.{is_token_byte, is_some_of, is_token}
+use Rattle.std.specs.Prelude.{ℕ, Bool, ◌&&◌, not, nat_eq, List, [], ◌∷◌}
+use Rattle.std.specs.List.{starts_with}
+use Rattle.rtsp_text.specs.Bytes.{is_some_of, is_token}
 use Rattle.rtsp_grammar.specs.Bytes.{is_uri_byte}
 
 -- a token that doesn't begin with `$`, the sign of a frame

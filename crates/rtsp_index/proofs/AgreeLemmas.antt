@@ -2,7 +2,7 @@
 use Rattle.std.proofs.Common.{◌≡◌, ℕ, ◌+◌, ◌<◌, Bool, true, false, not, List, [], ◌∷◌, length, drop, get_or, add-one, drop-cons, refl, sym, ◌∙◌, ap, subst, arith}
 use Rattle.std.specs.Prelude.{Option, IsTrue, count_by, is_some, nat_lt}
 use Rattle.std.specs.FinMap.{entries}
-use Rattle.std.proofs.lemmas.Bool.Decides.{nat_tests}
+use Rattle.std.proofs.lemmas.Bool.{ltb-false}
 use Rattle.std.proofs.lemmas.List.Sums.{sum_by-cons}
 use Rattle.rtsp_record.specs.declared.holdings.Whole.{Whole}
 use Rattle.rtsp_record.specs.declared.changes.Record.{Record}
@@ -95,10 +95,7 @@ Both A B = (A → B) × (B → A)
 
 -- a test that none is there, and their number
 none_there : (t : Bool) (n : ℕ) → not t ≡ nat_lt 0 n → Both (IsTrue t) (n ≡ 0)
-none_there true n h = (λ _. is_zero n (sym h), λ _. refl)
-  where
-    is_zero : (n : ℕ) → nat_lt 0 n ≡ false → n ≡ 0
-    is_zero n h = grind (arith, nat_tests)
+none_there true n h = (λ _. omega (arith, ltb-false 0 n (sym h)), λ _. refl)
 none_there false n h = (λ bad. absurd cc, λ none. absurd (cc (h, ap (nat_lt 0) none)))
 
 -- no session has the id where none is counted

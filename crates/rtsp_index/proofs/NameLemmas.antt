@@ -2,9 +2,9 @@
 use Rattle.std.proofs.Common.{◌≡◌, ◌≢◌, ◌==◌, ℕ, true, false, ◌&&◌, ◌⊎◌, refl, sym, ◌∙◌, ap, subst, inl, inr, arith}
 use Rattle.std.specs.Prelude.{Option, Some, None, option_map, option_and_then, nat_eq}
 use Rattle.std.specs.FinMap.{get, entries, empty}
-use Rattle.std.proofs.lemmas.Bool.{cases_eq, and_parts}
+use Rattle.std.proofs.lemmas.Bool.{eqb-true, eq-eqb, cases_eq, and_parts}
 use Rattle.std.proofs.lemmas.Bool.Decides.{nat_tests}
-use Rattle.std.proofs.lemmas.Option.{none-some}
+use Rattle.std.proofs.lemmas.Option.{none-some, same_Some}
 use Rattle.rtsp_record.specs.declared.holdings.Whole.{Whole}
 use Rattle.rtsp_record.specs.declared.payloads.Life.{Life}
 use Rattle.rtsp_record.specs.declared.payloads.Binding.{Binding}
@@ -21,9 +21,6 @@ use Rattle.rtsp_index.specs.Searching.{Passes}
 use Rattle.rtsp_index.specs.Naming.{id_at, startup_at, same_startup, IsIndex}
 use Rattle.rtsp_index.proofs.SearchLemmas.{only_number}
 
-some_eq : {K : Type 0} (x y : K) → ◌≡◌ {A = Option K} (Some x) (Some y) → x ≡ y
-some_eq x y h = cc
-
 -- An index after a change of one session and of one name.
 module _ {K : Type 0} (name more : ℕ → Option K) (found next : K → Option ℕ) (s : ℕ) (k : K)
     (either : (j : K) → (j ≡ k) ⊎ (j ≡ k → ⊥))
@@ -35,7 +32,7 @@ module _ {K : Type 0} (name more : ℕ → Option K) (found next : K → Option 
       record {
         named = λ j q h. elim (either j) [
           | inl same ↦
-              let here : s ≡ q = some_eq s q (sym finds ∙ ap next (sym same) ∙ h) in
+              let here : s ≡ q = same_Some s q (sym finds ∙ ap next (sym same) ∙ h) in
               ap more (sym here) ∙ now ∙ ap (λ k. Some k) (sym same)
           | inr apart ↦
               let there = was.named j q (sym (kept j apart) ∙ h) in
@@ -43,7 +40,7 @@ module _ {K : Type 0} (name more : ℕ → Option K) (found next : K → Option 
         ];
         finds = λ j q h. elim (cases_eq q s) [
           | inl same ↦
-              let here : k ≡ j = some_eq k j (sym now ∙ ap more (sym same) ∙ h) in
+              let here : k ≡ j = same_Some k j (sym now ∙ ap more (sym same) ∙ h) in
               ap next (sym here) ∙ finds ∙ ap (λ n. Some n) (sym same)
           | inr apart ↦
               let there = sym (others q apart) ∙ h in
@@ -58,13 +55,13 @@ module _ {K : Type 0} (name more : ℕ → Option K) (found next : K → Option 
           | inl same ↦ absurd (none-some q (sym none ∙ ap next (sym same) ∙ h))
           | inr apart ↦
               let there = was.named j q (sym (kept j apart) ∙ h) in
-              others q (λ e. apart (some_eq j k (sym there ∙ ap name e ∙ had))) ∙ there
+              others q (λ e. apart (same_Some j k (sym there ∙ ap name e ∙ had))) ∙ there
         ];
         finds = λ j q h. elim (cases_eq q s) [
           | inl same ↦ absurd (none-some j (sym gone ∙ ap more (sym same) ∙ h))
           | inr apart ↦
               let there = was.finds j q (sym (others q apart) ∙ h) in
-              kept j (λ e. apart (some_eq q s (sym there ∙ ap found e ∙ was.finds k s had))) ∙ there
+              kept j (λ e. apart (same_Some q s (sym there ∙ ap found e ∙ was.finds k s had))) ∙ there
         ];
       }
 
@@ -84,19 +81,10 @@ either_startup k j =
       | inr apart ↦ inr (λ e. apart (ap (λ (k : ℕ × ℕ). k.0) e))
     ]
 
-pub same_eq : (n : ℕ) → nat_eq n n ≡ true
-same_eq n = grind (arith, nat_tests)
-
-pub apart_eq : (n m : ℕ) → (m ≡ n → ⊥) → nat_eq n m ≡ false
-apart_eq n m h = grind (arith, nat_tests)
-
-nat_is : (n m : ℕ) → nat_eq n m ≡ true → n ≡ m
-nat_is n m h = grind (arith, nat_tests)
-
 pub apart_startup : (k j : ℕ × ℕ) → (j ≡ k → ⊥) → same_startup k j ≡ false
 apart_startup k j h =
     elim (same_startup k j) as (λ t. same_startup k j ≡ t → t ≡ false) [
-      | true ↦ λ e. let parts = and_parts (nat_eq k.0 j.0) (nat_eq k.1 j.1) e in absurd (h (λ t. (sym (nat_is k.0 j.0 parts.0) t, sym (nat_is k.1 j.1 parts.1) t)))
+      | true ↦ λ e. let parts = and_parts (nat_eq k.0 j.0) (nat_eq k.1 j.1) e in absurd (h (λ t. (sym (eqb-true k.0 j.0 parts.0) t, sym (eqb-true k.1 j.1 parts.1) t)))
       | false ↦ λ _. refl
     ] refl
 
@@ -151,7 +139,7 @@ no_id b i q none has =
     elim (get b q) as (λ o. get b q ≡ o → option_map (λ (f : Session). f.id) o ≡ Some i → ⊥) [
       | None ↦ λ _ h. none-some i h
       | Some f ↦ λ at h.
-          let same : f.id ≡ i = some_eq f.id i h in
+          let same : f.id ≡ i = same_Some f.id i h in
           absurd (omega (arith, none, total-at (λ e. of_session (with_id i) e.1) b q, ap (weigh (λ (e : ℕ × Session). of_session (with_id i) e.1) q) at, counted f i same))
     ] refl has
   where
@@ -222,21 +210,21 @@ unbind_startups w b r k is =
 
 pub id_number : (b : Book) (found : ℕ → Option ℕ) (i : ℕ) → IsIndex (id_at b) found → found i ≡ with_id_in i (entries b)
 id_number b found i ok =
-    only_number b (λ e. e.1.id == i) (found i) (λ s h. there s (ok.named i s h)) (λ s h. ok.finds i s (ap (option_map (λ (f : Session). f.id)) h.1 ∙ ap (λ n. Some n) (nat_is h.0.id i h.2)))
+    only_number b (λ e. e.1.id == i) (found i) (λ s h. there s (ok.named i s h)) (λ s h. ok.finds i s (ap (option_map (λ (f : Session). f.id)) h.1 ∙ ap (λ n. Some n) (eqb-true h.0.id i h.2)))
   where
     there : (s : ℕ) → id_at b s ≡ Some i → Passes (λ e. e.1.id == i) b s
     there s h =
         elim (get b s) as (λ o. get b s ≡ o → option_map (λ (f : Session). f.id) o ≡ Some i → Passes (λ e. e.1.id == i) b s) [
           | None ↦ λ _ h. absurd (none-some i h)
-          | Some f ↦ λ at h. (f, at, ap (λ n. n == i) (some_eq f.id i h) ∙ same_eq i)
+          | Some f ↦ λ at h. (f, at, ap (λ n. n == i) (same_Some f.id i h) ∙ eq-eqb i i refl)
         ] refl h
 
 has_startup : (c i : ℕ) (o : Option (ℕ × ℕ)) → is_startup c i o ≡ true → o ≡ Some (c, i)
 has_startup c i None h = absurd cc
-has_startup c i (Some k) h = let parts = and_parts (k.0 == c) (k.1 == i) h in λ t. Some (nat_is k.0 c parts.0 t, nat_is k.1 i parts.1 t)
+has_startup c i (Some k) h = let parts = and_parts (k.0 == c) (k.1 == i) h in λ t. Some (eqb-true k.0 c parts.0 t, eqb-true k.1 i parts.1 t)
 
 is_this_startup : (c i : ℕ) (o : Option (ℕ × ℕ)) → o ≡ Some (c, i) → is_startup c i o ≡ true
-is_this_startup c i o h = ap (is_startup c i) h ∙ (λ t. same_eq c t && (i == i)) ∙ same_eq i
+is_this_startup c i o h = ap (is_startup c i) h ∙ (λ t. eq-eqb c c refl t && (i == i)) ∙ eq-eqb i i refl
 
 pub startup_number : (b : Book) (found : ℕ × ℕ → Option ℕ) (c i : ℕ) → IsIndex (startup_at b) found → found (c, i) ≡ with_startup_in c i (entries b)
 startup_number b found c i ok =

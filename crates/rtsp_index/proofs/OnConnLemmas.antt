@@ -2,6 +2,7 @@
 use Rattle.std.proofs.Common.{◌≡◌, ◌==◌, ℕ, ◌+◌, Bool, true, false, ◌&&◌, ◌||◌, cond, List, [], ◌∷◌, refl, sym, ◌∙◌, ap, arith}
 use Rattle.std.specs.Prelude.{Option, Some, None, option_map, is_some, sum_by}
 use Rattle.std.specs.FinMap.{entries}
+use Rattle.std.proofs.lemmas.Bool.{eqb-true, or_from}
 use Rattle.std.proofs.lemmas.Bool.Decides.{nat_tests}
 use Rattle.std.proofs.lemmas.List.Sums.{sum_by-cons}
 use Rattle.rtsp_record.specs.declared.holdings.Admission.{Admission}
@@ -42,20 +43,14 @@ no_binding : (c : ℕ) (o : Option (ℕ × ℕ)) → if_there (bindings_of c).bi
 no_binding c None h = refl
 no_binding c (Some k) h = off_if (k.0 == c) h
 
-neither : (u v : Bool) → u ≡ false → v ≡ false → (u || v) ≡ false
-neither u v h k = ap (λ u. u || v) h ∙ k
-
 none_among : (c : ℕ) (es : List (ℕ × Session)) → ((l : ℕ) → sum_by (λ e. of_session (covering (Channel c l)) e.1) es ≡ 0) → sum_by (λ e. of_session (bindings_of c) e.1) es ≡ 0 → number_of (is_on c) es ≡ None
 none_among c [] held bound = refl
 none_among c (e ∷ es) held bound =
     let channels = no_channels c (entries e.1.admissions) (λ l. omega (arith, held l, sum_by-cons (λ (e : ℕ × Session). of_session (covering (Channel c l)) e.1) e es)) in
     let binding = no_binding c e.1.binding (omega (arith, bound, sum_by-cons (λ (e : ℕ × Session). of_session (bindings_of c) e.1) e es)) in
-    ap (λ t. option_map (λ (e : ℕ × Session). e.0) (cond t (Some e) (first_with (is_on c) es))) (neither _ _ channels binding)
+    ap (λ t. option_map (λ (e : ℕ × Session). e.0) (cond t (Some e) (first_with (is_on c) es))) (or_from _ _ channels binding)
     ∙ none_among c es (λ l. omega (arith, held l, sum_by-cons (λ (e : ℕ × Session). of_session (covering (Channel c l)) e.1) e es)) (omega (arith, bound, sum_by-cons (λ (e : ℕ × Session). of_session (bindings_of c) e.1) e es))
-
-is_none : (n : ℕ) → (n == 0) ≡ true → n ≡ 0
-is_none n h = grind (arith, nat_tests)
 
 -- no channel of the connection is held, and nothing is bound to it
 pub none_on : (b : Book) (c : ℕ) → ((l : ℕ) → (amount (covering (Channel c l)) b == 0) ≡ true) → amount (bindings_of c) b ≡ 0 → None ≡ number_of (is_on c) (entries b)
-none_on b c free none = sym (none_among c (entries b) (λ l. is_none _ (free l)) none)
+none_on b c free none = sym (none_among c (entries b) (λ l. eqb-true _ _ (free l)) none)

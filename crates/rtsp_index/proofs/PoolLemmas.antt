@@ -3,7 +3,7 @@ use Rattle.std.proofs.Common.{◌≡◌, ◌==◌, ℕ, zero, suc, ◌+◌, ◌*
 use Rattle.std.specs.Prelude.{Option, Some, None}
 use Rattle.std.specs.FinMap.{get, empty}
 use Rattle.std.proofs.Math.Nat.{one-mul}
-use Rattle.std.proofs.lemmas.Bool.Decides.{nat_tests}
+use Rattle.std.proofs.lemmas.Bool.{eq-eqb, ne_eqb, and_from, or_left, or_right}
 use Rattle.rtsp_record.specs.declared.holdings.Thing.{Thing}
 use Rattle.rtsp_record.specs.declared.holdings.Thing.TheVariants.{Pair, Port, Chan, Rate}
 use Rattle.rtsp_record.specs.declared.holdings.Whole.{Whole}
@@ -77,27 +77,17 @@ pub record IsHeld (w : Whole) (x : Thing) (b c : Book) : Type 0 where
   pub more : HoldsMore x c b
   pub once : (q : Spot) → amount (covering q) b ≤ 1
 
-on : (p : ℕ) → (p == p) ≡ true
-on p = grind (arith, nat_tests)
-
-on_or : (u v : Bool) → u ≡ true → (u || v) ≡ true
-on_or u v h = ap (λ u. u || v) h
-
-or_on : (u v : Bool) → v ≡ true → (u || v) ≡ true
-or_on true v h = refl
-or_on false v h = h
-
 covers_port : (p : ℕ) → covers (UdpPort p) (Port p) ≡ true
-covers_port p = on p
+covers_port p = eq-eqb p p refl
 
 covers_first : (p : ℕ) → covers (UdpPort p) (Pair p) ≡ true
-covers_first p = on_or (p == p) (p == p + 1) (on p)
+covers_first p = or_left (p == p) (p == p + 1) (eq-eqb p p refl)
 
 covers_second : (p : ℕ) → covers (UdpPort (p + 1)) (Pair p) ≡ true
-covers_second p = or_on (p + 1 == p) (p + 1 == p + 1) (on (p + 1))
+covers_second p = or_right (p + 1 == p) (p + 1 == p + 1) (eq-eqb (p + 1) (p + 1) refl)
 
 covers_channel : (c k : ℕ) → covers (Channel c k) (Chan c k) ≡ true
-covers_channel c k = (λ t. on c t && (k == k || k == k + 1)) ∙ on_or (k == k) (k == k + 1) (on k)
+covers_channel c k = and_from (c == c) (k == k || k == k + 1) (eq-eqb c c refl) (or_left (k == k) (k == k + 1) (eq-eqb k k refl))
 
 module _ (x : Thing) (b c : Book) (more : HoldsMore x b c) (q : Spot) where
   -- with the thing what it covers isn't free, and all else is as without it
@@ -105,10 +95,7 @@ module _ (x : Thing) (b c : Book) (more : HoldsMore x b c) (q : Spot) where
   free_beside = beside (covers q x) (amount (covering q) b) (amount (covering q) c) (more (covering q))
     where
       beside : (t : Bool) (n m : ℕ) → m ≡ n + one_if t → (m == 0) ≡ (not t && n == 0)
-      beside true n m h = some m (omega (arith, h))
-        where
-          some : (n : ℕ) → 1 ≤ n → (n == 0) ≡ false
-          some n h = grind (arith, nat_tests)
+      beside true n m h = ne_eqb m 0 (λ none. omega (arith, h, none))
       beside false n m h = let same : m ≡ n = omega (arith, h) in ap (λ n. n == 0) same
 
   isnt_free : covers q x ≡ true → is_free c q ≡ false

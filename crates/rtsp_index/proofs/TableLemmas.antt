@@ -1,9 +1,10 @@
 -- A table of sessions as a book: what it has at a number, and what one change of it makes.
-use Rattle.std.proofs.Common.{◌≡◌, ◌≢◌, ℕ, zero, suc, ◌+◌, ◌<◌, Bool, true, false, cond, List, [], ◌∷◌, length, refl, sym, ◌∙◌, ap, subst, inl, inr, arith}
+use Rattle.std.proofs.Common.{◌≡◌, ◌≢◌, ℕ, ◌+◌, ◌<◌, Bool, true, false, cond, List, [], ◌∷◌, length, refl, sym, ◌∙◌, ap, subst, inl, inr, arith}
 use Rattle.std.specs.Prelude.{Option, Some, None, Result, Ok, Err, OnOk, IsOk, is_some, option_map, option_and_then, nat_eq, nat_le, slice_get, IsSome, ◌≤◌}
 use Rattle.std.specs.FinMap.{get, entries}
 use Rattle.std.specs.Map.{lookup}
-use Rattle.std.proofs.lemmas.Bool.{cases_eq}
+use Rattle.std.proofs.lemmas.Bool.{both_ways, leb-true, eqb-true, ne_eqb, cases_eq}
+use Rattle.std.proofs.lemmas.Option.{none-some, same_Some, slice_get_within}
 use Rattle.std.proofs.lemmas.Map.Entries.{place_from_lookup}
 use Rattle.std.proofs.lemmas.Bool.Decides.{nat_tests}
 use Rattle.slab.specs.Slab.{Slab, Updates, get as row_in}
@@ -22,12 +23,6 @@ use Rattle.rtsp_index.proofs.SearchLemmas.{least_number}
 
 tied_is : (q k : ℕ) → tied q k ≡ nat_eq q k
 tied_is q k = grind (arith, nat_tests)
-
-pub same_eq : (n : ℕ) → nat_eq n n ≡ true
-same_eq n = grind (arith, nat_tests)
-
-pub apart_eq : (n m : ℕ) → n ≢ m → nat_eq n m ≡ false
-apart_eq n m h = grind (arith, nat_tests)
 
 -- what the book of these places has at a number
 pub at_place : (rows : Slab (ℕ × Session)) (es : List (ℕ × ℕ)) (q : ℕ) → get (gathered rows es) q ≡ option_and_then (row_at rows) (lookup (nat_eq q) es)
@@ -56,7 +51,7 @@ module _ (es ds : List (ℕ × ℕ)) (rows more : Slab (ℕ × Session)) (s : �
     (others : (q : ℕ) → nat_eq s q ≡ false → lookup (nat_eq q) ds ≡ lookup (nat_eq q) es)
     (kept : (q k : ℕ) (f : Session) → q ≢ s → row_in rows k ≡ Some (q, f) → row_in more k ≡ row_in rows k) where
   else_place : (q : ℕ) → q ≢ s → lookup (nat_eq q) ds ≡ lookup (nat_eq q) es
-  else_place q apart = others q (apart_eq s q (λ e. apart (sym e)))
+  else_place q apart = others q (ne_eqb s q (λ e. apart (sym e)))
 
   place_after : ((k : ℕ) → lookup (nat_eq s) ds ≡ Some k → number_at more k ≡ Some s) → IsPlaced (λ q. lookup (nat_eq q) ds) more
   place_after own q k at =
@@ -87,13 +82,10 @@ module _ (es ds : List (ℕ × ℕ)) (rows more : Slab (ℕ × Session)) (s : �
   written k v at row number =
       record {
         placed = place_after (λ j there.
-            let same : k ≡ j = some_same k j (sym at ∙ there) in
+            let same : k ≡ j = same_Some k j (sym at ∙ there) in
             ap (number_at more) (sym same) ∙ ap (option_map (λ (v : ℕ × Session). v.0)) row ∙ ap (λ n. Some n) number);
         table = book_after (Some v.1) (ap (option_and_then (row_at more)) at ∙ ap (option_map (λ (v : ℕ × Session). v.1)) row);
       }
-    where
-      some_same : (n m : ℕ) → ◌≡◌ {A = Option ℕ} (Some n) (Some m) → n ≡ m
-      some_same n m h = cc
 
   pub taken : lookup (nat_eq s) ds ≡ None → Written es ds rows more s None
   taken none =
@@ -106,10 +98,7 @@ module _ (es ds : List (ℕ × ℕ)) (rows more : Slab (ℕ × Session)) (s : �
 other_place : (rows : Slab (ℕ × Session)) (s q j k : ℕ) (f : Session) → number_at rows k ≡ Some s → q ≢ s → row_in rows j ≡ Some (q, f) → j ≢ k
 other_place rows s q j k f number apart row same =
     let there : number_at rows k ≡ Some q = ap (number_at rows) (sym same) ∙ ap (option_map (λ (v : ℕ × Session). v.0)) row in
-    apart (some_is q s (sym there ∙ number))
-  where
-    some_is : (n m : ℕ) → ◌≡◌ {A = Option ℕ} (Some n) (Some m) → n ≡ m
-    some_is n m h = cc
+    apart (same_Some q s (sym there ∙ number))
 
 -- a vacant place isn't that of a row
 vacant_place : (rows : Slab (ℕ × Session)) (q j k : ℕ) (f : Session) → row_in rows k ≡ None → row_in rows j ≡ Some (q, f) → j ≢ k
@@ -140,10 +129,7 @@ row_is es rows s k placed at = let row = numbered (row_in rows k) s (placed s k 
 
 -- the row at the place of a number has the number
 pub row_number : (es : List (ℕ × ℕ)) (rows : Slab (ℕ × Session)) (s k : ℕ) (v : ℕ × Session) → IsPlaced (λ q. lookup (nat_eq q) es) rows → lookup (nat_eq s) es ≡ Some k → ◌≡◌ {A = Option (ℕ × Session)} (Some v) (row_in rows k) → v.0 ≡ s
-row_number es rows s k v placed at is = some_is v.0 s (ap (option_map (λ (v : ℕ × Session). v.0)) is ∙ placed s k at)
-  where
-    some_is : (n m : ℕ) → ◌≡◌ {A = Option ℕ} (Some n) (Some m) → n ≡ m
-    some_is n m h = cc
+row_number es rows s k v placed at is = same_Some v.0 s (ap (option_map (λ (v : ℕ × Session). v.0)) is ∙ placed s k at)
 
 -- the session of a row lives
 pub row_lives : (es : List (ℕ × ℕ)) (rows : Slab (ℕ × Session)) (s k : ℕ) (v : ℕ × Session) → lookup (nat_eq s) es ≡ Some k → ◌≡◌ {A = Option (ℕ × Session)} (Some v) (row_in rows k) → get (gathered rows es) s ≡ Some v.1
@@ -187,44 +173,35 @@ lives es rows s k placed at =
 
 -- two sessions of one number are one
 pub same_session : (o : Option Session) (f g : Session) → o ≡ Some f → o ≡ Some g → f ≡ g
-same_session o f g one two = some_is f g (sym one ∙ two)
-  where
-    some_is : (f g : Session) → ◌≡◌ {A = Option Session} (Some f) (Some g) → f ≡ g
-    some_is f g h = cc
+same_session o f g one two = same_Some f g (sym one ∙ two)
 
 -- what a test says of the session of a number
 pub told_apart : (p : ℕ × Session → Bool) (b : Book) (s : ℕ) (t : Bool) → ((f : Session) → get b s ≡ Some f → t ≡ p (s, f)) → t ≡ false → Passes p b s → ⊥
-told_apart p b s t is off h = differs (p (s, h.0)) (sym (is h.0 h.1) ∙ off) h.2
-  where
-    differs : (t : Bool) → t ≡ false → t ≡ true → ⊥
-    differs t off on = let bad = sym off ∙ on in absurd cc
+told_apart p b s t is off h = both_ways (p (s, h.0)) (sym (is h.0 h.1) ∙ off) h.2
 
 -- the entry that stands there has this number
 pub same_first : (s k : ℕ) (e : ℕ × ℕ) → ◌≡◌ {A = Option (ℕ × ℕ)} (Some (s, k)) (Some e) → s ≡ e.0
 same_first s k e h = cc
 
+-- an entry of this number stands among these
+pub record HasEntry (es : List (ℕ × ℕ)) (s : ℕ) : Type 0 where
+  pub index : ℕ
+  pub entry : ℕ × ℕ
+  pub stands : slice_get es index ≡ Some entry
+  pub number : entry.0 ≡ s
+  pub within : index < length es
+
 -- each living session has an entry among the places
-pub has_entry : (es : List (ℕ × ℕ)) (rows : Slab (ℕ × Session)) (s : ℕ) (f : Session) → get (gathered rows es) s ≡ Some f → (j : ℕ) × (e : ℕ × ℕ) × (slice_get es j ≡ Some e) × (e.0 ≡ s) × (j < length es)
+pub has_entry : (es : List (ℕ × ℕ)) (rows : Slab (ℕ × Session)) (s : ℕ) (f : Session) → get (gathered rows es) s ≡ Some f → HasEntry es s
 has_entry es rows s f is =
-    elim (lookup (nat_eq s) es) as (λ o. lookup (nat_eq s) es ≡ o → (j : ℕ) × (e : ℕ × ℕ) × (slice_get es j ≡ Some e) × (e.0 ≡ s) × (j < length es)) [
+    elim (lookup (nat_eq s) es) as (λ o. lookup (nat_eq s) es ≡ o → HasEntry es s) [
       | None ↦ λ none. let bad = sym (no_place es rows s none) ∙ is in absurd cc
       | Some k ↦ λ at.
           let place = place_from_lookup (nat_eq s) es k at in
-          (place.0, (place.1, k), place.2, sym (nat_is s place.1 place.3), within es place.0 (place.1, k) place.2)
+          record { index = place.0; entry = (place.1, k); stands = place.2; number = sym (eqb-true s place.1 place.3); within = slice_get_within es place.0 (place.1, k) place.2 }
     ] refl
-  where
-    nat_is : (n m : ℕ) → nat_eq n m ≡ true → n ≡ m
-    nat_is n m h = grind (arith, nat_tests)
-
-    within : (es : List (ℕ × ℕ)) (j : ℕ) (e : ℕ × ℕ) → slice_get es j ≡ Some e → j < length es
-    within [] j e h = absurd cc
-    within (d ∷ es) zero e h = omega arith
-    within (d ∷ es) (suc j) e h = omega (arith, within es j e h)
 
 -- Rows and the moments of their places.
-
-pub same_row_of : (v w : ℕ × Session) → ◌≡◌ {A = Option (ℕ × Session)} (Some v) (Some w) → v ≡ w
-same_row_of v w h = cc
 
 -- a row is written at a place, and its expiry
 pub dated_with : (rows more : Slab (ℕ × Session)) (m next : Moments) (k : ℕ) (v : ℕ × Session) → AreDated rows m → Updates rows more k (Some v) → k < m.places → next.places ≡ m.places
@@ -232,7 +209,7 @@ pub dated_with : (rows more : Slab (ℕ × Session)) (m next : Moments) (k : ℕ
 dated_with rows more m next k v dated up within places here others j w at =
     elim (cases_eq j k) [
       | inl same ↦
-          let is : v ≡ w = same_row_of v w (sym up.changed ∙ ap (row_in more) (sym same) ∙ at) in
+          let is : v ≡ w = same_Some v w (sym up.changed ∙ ap (row_in more) (sym same) ∙ at) in
           (omega (arith, same, places, within), ap (moment_at next) same ∙ here ∙ ap (λ (v : ℕ × Session). v.1.expires) is)
       | inr apart ↦
           let was = dated j w (sym (up.others j apart) ∙ at) in
@@ -244,14 +221,11 @@ pub dated_without : (rows more : Slab (ℕ × Session)) (m next : Moments) (k : 
     → ((p : ℕ) → p ≢ k → moment_at next p ≡ moment_at m p) → AreDated more next
 dated_without rows more m next k dated up places others j w at =
     elim (cases_eq j k) [
-      | inl same ↦ absurd (gone (row_in more k) up.changed (ap (row_in more) (sym same) ∙ at))
+      | inl same ↦ absurd (none-some w (sym up.changed ∙ ap (row_in more) (sym same) ∙ at))
       | inr apart ↦
           let was = dated j w (sym (up.others j apart) ∙ at) in
           (omega (arith, was.0, places), others j apart ∙ was.1)
     ]
-  where
-    gone : (o : Option (ℕ × Session)) → o ≡ None → o ≡ Some w → ⊥
-    gone o none some = let bad = sym none ∙ some in absurd cc
 
 -- the same rows, with more places
 pub dated_wider : (rows more : Slab (ℕ × Session)) (m next : Moments) → AreDated rows m → ((k : ℕ) → row_in more k ≡ row_in rows k) → m.places ≤ next.places
@@ -270,12 +244,9 @@ date_of es rows m s f dated at =
             | None ↦ λ _ bad. absurd cc
             | Some v ↦ λ row is.
                 let date = dated k v row in
-                (k, date.0, date.1 ∙ ap (λ (f : Session). f.expires) (session_is v.1 f is))
+                (k, date.0, date.1 ∙ ap (λ (f : Session). f.expires) (same_Some v.1 f is))
           ] refl is
     ] (sym (at_place rows es s) ∙ at)
-  where
-    session_is : (f g : Session) → ◌≡◌ {A = Option Session} (Some f) (Some g) → f ≡ g
-    session_is f g h = cc
 
 -- no session has expired before the least moment
 pub none_due : (es : List (ℕ × ℕ)) (rows : Slab (ℕ × Session)) (m : Moments) (moment least : ℕ) → AreDated rows m → ((p : ℕ) → p < m.places → least ≤ moment_at m p) → moment < least
@@ -283,10 +254,7 @@ pub none_due : (es : List (ℕ × ℕ)) (rows : Slab (ℕ × Session)) (m : Mome
 none_due es rows m moment least dated below early =
     least_number (gathered rows es) (is_expired moment) None tt (λ s h. late s h.0 h.1 h.2)
   where
-    is_late : (n k : ℕ) → nat_le n k ≡ true → n ≤ k
-    is_late n k h = grind (arith, nat_tests)
-
     late : (s : ℕ) (f : Session) → get (gathered rows es) s ≡ Some f → nat_le f.expires moment ≡ true → ⊥
     late s f at on =
         let date = date_of es rows m s f dated at in
-        absurd (omega (arith, below date.0 date.1, date.2, early, is_late f.expires moment on))
+        absurd (omega (arith, below date.0 date.1, date.2, early, leb-true f.expires moment on))

@@ -1,5 +1,5 @@
 -- A record after a book, and what it takes memory for.
-use Rattle.std.specs.Prelude.{Bool, true, false}
+use Rattle.std.specs.Prelude.{◌<◌, ◌^◌, Bool, true, false}
 use Rattle.rtsp_record.specs.declared.holdings.Thing.{Thing}
 use Rattle.rtsp_record.specs.declared.holdings.Thing.TheVariants.{Pair, Port, Chan, Rate}
 use Rattle.rtsp_record.specs.declared.holdings.Whole.{Whole}
@@ -13,6 +13,14 @@ use Rattle.rtsp_record.specs.Sound.{Sound}
 pub record Follows (w : Whole) (b : Book) (r : Record) : Type 0 where
   pub sound : Sound w b
   pub allowed : Allowed w b r
+
+-- a record that is allowed after some sound book of a small whole, of which this holds
+pub record FollowsSome (r : Record) (P : Book → Type 0) : Type 0 where
+  pub whole : Whole
+  pub small : whole.sessions < 2 ^ 16
+  pub book : Book
+  pub follows : Follows whole book r
+  pub holds : P book
 
 -- channels
 abbrev pub is_chan : Thing → Bool

@@ -6,7 +6,7 @@ ghost use Rattle.indexmap.specs.IndexMap.{get, spare};
 ghost use Rattle.rtsp_record.specs.Books.{Book, after};
 ghost use Rattle.rtsp_record.specs.Sums.{one_if};
 ghost use Rattle.rtsp_record.specs.declared.holdings.Whole.{Whole};
-ghost use Rattle.rtsp_index.specs.Following.{Follows, is_bind};
+ghost use Rattle.rtsp_index.specs.Following.{Follows, FollowsSome, is_bind};
 
 use indexmap::IndexMap;
 use rtsp_record::Record;
@@ -79,7 +79,7 @@ impl Bindings {
 
     /// Counts the binding that the record makes or ends.
     pub(crate) fn follow(&mut self, change: &Record)
-        requires follows { (w : Whole) × (w.sessions < 2 ^ 16) × (b : Book) × Follows w b change.now × AreBindingsOf b self.old }
+        requires follows { FollowsSome change.now (λ b. AreBindingsOf b self.old) }
         requires room { one_if (is_bind change.now) ≤ spare self.old.counts }
         ensures follows { (w : Whole) (b : Book) → Follows w b change.now → AreBindingsOf b self.old → AreBindingsOf (after b change.now) self.new }
         ensures room { spare self.old.counts ≤ spare self.new.counts + one_if (is_bind change.now) }

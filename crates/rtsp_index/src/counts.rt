@@ -1,14 +1,14 @@
 //! How many sessions live, how many records would end them, and how many are bound to each
 //! connection.
 
-ghost use Rattle.std.specs.Prelude.{◌≡◌, ◌+◌, ◌≤◌, ◌^◌, ◌<◌, ◌↔◌, IsTrue, IsOk, OnOk};
+ghost use Rattle.std.specs.Prelude.{◌≡◌, ◌+◌, ◌≤◌, ◌<◌, ◌↔◌, IsTrue, IsOk, OnOk};
 ghost use Rattle.std.specs.FinMap.{empty};
 ghost use Rattle.indexmap.specs.IndexMap.{spare};
 ghost use Rattle.rtsp_record.specs.Books.{Book, after};
 ghost use Rattle.rtsp_record.specs.Sums.{one_if, amount, living, owed};
 ghost use Rattle.rtsp_record.specs.declared.holdings.Whole.{Whole};
 ghost use Rattle.rtsp_sessions.specs.Plain.{is_open};
-ghost use Rattle.rtsp_index.specs.Following.{Follows, is_bind};
+ghost use Rattle.rtsp_index.specs.Following.{Follows, FollowsSome, is_bind};
 
 use crate::bindings::Bindings;
 use rtsp_record::Record;
@@ -80,7 +80,7 @@ impl Counts {
 
     /// Counts what the record brings and takes.
     pub(crate) fn follow(&mut self, change: &Record)
-        requires follows { (w : Whole) × (w.sessions < 2 ^ 16) × (b : Book) × Follows w b change.now × AreCountsOf b self.old }
+        requires follows { FollowsSome change.now (λ b. AreCountsOf b self.old) }
         requires room { one_if (is_bind change.now) ≤ spare self.old.bindings.counts }
         ensures follows { (w : Whole) (b : Book) → Follows w b change.now → AreCountsOf b self.old → AreCountsOf (after b change.now) self.new }
         ensures room { spare self.old.bindings.counts ≤ spare self.new.bindings.counts + one_if (is_bind change.now) }

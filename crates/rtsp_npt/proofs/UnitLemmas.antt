@@ -3,7 +3,7 @@ use Rattle.std.proofs.Common.{◌≡◌, ℕ, ◌+◌, ◌*◌, ◌/◌, ◌<◌
 use Rattle.std.specs.Prelude.{◌||◌, ◌↔◌}
 use Rattle.std.specs.Int.{div_ceil}
 use Rattle.std.proofs.Math.Nat.{div-mul-le_self, lt-div-mul-add, lt_of_mul-lt-mul_left}
-use Rattle.std.proofs.lemmas.Bool.{leb-true, leb-false, le-leb}
+use Rattle.std.proofs.lemmas.Bool.{both_ways, leb-true, leb-false, le-leb}
 use Rattle.std.proofs.lemmas.Grind.{div_ceil_times}
 use Rattle.rtsp_npt.specs.declared.range.Range.{Range}
 use Rattle.rtsp_npt.specs.declared.range.Range.TheVariants as ranges
@@ -89,14 +89,11 @@ outside_then range resume unit_ms units true back pos t e = inl (start_unit rang
 outside_then range resume unit_ms units false true pos t e = inr (backwards range resume unit_ms units pos t.back_is)
 outside_then range resume unit_ms units false false pos t e = absurd cc
 
-clash : (b : Bool) → b ≡ false → b ≡ true → ⊥
-clash b f t = absurd cc
-
 inside_then : (range : Range) (resume unit_ms units : ℕ) → 0 < unit_ms → Tests range resume unit_ms units false false → ¬ IsOutOfMedia range resume unit_ms units
 inside_then range resume unit_ms units pos t (inl h) =
     let same = one_start range resume unit_ms h.0 (start_unit range resume unit_ms) h.1 (starts_at range resume unit_ms pos) in
-    clash _ t.behind_is (le-leb _ _ (omega (arith, same, h.2)))
-inside_then range resume unit_ms units pos t (inr h) = clash _ t.back_is (backwards_again range resume unit_ms units pos h)
+    both_ways _ t.behind_is (le-leb _ _ (omega (arith, same, h.2)))
+inside_then range resume unit_ms units pos t (inr h) = both_ways _ t.back_is (backwards_again range resume unit_ms units pos h)
 
 units_within : (range : Range) (resume unit_ms units : ℕ) → 0 < unit_ms → Tests range resume unit_ms units false false → (start_unit range resume unit_ms < stop_unit range unit_ms units) × (stop_unit range unit_ms units ≤ units)
 units_within ranges.Rest resume unit_ms units pos t = let h = leb-false _ _ t.behind_is in (omega (arith, h), omega arith)
@@ -135,4 +132,4 @@ outside_media range resume unit_ms units pos = go (nat_le units (start_unit rang
   go : (a b : Bool) → Tests range resume unit_ms units a b → IsErr (Answer range resume unit_ms units a b) ↔ IsOutOfMedia range resume unit_ms units
   go true b t = (λ _. outside_then range resume unit_ms units true b pos t refl, λ _. refl)
   go false true t = (λ _. outside_then range resume unit_ms units false true pos t refl, λ _. refl)
-  go false false t = (λ e. absurd (clash false refl e), λ h. absurd (inside_then range resume unit_ms units pos t h))
+  go false false t = (λ e. absurd (both_ways false refl e), λ h. absurd (inside_then range resume unit_ms units pos t h))

@@ -1,9 +1,8 @@
 -- The least of what a test takes, and how many it takes.
 use Rattle.std.proofs.Common.{◌≡◌, ℕ, ◌+◌, ◌-◌, ◌*◌, ◌/◌, ◌%◌, ◌<◌, ◌≤◌, zero, suc, min, Bool, true, false, ◌&&◌, cond, List, refl, sym, ◌∙◌, ap, inl, inr, arith}
-use Rattle.std.specs.Prelude.{Some, None, nat_le}
+use Rattle.std.specs.Prelude.{Some, None}
 use Rattle.std.proofs.Math.Nat.{mul-zero, mul-suc, one-mul}
-use Rattle.std.proofs.lemmas.Bool.{cases_lt}
-use Rattle.std.proofs.lemmas.Bool.Decides.{nat_tests}
+use Rattle.std.proofs.lemmas.Bool.{le-leb, lt-leb, cases_lt, and_right}
 use Rattle.rtsp_record.specs.declared.holdings.Whole.{Whole}
 use Rattle.rtsp_record.specs.Sums.{one_if}
 use Rattle.rtsp_record.specs.Choices.{least_of, count_of, from_on, least_pair_by, least_port_by, least_chan_by}
@@ -39,30 +38,20 @@ module _ (step : ℕ) (takes : ℕ → Bool) (p n : ℕ) where
   pub least_is_none : ((j : ℕ) → j < n → takes (p + step * j) ≡ false) → least_of step takes p n ≡ None
   least_is_none h = all ∙ least_none n 0 (omega arith) h
 
-below_from : (n m : ℕ) → m < n → nat_le n m ≡ false
-below_from n m h = grind (arith, nat_tests)
-
-at_from : (n m : ℕ) → n ≤ m → nat_le n m ≡ true
-at_from n m h = grind (arith, nat_tests)
-
-no_both : (u v : Bool) → v ≡ false → (u && v) ≡ false
-no_both true v h = h
-no_both false v h = refl
-
 -- The least from a number on, where `start` is the first place that isn't below it.
 module _ (step : ℕ) (free : ℕ → Bool) (p n from start : ℕ) (early : (j : ℕ) → j < start → p + step * j < from) (late : (j : ℕ) → start ≤ j → from ≤ p + step * j) where
   unfit : (j : ℕ) → (start ≤ j → free (p + step * j) ≡ false) → from_on from free (p + step * j) ≡ false
   unfit j none =
       elim (cases_lt j start) [
-        | inl below ↦ ap (λ u. u && free (p + step * j)) (below_from from (p + step * j) (early j below))
-        | inr after ↦ no_both _ _ (none after)
+        | inl below ↦ ap (λ u. u && free (p + step * j)) (lt-leb from (p + step * j) (early j below))
+        | inr after ↦ and_right _ _ (none after)
       ]
 
   from_found : (k : ℕ) → k < n → start ≤ k → free (p + step * k) ≡ true → ((j : ℕ) → start ≤ j → j < k → free (p + step * j) ≡ false)
       → least_of step (from_on from free) p n ≡ Some (p + step * k)
   from_found k lt after is before =
       least_is step (from_on from free) p n k lt (λ j below. unfit j (λ after. before j after below))
-      (ap (λ u. u && free (p + step * k)) (at_from from (p + step * k) (late k after)) ∙ is)
+      (ap (λ u. u && free (p + step * k)) (le-leb from (p + step * k) (late k after)) ∙ is)
 
   from_missing : ((j : ℕ) → start ≤ j → j < n → free (p + step * j) ≡ false) → least_of step (from_on from free) p n ≡ None
   from_missing none = least_is_none step (from_on from free) p n (λ j lt. unfit j (λ after. none j after lt))

@@ -1,8 +1,7 @@
 -- Ports and pairs as bits.
 use Rattle.std.proofs.Common.{◌≡◌, ◌≢◌, ◌==◌, ℕ, ◌+◌, ◌-◌, ◌*◌, ◌/◌, ◌%◌, ◌<◌, ◌≤◌, Bool, true, false, ◌&&◌, ◌||◌, not, cond, List, refl, sym, ◌∙◌, ap, inl, inr, arith}
 use Rattle.std.specs.Prelude.{IsTrue}
-use Rattle.std.proofs.lemmas.Bool.{cases_eq, cases_lt}
-use Rattle.std.proofs.lemmas.Bool.Decides.{nat_tests}
+use Rattle.std.proofs.lemmas.Bool.{eq-eqb, ne_eqb, cases_eq, cases_lt, and_right}
 use Rattle.rtsp_record.specs.declared.holdings.Thing.TheVariants.{Pair}
 use Rattle.rtsp_record.specs.Rules.{InWhole}
 use Rattle.rtsp_pools.specs.declared.pair_pool.PairPool.{PairPool}
@@ -59,12 +58,6 @@ module _ {free more : List ℕ} (k : ℕ) {t : Bool} (pair : IsPut k t free more
             pair.others j apart ∙ was j ∙ sym (λ u. one u && two u)
       ]
 
-on : (q p : ℕ) → q ≡ p → (q == p) ≡ true
-on q p h = grind (arith, nat_tests)
-
-off : (q p : ℕ) → q ≢ p → (q == p) ≡ false
-off q p h = grind (arith, nat_tests)
-
 -- One number is put in or taken out.
 module _ {old new : List ℕ} {i : ℕ} {t : Bool} (port : IsPut i t old new) where
   pub port_paired : {free more : List ℕ} {s : Bool} → IsPut (i / 2) s free more → s ≡ (has new (2 * (i / 2)) && has new (2 * (i / 2) + 1)) → ArePairsOf old free → ArePairsOf new more
@@ -77,12 +70,8 @@ module _ {old new : List ℕ} {i : ℕ} {t : Bool} (port : IsPut i t old new) wh
         | inl first ↦ sym (ap (λ u. u && has new (2 * (i / 2) + 1)) (ap (has new) (sym first) ∙ port.here ∙ none))
         | inr apart ↦
             let second : 2 * (i / 2) + 1 ≡ i = omega (arith, apart) in
-            sym (ap (λ u. has new (2 * (i / 2)) && u) (ap (has new) second ∙ port.here ∙ none) ∙ and_false (has new (2 * (i / 2))))
+            sym (ap (λ u. has new (2 * (i / 2)) && u) (ap (has new) second ∙ port.here ∙ none) ∙ and_right (has new (2 * (i / 2))) false refl)
       ]
-    where
-      and_false : (u : Bool) → (u && false) ≡ false
-      and_false true = refl
-      and_false false = refl
 
   -- what the ports say, counted from the first
   pub port_put : (first p q : ℕ) → p ≡ first + i → first ≤ q → has new (q - first) ≡ cond (q == p) t (has old (q - first))
@@ -90,8 +79,8 @@ module _ {old new : List ℕ} {i : ℕ} {t : Bool} (port : IsPut i t old new) wh
       elim (cases_eq q p) [
         | inl same ↦
             let place : q - first ≡ i = omega (arith, same, at) in
-            ap (has new) place ∙ port.here ∙ sym (ap (λ u. cond u t (has old (q - first))) (on q p same))
-        | inr apart ↦ port.others (q - first) (λ e. apart (omega (arith, e, at, from))) ∙ sym (ap (λ u. cond u t (has old (q - first))) (off q p apart))
+            ap (has new) place ∙ port.here ∙ sym (ap (λ u. cond u t (has old (q - first))) (eq-eqb q p same))
+        | inr apart ↦ port.others (q - first) (λ e. apart (omega (arith, e, at, from))) ∙ sym (ap (λ u. cond u t (has old (q - first))) (ne_eqb q p apart))
       ]
 
 -- Both numbers of a pair are put in or taken out.

@@ -5,37 +5,29 @@ use Rattle.std.specs.FinMap.{get}
 use Rattle.rtsp_record.specs.declared.holdings.Thing.{Thing}
 use Rattle.rtsp_record.specs.declared.holdings.Thing.TheVariants.{Rate}
 use Rattle.rtsp_record.specs.declared.changes.Record.{Record}
-use Rattle.rtsp_record.specs.declared.changes.Record.TheVariants.{Open, Close, Hold, Free, Add, Drop, Move, Touch, Bind, Unbind}
+use Rattle.rtsp_record.specs.declared.changes.Record.TheVariants.{Open, Close, Hold, Free, Add, Drop, Move, Touch, Bind}
 use Rattle.rtsp_record.specs.Records.{inverse_of, session_of}
 use Rattle.rtsp_record.specs.declared.holdings.Admission.{Admission}
 use Rattle.rtsp_record.specs.Books.{Session, Book, opening, opened, holding, freed, streaming, under, with_under, effect, after}
 use Rattle.rtsp_record.specs.Sums.{Measure, if_there, of_admission, of_session, amount}
-use Rattle.rtsp_record.specs.Rules.{alike, Own}
+use Rattle.rtsp_record.specs.Rules.{as_rate, alike, Own}
 use Rattle.rtsp_record.proofs.Tables.{weigh, total-set, total-empty}
 use Rattle.rtsp_record.proofs.Rows.{total-under}
 
 -- what a record brings to a sum
 abbrev pub gain : Measure → Record → ℕ
 gain m (Open k) = m.life k.id + m.phase opening
-gain m (Close k) = 0
 gain m (Hold k) = m.thing k.thing
-gain m (Free k) = 0
 gain m (Add k) = m.stream k.stream
-gain m (Drop k) = 0
 gain m (Move k) = m.phase k.to
-gain m (Touch k) = 0
 gain m (Bind k) = m.binding (k.conn, k.number)
-gain m (Unbind k) = 0
-
-abbrev pub rate_there : Option ℕ → Option Thing
-rate_there None = None
-rate_there (Some n) = Some (Rate n)
+gain m r = 0
 
 pub rate_none : (d : Admission) (n : ℕ) → alike (Rate n) d ≡ None → d.rate ≡ None
-rate_none d n h = elim (d.rate) as (λ o. rate_there o ≡ None → o ≡ None) [ None ↦ λ _. refl | Some m ↦ λ e. absurd cc ] h
+rate_none d n h = elim (d.rate) as (λ o. as_rate o ≡ None → o ≡ None) [ None ↦ λ _. refl | Some m ↦ λ e. absurd cc ] h
 
 pub rate_some : (d : Admission) (n m : ℕ) → alike (Rate n) d ≡ Some (Rate m) → d.rate ≡ Some m
-rate_some d n m h = elim (d.rate) as (λ o. rate_there o ≡ Some (Rate m) → o ≡ Some m) [ None ↦ λ e. absurd cc | Some k ↦ λ e. cc ] h
+rate_some d n m h = elim (d.rate) as (λ o. as_rate o ≡ Some (Rate m) → o ≡ Some m) [ None ↦ λ e. absurd cc | Some k ↦ λ e. cc ] h
 
 pub hold_more : (m : Measure) (x : Thing) (d : Admission) → alike x d ≡ None → of_admission m (holding x d) ≡ of_admission m d + m.thing x
 hold_more m (Rate n) d h = omega (arith, ap (if_there (λ n. m.thing (Rate n))) (rate_none d n h))

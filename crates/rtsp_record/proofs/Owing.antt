@@ -2,7 +2,7 @@
 use Rattle.std.proofs.Common.{◌≡◌, ◌+◌, ◌≤◌, not, refl, arith}
 use Rattle.rtsp_record.specs.declared.holdings.Whole.{Whole}
 use Rattle.rtsp_record.specs.declared.changes.Record.{Record}
-use Rattle.rtsp_record.specs.declared.changes.Record.TheVariants.{Open, Close, Hold, Free, Add, Drop, Move, Touch, Bind, Unbind}
+use Rattle.rtsp_record.specs.declared.changes.Record.TheVariants.{Open, Hold, Add, Move, Bind}
 use Rattle.rtsp_record.specs.Records.{inverse_of}
 use Rattle.rtsp_record.specs.Books.{Book, after}
 use Rattle.rtsp_record.specs.Sums.{is_opening, returns, owed, newly_owed}
@@ -12,15 +12,7 @@ use Rattle.rtsp_record.proofs.Sound.{at_most_one}
 
 gain_newly : (r : Record) → gain returns r ≡ newly_owed r
 gain_newly (Open k) = refl
-gain_newly (Close k) = refl
-gain_newly (Hold k) = refl
-gain_newly (Free k) = refl
-gain_newly (Add k) = refl
-gain_newly (Drop k) = refl
-gain_newly (Move k) = refl
-gain_newly (Touch k) = refl
-gain_newly (Bind k) = refl
-gain_newly (Unbind k) = refl
+gain_newly r = refl
 
 pub newly_one : (r : Record) → newly_owed r ≤ 1
 newly_one (Open k) = omega arith

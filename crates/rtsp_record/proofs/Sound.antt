@@ -1,7 +1,7 @@
 -- What is true of the book of every legal journal.
-use Rattle.std.proofs.Common.{◌≡◌, ◌==◌, ℕ, ◌+◌, ◌<◌, ◌≤◌, Bool, true, false, ◌&&◌, ◌||◌, not, cond, List, [], ◌∷◌, refl, sym, ◌∙◌, ap, subst, arith}
+use Rattle.std.proofs.Common.{◌≡◌, ◌==◌, ℕ, ◌+◌, ◌<◌, ◌≤◌, Bool, true, false, ◌&&◌, not, cond, List, [], ◌∷◌, refl, sym, ◌∙◌, ap, subst, arith}
 use Rattle.std.specs.Prelude.{Option, Some, None, IsSome, is_some}
-use Rattle.std.proofs.lemmas.Bool.{and_parts}
+use Rattle.std.proofs.lemmas.Bool.{and_parts, or_left, or_right}
 use Rattle.std.proofs.lemmas.Bool.Decides.{Decides-eqb, nat_tests}
 use Rattle.std.proofs.lemmas.Option.{none-some}
 use Rattle.std.specs.FinMap.{get, empty}
@@ -13,18 +13,18 @@ use Rattle.rtsp_record.specs.declared.streams.Stream.{Stream}
 use Rattle.rtsp_record.specs.declared.holdings.Whole.{Whole}
 use Rattle.rtsp_record.specs.declared.changes.Entry.{Entry}
 use Rattle.rtsp_record.specs.declared.changes.Record.{Record}
-use Rattle.rtsp_record.specs.declared.changes.Record.TheVariants.{Open, Close, Hold, Free, Add, Drop, Move, Touch, Bind, Unbind}
+use Rattle.rtsp_record.specs.declared.changes.Record.TheVariants.{Open, Close, Hold, Free, Add, Drop, Move, Bind}
 use Rattle.rtsp_record.specs.declared.payloads.Holding.{Holding}
 use Rattle.rtsp_record.specs.declared.payloads.Setup.{Setup}
 use Rattle.rtsp_record.specs.Records.{session_of}
 use Rattle.rtsp_record.specs.declared.holdings.Admission.{Admission}
 use Rattle.rtsp_record.specs.Books.{Session, Book, bare, or_bare, kept, opened, holding, freed, streaming, under, with_under, effect, after, after_all, records_of, book_of}
 use Rattle.rtsp_record.specs.Sums.{Measure, if_there, of_admission, of_session, amount, one_if, sessions, with_id, bindings, rate_of, rates, Spot, covers, covering, streams, clash, clashing, is_holding, admissions_holding, others_holding}
-use Rattle.rtsp_record.specs.Rules.{IsReady, IsPlaying, alike, IsAddress, InWhole, FitsRate, Own, Others, Allowed, AllAllowed, IsLegal, HeldOnce}
+use Rattle.rtsp_record.specs.Rules.{IsReady, as_rate, IsPlaying, alike, IsAddress, InWhole, FitsRate, Own, Others, Allowed, AllAllowed, IsLegal, HeldOnce}
 use Rattle.rtsp_record.proofs.Tables.{weigh, at_key, get-set, get-none, total-set, total-empty}
 use Rattle.rtsp_record.specs.Sound.{SoundSession, SoundRow, Sound}
 use Rattle.rtsp_record.proofs.Rows.{at_under, normal-under, total-under}
-use Rattle.rtsp_record.proofs.Balance.{gain, row_balance, balance, rate_there}
+use Rattle.rtsp_record.proofs.Balance.{gain, row_balance, balance}
 
 pub at_most_one : (t : Bool) → one_if t ≤ 1
 at_most_one true = omega arith
@@ -73,17 +73,9 @@ free_proper : (w : Whole) (x : Thing) (d : Admission) → Proper w d → Proper 
 free_proper w (Rate n) d p y e = p y e
 free_proper w x d p y e = absurd (none-some y e)
 
-either : (a b : Bool) → a ≡ true → (a || b) ≡ true
-either true b h = refl
-either false b h = absurd cc
-
-or_other : (a b : Bool) → b ≡ true → (a || b) ≡ true
-or_other true b h = refl
-or_other false b h = h
-
 pub holds_some : (x : Thing) (d : Admission) → alike x d ≡ Some x → is_holding d ≡ true
-holds_some (Rate n) d h = either (is_some d.rate) (is_some d.address) (elim (d.rate) as (λ o. rate_there o ≡ Some (Rate n) → is_some o ≡ true) [ None ↦ λ e. absurd cc | Some m ↦ λ e. refl ] h)
-holds_some x d h = or_other (is_some d.rate) (is_some d.address) (ap is_some h)
+holds_some (Rate n) d h = or_left (is_some d.rate) (is_some d.address) (elim (d.rate) as (λ o. as_rate o ≡ Some (Rate n) → is_some o ≡ true) [ None ↦ λ e. absurd cc | Some m ↦ λ e. refl ] h)
+holds_some x d h = or_right (is_some d.rate) (is_some d.address) (ap is_some h)
 
 -- how many hold something, after a change under one admission
 pub holding-under : (f : Session) (a : ℕ) (d : Admission) → admissions_holding (with_under f a d) + one_if (is_holding (under f a)) ≡ admissions_holding f + one_if (is_holding d)
@@ -100,7 +92,7 @@ clash_symmetric : (v u : Stream) → clash v u ≡ clash u v
 clash_symmetric v u = grind (arith, nat_tests)
 
 pub clash_itself : (v : Stream) → clash v v ≡ true
-clash_itself v = either (v.track == v.track) (not (v.presentation == v.presentation)) (same_nat v.track)
+clash_itself v = or_left (v.track == v.track) (not (v.presentation == v.presentation)) (same_nat v.track)
 
 -- what stands under an admission is part of the session's sum
 pub stream_counts : (m : Measure) (f : Session) (a : ℕ) (v : Stream) → (under f a).stream ≡ Some v → m.stream v ≤ of_session m f

@@ -1,5 +1,6 @@
 -- What one change does to a table: to its rows and to every sum over them.
-use Rattle.std.proofs.Common.{◌≡◌, ◌≢◌, ℕ, ◌+◌, ◌≤◌, Bool, true, false, cond, List, [], ◌∷◌, length, refl, sym, ◌∙◌, ap, arith}
+use Rattle.std.proofs.Common.{◌≡◌, ◌≢◌, ℕ, ◌+◌, ◌≤◌, Bool, true, false, cond, List, [], ◌∷◌, refl, sym, ◌∙◌, ap, arith}
+use Rattle.std.proofs.lemmas.List.{nil_from_length}
 use Rattle.std.specs.Prelude.{Option, Some, None, sum_by, option_and_then}
 use Rattle.std.specs.Ordering.{nat_cmp, eq_by_cmp, is_eq}
 use Rattle.std.specs.Cmp.{nat_cmp_total, tied_itself}
@@ -29,10 +30,6 @@ at_key k q P there off =
       | true ↦ λ e. there e (nat_cmp-IsAntisymmetric q k (equal _ e))
       | false ↦ off
     ] refl
-
-nil : {A : Type 0} (es : List A) → length es ≡ 0 → es ≡ []
-nil [] e = refl
-nil (x ∷ es) e = absurd (omega arith)
 
 module _ {X : Type 0} where
   abbrev pub weigh : (ℕ × X → ℕ) → ℕ → Option X → ℕ
@@ -92,7 +89,7 @@ module _ {X : Type 0} where
       omega (arith, ap (total w) (set-twice b k None (Some y) ∙ ap (set b k) (sym is) ∙ set-same b k), total-new w (set b k None) k y (get-set_own b k None), ap (total w) (set-twice b k None (Some x)), total-new w (set b k None) k x (get-set_own b k None))
 
   pub no_entries : entries (empty {K = ℕ} {X = X} {R = nat_cmp}) ≡ []
-  no_entries = nil (entries empty) (sym (len-entries empty) ∙ len-empty nat_cmp X)
+  no_entries = nil_from_length (entries empty) (sym (len-entries empty) ∙ len-empty nat_cmp X)
 
   pub total-empty : (w : ℕ × X → ℕ) → total w empty ≡ 0
   total-empty w = ap (sum_by w) no_entries

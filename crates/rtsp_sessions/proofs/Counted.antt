@@ -1,7 +1,7 @@
 -- Look-ups as counts.
-use Rattle.std.proofs.Common.{◌≡◌, ◌==◌, ℕ, ◌<◌, Bool, true, false, cond, List, [], ◌∷◌, refl, sym, ◌∙◌, ap, arith}
+use Rattle.std.proofs.Common.{◌≡◌, ◌==◌, ℕ, Bool, true, false, cond, List, [], ◌∷◌, refl, sym, ◌∙◌, ap, arith}
 use Rattle.std.specs.Prelude.{Option, Some, None, is_some, nat_lt, sum_by, option_map}
-use Rattle.std.proofs.lemmas.Bool.Decides.{nat_tests}
+use Rattle.std.proofs.lemmas.Bool.{lt-ltb}
 use Rattle.std.proofs.lemmas.List.Sums.{sum_by-cons}
 use Rattle.std.specs.FinMap.{entries}
 use Rattle.rtsp_record.specs.Books.{Session, Book}
@@ -15,12 +15,9 @@ found_counted : (p : ℕ × Session → Bool) (w : ℕ × Session → ℕ) → (
 found_counted p w same [] = refl
 found_counted p w same (e ∷ es) =
     elim (p e) as (λ t. p e ≡ t → is_some (option_map (λ (e : ℕ × Session). e.0) (cond t (Some e) (first_with p es))) ≡ nat_lt 0 (sum_by w (e ∷ es))) [
-      | true ↦ λ is. sym (above (sum_by w (e ∷ es)) (omega (arith, sum_by-cons w e es, same e, ap one_if is)))
+      | true ↦ λ is. sym (lt-ltb 0 (sum_by w (e ∷ es)) (omega (arith, sum_by-cons w e es, same e, ap one_if is)))
       | false ↦ λ is. found_counted p w same es ∙ ap (nat_lt 0) (omega (arith, sum_by-cons w e es, same e, ap one_if is))
     ] refl
-  where
-    above : (n : ℕ) → 0 < n → nat_lt 0 n ≡ true
-    above n h = grind (arith, nat_tests)
 
 -- a session has the id where one with it is counted
 pub id_counted : (b : Book) (id : ℕ) → is_some (with_id_in id (entries b)) ≡ nat_lt 0 (amount (with_id id) b)

@@ -8,6 +8,7 @@ use Rattle.std.specs.Cmp.{nat_cmp_total, alike_right, eq_by_cmp_equiv}
 use Rattle.std.specs.declared.cmp.Ordering.TheVariants.{Less, Equal, Greater}
 use Rattle.std.specs.FinMap.{get, empty, entries, is_sorted, find, put, get-from_sorted, entries-from_sorted}
 use Rattle.std.specs.FinMap.Entries.{by_order, below_all, where_key, is_sorted-put, is_sorted-where_key, find-put, find-where_key}
+use Rattle.std.proofs.lemmas.Bool.{ltb-true, ltb-false}
 use Rattle.std.proofs.lemmas.Bool.Decides.{nat_tests}
 use Rattle.rtsp_record.specs.Tables.{set}
 use Rattle.rtsp_record.proofs.Tables.{tied, same_table, get-set, get-none}
@@ -67,15 +68,9 @@ module _ {X : Type 0} where
   no_greater : (es : List (ℕ × X)) (i j : ℕ) (d : ℕ × X) → T (is_sorted nat_cmp es) → i ≤ j → j < length es → (get_or es i d).0 ≤ (get_or es j d).0
   no_greater es i j d h le within =
       elim (nat_lt i j) as (λ t. nat_lt i j ≡ t → (get_or es i d).0 ≤ (get_or es j d).0) [
-        | true ↦ λ is. omega (arith, rise es i j d h (is_below i j is) within)
-        | false ↦ λ is. omega (arith, ap (λ n. (get_or es n d).0) (is_same i j le is))
+        | true ↦ λ is. omega (arith, rise es i j d h (ltb-true i j is) within)
+        | false ↦ λ is. let same : i ≡ j = omega (arith, le, ltb-false i j is) in omega (arith, ap (λ n. (get_or es n d).0) same)
       ] refl
-    where
-      is_below : (i j : ℕ) → nat_lt i j ≡ true → i < j
-      is_below i j h = grind (arith, nat_tests)
-
-      is_same : (i j : ℕ) → i ≤ j → nat_lt i j ≡ false → i ≡ j
-      is_same i j le h = grind (arith, nat_tests)
 
   -- the head of a list whose later row has the number is below it
   head_less : (k : ℕ) (e : ℕ × X) (es : List (ℕ × X)) (i : ℕ) → T (is_sorted nat_cmp (e ∷ es)) → Stands k (e ∷ es) (suc i) → e.0 < k

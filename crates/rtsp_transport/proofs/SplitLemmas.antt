@@ -2,7 +2,7 @@
 use Rattle.std.proofs.Common.{◌≡◌, ℕ, ◌+◌, ◌-◌, ◌<◌, ◌≤◌, Bool, true, false, cond, eqb, List, [], ◌∷◌, ◌++◌, length, get_or, take, drop, refl, sym, ap, ◌∙◌, append_assoc, arith, eq-eqb}
 use Rattle.std.specs.Prelude.{not, ◌&&◌}
 use Rattle.std.specs.Borrow.{Bor}
-use Rattle.std.proofs.lemmas.Bool.{eqb-true}
+use Rattle.std.proofs.lemmas.Bool.{ne_eqb}
 use Rattle.std.proofs.lemmas.List.{append-nil, drop_more, drop_all, take_more, get_or-drop, length-drop, map-append}
 use Rattle.rtsp_transport.specs.Split.{is_closed, onto_first, split}
 use Rattle.rtsp_text.specs.Slices.{texts}
@@ -107,12 +107,6 @@ pub cleared : (new : List (List ℕ)) (text : List ℕ) (start' i : ℕ) (inside
     → Splits new text (i + 1) (i + 1) false separator → (start' ≤ i + 1) × Splits new text start' (i + 1) inside' separator
 cleared new text start' i inside' separator s x h = (omega arith, rw (s, x) h)
 
-pub not_eqb : (a b : ℕ) → (a ≡ b → ⊥) → eqb a b ≡ false
-not_eqb a b ne = go (eqb a b) refl where
-  go : (x : Bool) → eqb a b ≡ x → eqb a b ≡ false
-  go true e = absurd (ne (eqb-true a b e))
-  go false e = e
-
 pub separates : (b separator : ℕ) (inside : Bool) → b ≡ separator → inside ≡ false → (eqb b separator && not inside) ≡ true
 separates b separator inside e n = rw (eq-eqb b separator e, n) refl
 
@@ -123,4 +117,4 @@ in_quotes b separator inside n = rw n (go (eqb b separator)) where
   go false = refl
 
 pub no_separator : (b separator : ℕ) (inside : Bool) → (b ≡ separator → ⊥) → (eqb b separator && not inside) ≡ false
-no_separator b separator inside ne = rw (not_eqb b separator ne) refl
+no_separator b separator inside ne = rw (ne_eqb b separator ne) refl

@@ -1,8 +1,7 @@
 -- What a test takes of some numbers, counted one after another from the least.
 use Rattle.std.proofs.Common.{◌≡◌, ℕ, ◌+◌, ◌*◌, ◌≤◌, ◌<◌, zero, suc, Bool, true, false, ◌&&◌, cond, refl, sym, ◌∙◌, ap, arith}
 use Rattle.std.specs.Prelude.{Some, None, nat_le}
-use Rattle.std.proofs.lemmas.Bool.{and_parts}
-use Rattle.std.proofs.lemmas.Bool.Decides.{nat_tests}
+use Rattle.std.proofs.lemmas.Bool.{leb-true, le-leb, lt-leb, and_parts}
 use Rattle.rtsp_record.specs.declared.holdings.Whole.{Whole}
 use Rattle.rtsp_record.specs.Sums.{one_if}
 use Rattle.rtsp_record.specs.Choices.{least_of, count_of, from_on, least_pair_by}
@@ -11,19 +10,10 @@ use Rattle.rtsp_undo.proofs.Pools.{count_same}
 
 -- from a number on, and before it
 on_from : (from q : ℕ) (takes : ℕ → Bool) → from ≤ q → from_on from takes q ≡ takes q
-on_from from q takes le = ap (λ t. t && takes q) (is_on from q le)
-  where
-    is_on : (from q : ℕ) → from ≤ q → nat_le from q ≡ true
-    is_on from q le = grind (arith, nat_tests)
+on_from from q takes le = ap (λ t. t && takes q) (le-leb from q le)
 
 off_before : (from q : ℕ) (takes : ℕ → Bool) → q < from → from_on from takes q ≡ false
-off_before from q takes lt = ap (λ t. t && takes q) (is_off from q lt)
-  where
-    is_off : (from q : ℕ) → q < from → nat_le from q ≡ false
-    is_off from q lt = grind (arith, nat_tests)
-
-is_from : (from q : ℕ) → nat_le from q ≡ true → from ≤ q
-is_from from q h = grind (arith, nat_tests)
+off_before from q takes lt = ap (λ t. t && takes q) (lt-leb from q lt)
 
 pub count_few : (step : ℕ) (takes : ℕ → Bool) (p n : ℕ) → count_of step takes p n ≤ n
 unfolding count_of
@@ -42,7 +32,7 @@ next_of takes from p (suc n) l is =
     elim (from_on from takes p) as (λ t. from_on from takes p ≡ t → cond t (Some p) (least_of 2 (from_on from takes) (p + 2) n) ≡ Some l → one_if (from_on from takes p) + count_of 2 (from_on from takes) (p + 2) n ≡ 1 + (one_if (from_on (l + 1) takes p) + count_of 2 (from_on (l + 1) takes) (p + 2) n)) [
       | true ↦ λ on e.
           let same : p ≡ l = cc in
-          let low : from ≤ p = is_from from p (and_parts (nat_le from p) (takes p) on).0 in
+          let low : from ≤ p = leb-true from p (and_parts (nat_le from p) (takes p) on).0 in
           let rest = count_same 2 (from_on from takes) (from_on (l + 1) takes) (p + 2) n (λ q le. on_from from q takes (omega (arith, low, le)) ∙ sym (on_from (l + 1) q takes (omega (arith, same, le)))) in
           omega (arith, ap one_if on, ap one_if (off_before (l + 1) p takes (omega (arith, same))), rest)
       | false ↦ λ off e.
@@ -80,4 +70,4 @@ pub record PairFrom (w : Whole) (from l : ℕ) : Type 0 where
 pub pair_from : (takes : ℕ → Bool) (w : Whole) (from l : ℕ) → least_pair_by takes w from ≡ Some l → PairFrom w from l
 pair_from takes w from l is =
     let found = pair_found takes w from l is in
-    record { low = is_from from l (and_parts (nat_le from l) (takes l) found.taken).0; high = omega (arith, found.at, found.within) }
+    record { low = leb-true from l (and_parts (nat_le from l) (takes l) found.taken).0; high = omega (arith, found.at, found.within) }

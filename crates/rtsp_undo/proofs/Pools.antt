@@ -1,6 +1,6 @@
 -- The covered ports and the free ones are all ports of the whole.
 use Rattle.std.proofs.Common.{◌≡◌, ◌==◌, ℕ, ◌+◌, ◌*◌, ◌<◌, ◌≤◌, zero, suc, Bool, true, false, ◌||◌, List, [], ◌∷◌, refl, sym, ◌∙◌, ap, arith}
-use Rattle.std.proofs.lemmas.Bool.{eq-eqb, ne_eqb}
+use Rattle.std.proofs.lemmas.Bool.{eq-eqb, ne_eqb, or_right}
 use Rattle.std.proofs.lemmas.Bool.Decides.{nat_tests}
 use Rattle.std.specs.Prelude.{Option, Some, None, sum_by}
 use Rattle.std.proofs.lemmas.List.Sums.{sum_by-cons}
@@ -91,16 +91,12 @@ counted_hold w b s a (Pair x) h =
     let place = h.1.in_whole in
     let i = place.0 in
     let first : held_at b x ≡ 0 = h.1.free (UdpPort x) (ap (λ t. t || x == x + 1) (same_nat x)) in
-    let second : held_at b (x + 1) ≡ 0 = h.1.free (UdpPort (x + 1)) (one_of (x + 1 == x) (x + 1 == x + 1) (same_nat (x + 1))) in
+    let second : held_at b (x + 1) ≡ 0 = h.1.free (UdpPort (x + 1)) (or_right (x + 1 == x) (x + 1 == x + 1) (same_nat (x + 1))) in
     let middle : ℕ → ℕ = λ q. held_at b q + one_if (q == x) in
     let more : (q : ℕ) → held_at c q ≡ middle q + one_if (q == x + 1) = λ q. omega (arith, balance (covering (UdpPort q)) b (holds s a (Pair x)) h.0, two_ports q x) in
     let one = free_less (held_at b) middle w.first_port (2 * w.pairs) (2 * i) x (omega (arith, place.1)) place.2 (λ q. refl) first in
     let two = free_less middle (held_at c) w.first_port (2 * w.pairs) (2 * i + 1) (x + 1) (omega (arith, place.1)) (omega (arith, place.2)) more (omega (arith, second, ap one_if (ne_eqb (x + 1) x (λ e. omega (arith, e))))) in
     omega (arith, balance ports b (holds s a (Pair x)) h.0, one, two)
-  where
-    one_of : (t u : Bool) → u ≡ true → (t || u) ≡ true
-    one_of true u h = refl
-    one_of false u h = h
 counted_hold w b s a x h =
     counted_same w b (after b (holds s a x)) (omega (arith, balance ports b (holds s a x) h.0)) (λ q. omega (arith, balance (covering (UdpPort q)) b (holds s a x) h.0))
 

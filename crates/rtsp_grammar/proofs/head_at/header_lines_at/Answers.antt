@@ -1,5 +1,4 @@
 use Rattle.std.proofs.Common.{List, ℕ, ◌++◌, ◌∷◌, [], length, refl, sym, ap, ◌∙◌, arith}
-use Rattle.std.proofs.lemmas.List.{length-append}
 use Rattle.rtsp_grammar.proofs.FoldLemmas.{folded_none, count_plain, count_fold}
 use Rattle.rtsp_grammar.proofs.ItemLemmas.{not_empty}
 use Rattle.rtsp_grammar.proofs.LinesLemmas.{one_line_more, rest_within}

@@ -1,4 +1,4 @@
-use Rattle.std.proofs.Common.{List, ℕ, inr, sym, ap, ◌∙◌, arith, Ok}
+use Rattle.std.proofs.Common.{inr, sym, ap, ◌∙◌, arith, Ok}
 use Rattle.std.proofs.lemmas.Bool.{eqb-true}
 use Rattle.std.proofs.lemmas.Result.{err_from_is_err_and}
 use Rattle.rtsp_grammar.proofs.FoldLemmas.{too_many}

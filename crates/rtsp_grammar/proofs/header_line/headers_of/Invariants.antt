@@ -1,4 +1,4 @@
-use Rattle.std.proofs.Common.{◌≡◌, List, ℕ, length}
+use Rattle.std.proofs.Common.{List, ℕ, length}
 use Rattle.rtsp_grammar.specs.Lines.{AreLines}
 use Rattle.rtsp_grammar.proofs.HeaderLemmas.{IsReading}
 use Rattle.rtsp_grammar.proofs.header_line.headers_of.Given as goal

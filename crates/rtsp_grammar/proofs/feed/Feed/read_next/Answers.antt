@@ -1,4 +1,4 @@
-use Rattle.std.proofs.Common.{ap, sym, ◌∙◌, List, ℕ}
+use Rattle.std.proofs.Common.{ap, ◌∙◌}
 use Rattle.rtsp_grammar.specs.Stream.{Feeding}
 use Rattle.rtsp_grammar.proofs.FeedLemmas.{fault_takes}
 use Rattle.rtsp_grammar.proofs.feed.Feed.read_next.Goals as goal

@@ -8,13 +8,13 @@ pub bind-requires-clause-few : goal.bind-requires-clause-few
 bind-requires-clause-few c =
     let q = c.requires.follows in
     let conn = c.in-Bind.binding.conn in
-    omega (arith, q.4 conn, bound_small q.0 q.2 c.args.change.now conn q.3 q.1)
+    omega (arith, q.holds conn, bound_small q.whole q.book c.args.change.now conn q.follows q.small)
 
 pub unbind-requires : goal.unbind-requires
 unbind-requires c =
     let q = c.requires.follows in
     let conn = c.in-Unbind.binding.conn in
-    omega (arith, q.4 conn, unbound_by q.0 q.2 c.args.change.now c.in-Unbind.binding c.in-Unbind.is q.3 conn, ap one_if (same_nat conn))
+    omega (arith, q.holds conn, unbound_by q.whole q.book c.args.change.now c.in-Unbind.binding c.in-Unbind.is q.follows conn, ap one_if (same_nat conn))
 
 pub returns-in-Bind-clause-follows : goal.returns-in-Bind-clause-follows
 returns-in-Bind-clause-follows c w b f ok d = omega (arith, c.bind.ensures.bound d, ok d, bound_by w b c.args.change.now c.in-Bind.binding c.in-Bind.is f d)

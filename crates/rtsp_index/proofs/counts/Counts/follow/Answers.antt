@@ -8,27 +8,27 @@ use Rattle.rtsp_index.proofs.counts.Counts.follow.Goals as goal
 pub overflow_add-self : goal.overflow_add-self
 overflow_add-self c =
     let q = c.requires.follows in
-    omega (arith, c.opens.ensures.small, q.4.living, living_small q.0 q.2 c.args.change.now q.3 q.1)
+    omega (arith, c.opens.ensures.small, q.holds.living, living_small q.whole q.book c.args.change.now q.follows q.small)
 
 pub overflow_sub-self : goal.overflow_sub-self
 overflow_sub-self c =
     let q = c.requires.follows in
-    omega (arith, c.opens.ensures.value, c.opens-2.ensures.value, ap (λ r. one_if (is_open r)) c.inverse-back.ensures, q.4.living, living_after q.0 q.2 c.args.change.now q.3)
+    omega (arith, c.opens.ensures.value, c.opens-2.ensures.value, ap (λ r. one_if (is_open r)) c.inverse-back.ensures, q.holds.living, living_after q.whole q.book c.args.change.now q.follows)
 
 pub overflow_add-self-2 : goal.overflow_add-self-2
 overflow_add-self-2 c =
     let q = c.requires.follows in
-    omega (arith, c.newly_owed.ensures.one, q.4.owed, owed_small q.0 q.2 c.args.change.now q.3 q.1)
+    omega (arith, c.newly_owed.ensures.one, q.holds.owed, owed_small q.whole q.book c.args.change.now q.follows q.small)
 
 pub overflow_sub-self-2 : goal.overflow_sub-self-2
 overflow_sub-self-2 c =
     let q = c.requires.follows in
-    omega (arith, c.newly_owed.ensures.value, c.newly_owed-2.ensures.value, ap newly_owed c.inverse-back.ensures, q.4.owed, one_owed q.0 q.2 c.args.change.now q.3.allowed)
+    omega (arith, c.newly_owed.ensures.value, c.newly_owed-2.ensures.value, ap newly_owed c.inverse-back.ensures, q.holds.owed, one_owed q.whole q.book c.args.change.now q.follows.allowed)
 
 pub follow-requires-clause-follows : goal.follow-requires-clause-follows
 follow-requires-clause-follows c =
     let q = c.requires.follows in
-    (q.0, q.1, q.2, q.3, q.4.bindings)
+    record { whole = q.whole; small = q.small; book = q.book; follows = q.follows; holds = q.holds.bindings }
 
 pub returns-clause-follows : goal.returns-clause-follows
 returns-clause-follows c w b f ok =

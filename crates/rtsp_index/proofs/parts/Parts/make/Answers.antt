@@ -11,7 +11,13 @@ follow-requires-clause-follows c =
 pub follow-requires-3-clause-follows : goal.follow-requires-3-clause-follows
 follow-requires-3-clause-follows c =
     let p = c.args.self.now in
-    (p.whole, c.requires.agree.small, book_in p, follows p.whole (book_in p) p.pools p.names p.counts c.args.change.now c.requires.agree c.requires.allowed, c.requires.agree.counts)
+    record {
+      whole = p.whole;
+      small = c.requires.agree.small;
+      book = book_in p;
+      follows = follows p.whole (book_in p) p.pools p.names p.counts c.args.change.now c.requires.agree c.requires.allowed;
+      holds = c.requires.agree.counts;
+    }
 
 pub make-requires-clause-fits : goal.make-requires-clause-fits
 make-requires-clause-fits c =

@@ -12,4 +12,4 @@ returns c =
     let p = passes c.args.search.now in
     least_number b p c.loop-index.least c.loop-index.invariant.found (λ s h.
     let entry = has_entry t.places.entries t.rows s h.0 h.1 in
-    subst (AtMost c.loop-index.least) entry.3 (c.loop-index.invariant.least entry.0 entry.1 (omega (arith, entry.4, c.len-index-end.ensures.len)) entry.2 (subst (Passes p b) (sym entry.3) h)))
+    subst (AtMost c.loop-index.least) entry.number (c.loop-index.invariant.least entry.index entry.entry (omega (arith, entry.within, c.len-index-end.ensures.len)) entry.stands (subst (Passes p b) (sym entry.number) h)))

@@ -1,12 +1,13 @@
 use Rattle.std.proofs.Common.{sym, ap, ◌∙◌}
 use Rattle.std.specs.Prelude.{nat_le, option_copied}
+use Rattle.std.proofs.lemmas.Option.{same_Some}
 use Rattle.slab.specs.Slab.{get as row_in}
 use Rattle.rtsp_record.specs.Books.{Session}
 use Rattle.std.specs.FinMap.{get}
 use Rattle.rtsp_sessions.specs.Searches.{is_on}
 use Rattle.rtsp_index.specs.Contents.{sessions_in}
 use Rattle.rtsp_index.specs.Searching.{passes}
-use Rattle.rtsp_index.proofs.TableLemmas.{lives, same_session, same_row_of, row_is, none_is}
+use Rattle.rtsp_index.proofs.TableLemmas.{lives, same_session, row_is, none_is}
 use Rattle.rtsp_index.proofs.table.SessionTable.takes.Goals as goal
 
 pub at-requires : goal.at-requires
@@ -33,5 +34,5 @@ returns-in-Some c f at =
     let t = c.args.self.now in
     let there = lives t.places.entries t.rows c.args.session c.args.place t.placed c.requires in
     let same = same_session (get (sessions_in t) c.args.session) there.0 f there.1 at in
-    let row = same_row_of c.in-Some.view.now (c.args.session, there.0) (c.in-Some.ensures ∙ there.2) in
+    let row = same_Some c.in-Some.view.now (c.args.session, there.0) (c.in-Some.ensures ∙ there.2) in
     c.is_on.ensures ∙ ap (is_on c.in-OnConn.conn) (row ∙ (λ t. (c.args.session, same t))) ∙ ap (λ s. passes s (c.args.session, f)) (sym c.in-OnConn.is)
