@@ -10,3 +10,5 @@ pub mod Owing
 pub mod Replying
 pub mod Keeping
 pub mod LeavingOut
+pub mod Restating
+pub mod Noting

@@ -12,6 +12,7 @@
 #![tactic(auto)]
 
 mod asks;
+mod condensing;
 mod forgetting;
 mod kept;
 mod laws;
@@ -23,7 +24,7 @@ mod steps;
 
 pub use asks::{Admitted, Ask, Opening, Wanted};
 pub use kept::{Kept, NumbersSpent};
-pub use laws::{law_giving_back, law_granted};
+pub use laws::{law_condensed, law_condensed_by_ends, law_giving_back, law_granted, law_snapshot};
 pub use receipts::{FreedPorts, Receipt};
 pub use refusals::Refusal;
 pub use rtsp_record::Life;

@@ -1,5 +1,5 @@
 -- What the calls of a seat promise. Each tells the journal that it found.
-use Rattle.std.specs.Prelude.{◌≡◌, ◌≢◌, ℕ, ◌+◌, ◌≤◌, List, [], ◌∷◌, ◌++◌, length, Result}
+use Rattle.std.specs.Prelude.{◌≡◌, ◌≢◌, ℕ, ◌+◌, ◌-◌, ◌≤◌, List, [], ◌∷◌, ◌++◌, length, Result}
 use Rattle.rtsp_record.specs.declared.changes.Entry.{Entry}
 use Rattle.rtsp_record.specs.declared.changes.Record.{Record}
 use Rattle.rtsp_record.specs.Books.{book_of}
@@ -9,11 +9,12 @@ use Rattle.rtsp_book.specs.declared.steps.Step.{Step}
 use Rattle.rtsp_book.specs.declared.refusals.Refusal.{Refusal}
 use Rattle.rtsp_book.specs.Answers.{Answers, written}
 use Rattle.rtsp_book.specs.Kept.{History, history, entries_by, forgotten}
+use Rattle.rtsp_book.specs.Checkpoints.{checkpointed}
 use Rattle.rtsp_lock.specs.declared.view.View.{View}
 use Rattle.rtsp_lock.specs.declared.lock.BookLock.{BookLock}
 use Rattle.rtsp_lock.specs.declared.seat.BookSeat.{BookSeat}
-use Rattle.rtsp_lock.specs.Entries.{entries_of, Later, LeftOf, Has}
-use Rattle.rtsp_lock.specs.Steps.{holding}
+use Rattle.rtsp_lock.specs.Entries.{entries_of, LeftOf, Has}
+use Rattle.rtsp_lock.specs.Steps.{Heard, holding, numbers}
 
 -- what a seat knows
 abbrev pub seat_view : BookSeat → View
@@ -31,7 +32,6 @@ SameSeat s t = (t.seat.table_id ≡ s.seat.table_id) × (t.seat.id ≡ s.seat.id
 pub record Found (v : View) (j : List Entry) (r : ℕ) : Type 0 where
   pub legal : IsLegal v.whole j
   pub limit : length j + owed (book_of j) ≤ v.whole.journal
-  pub later : Later v.seen_rounds v.seen r j
   pub mine : LeftOf v.mine (entries_of v.actor j)
 
 -- the seat is the same actor's, of the same whole, and its next number is no lower; what it has now seen is such a journal too
@@ -40,6 +40,7 @@ pub record Stays (v v' : View) : Type 0 where
   pub actor : v'.actor ≡ v.actor
   pub next : v.next ≤ v'.next
   pub stands : Found v' v'.seen v'.seen_rounds
+  pub heard : Heard v' v'.story v'.seen
 
 -- a step was answered after the journal found, and its records stand behind it as the seat's own
 pub record Acted (v v' : View) (step : Step) (answer : Result (List Record) Refusal) : Type 0 where
@@ -47,6 +48,9 @@ pub record Acted (v v' : View) (step : Step) (answer : Result (List Record) Refu
   pub found : Found v journal v'.seen_rounds
   pub answers : Answers v.whole journal step answer
   pub seen : v'.seen ≡ journal ++ entries_by v.actor (written answer)
+  pub story : List Entry
+  pub heard : Heard v story journal
+  pub goes_on : v'.story ≡ story ++ entries_by v.actor (written answer)
   pub mine : v'.mine ≡ v.mine ++ entries_by v.actor (written answer)
   pub drawn : v'.drawn ≡ v.drawn
   pub stays : Stays v v'
@@ -56,6 +60,7 @@ pub record Looked (v v' : View) : Type 0 where
   pub journal : List Entry
   pub found : Found v journal v'.seen_rounds
   pub seen : v'.seen ≡ journal
+  pub heard : Heard v v'.story journal
   pub mine : v'.mine ≡ v.mine
   pub stays : Stays v v'
 
@@ -76,9 +81,11 @@ pub record Made (v v' u : View) : Type 0 where
   pub same_next : u.next ≡ v'.next
   pub seen : u.seen ≡ v'.seen
   pub rounds : u.seen_rounds ≡ v'.seen_rounds
+  pub story : u.story ≡ v'.story
   pub mine : u.mine ≡ []
   pub drawn : u.drawn ≡ []
   pub stands : Found u u.seen u.seen_rounds
+  pub heard : Heard u u.story u.seen
 
 -- ended sessions were forgotten in the journal found, and what is left was seen
 pub record Forgot (v v' : View) : Type 0 where
@@ -86,12 +93,27 @@ pub record Forgot (v v' : View) : Type 0 where
   pub rounds : ℕ
   pub found : Found v journal rounds
   pub forgets : history v'.whole v'.seen v'.next v'.seen_rounds ≡ forgotten (history v.whole journal v'.next rounds)
+  pub heard : Heard v v'.story journal
   pub mine : v'.mine ≡ v.mine
   pub drawn : v'.drawn ≡ v.drawn
+  pub stays : Stays v v'
+
+-- a checkpoint was made in the journal found, under the number found, and what it left was seen
+pub record Checked (v v' : View) : Type 0 where
+  pub journal : List Entry
+  pub number : ℕ
+  pub rounds : ℕ
+  pub found : Found v journal rounds
+  pub up : v.next ≤ number
+  pub heard : Heard v v'.story journal
+  pub makes : history v'.whole v'.seen v'.next v'.seen_rounds ≡ checkpointed (history v.whole journal number rounds)
+  pub mine : v'.mine ≡ v.mine
+  pub drawn : v'.drawn ≡ v.drawn ++ numbers number (v'.next - number)
   pub stays : Stays v v'
 
 -- the book was taken out with the journal found, and the seat holds the lock for good
 pub record Finished (v v' : View) (h : History) : Type 0 where
   pub found : Found v h.journal h.rounds
   pub whole : h.whole ≡ v.whole
-  pub holds : v' ≡ holding v h.journal h.next h.rounds
+  pub heard : Heard v v'.story h.journal
+  pub holds : v' ≡ holding v v'.story h.journal h.next h.rounds
