@@ -1,5 +1,6 @@
 -- What a call promises, from what it found and what it put back.
-use Rattle.std.proofs.Common.{◌≡◌, ◌≢◌, ℕ, ◌+◌, ◌-◌, ◌≤◌, ◌<◌, ⊎_elim, inl, inr, List, [], ◌∷◌, ◌++◌, length, drop, ap, sym, ◌∙◌, subst, arith, append-nil, le_refl, refl, Option, Result, Ok, Err, IfOk, OnErr}
+use mathlib.Core.List.{IsPrefix}
+use Rattle.std.proofs.Common.{◌≡◌, ◌≢◌, true, ℕ, ◌+◌, ◌-◌, ◌≤◌, ◌<◌, ⊎_elim, inl, inr, List, [], ◌∷◌, ◌++◌, length, drop, ap, sym, ◌∙◌, subst, arith, append-nil, le_refl, refl, Option, Result, Ok, Err, IfOk, OnErr}
 use Rattle.std.proofs.Math.Seq.{drop-append_seam}
 use Rattle.std.proofs.Math.ListN.{drop_of_length-le}
 use Rattle.atomic_table.specs.Table.{Me}
@@ -9,9 +10,7 @@ use Rattle.rtsp_record.specs.declared.changes.Record.{Record}
 use Rattle.rtsp_record.specs.Books.{book_of}
 use Rattle.rtsp_record.specs.Sums.{owed, returns}
 use Rattle.rtsp_record.proofs.Sound.{amount-empty}
-use Rattle.std.specs.FinMap.{get, empty}
-use Rattle.std.specs.Prelude.{Bool, filter}
-use Rattle.rtsp_record.specs.Records.{session_of}
+use Rattle.std.specs.FinMap.{empty}
 use Rattle.rtsp_record.specs.Rules.{IsLegal}
 use Rattle.rtsp_record.specs.Journals.{less_ended}
 use Rattle.rtsp_book.specs.declared.steps.Step.{Step}
@@ -20,16 +19,14 @@ use Rattle.rtsp_book.specs.declared.kept.NumbersSpent.{NumbersSpent}
 use Rattle.rtsp_book.specs.Kept.{History, history, entries_by, extended, shortened, forgotten}
 use Rattle.rtsp_book.proofs.LeavingOut.{either_way}
 use Rattle.rtsp_book.specs.Answers.{Answers, written, noted_by}
-use Rattle.rtsp_book.specs.Checkpoints.{is_settled, is_other, snapshot, condensed, anew, checkpointed}
-use Rattle.rtsp_book.proofs.Restating.{condensed_is, either_checked}
 use Rattle.rtsp_lock.specs.declared.view.View.{View}
-use Rattle.rtsp_lock.specs.Entries.{entries_of, OnlyOf, LeftOf, Tells}
+use Rattle.rtsp_lock.specs.Entries.{entries_of, OnlyOf, Later, LeftOf, IsHistoryOf}
 use Rattle.rtsp_lock.specs.Rule.{Fits, Leaves, first_view}
-use Rattle.rtsp_lock.specs.Steps.{Heard, holding, noting, settled, parent, child, numbers}
-use Rattle.rtsp_lock.specs.Calls.{Found, Stays, Acted, Looked, Drew, Made, Forgot, Checked}
-use Rattle.rtsp_lock.proofs.Entries.{nothing_left, prefix_self, left_own, left_other, left_kept, left_ended, left_none, only_by}
+use Rattle.rtsp_lock.specs.Steps.{Follows, holding, noting, settled, parent, child, numbers}
+use Rattle.rtsp_lock.specs.Calls.{Found, Stays, Acted, Looked, Drew, Made, Forgot}
+use Rattle.rtsp_lock.proofs.Entries.{prefix_self, later_self, left_own, left_ended, left_none, only_by}
 use Rattle.rtsp_lock.proofs.Holder.{ended_shorter}
-use Rattle.rtsp_lock.proofs.Stories.{tells_more, tells_ended, tells_same, own_more}
+use Rattle.rtsp_lock.proofs.Histories.{history_more, history_ended, history_same, own_more}
 
 -- the view of a seat that is known
 pub view_is : {m m' : Me (Option History) View} → m ≡ m' → m.0 ≡ m'.0
@@ -46,7 +43,7 @@ lawful_in w k whole lawful = subst (λ (x : Whole). IsLegal x k.journal × (leng
 
 -- what a seat found
 pub finds : (v : View) (k : History) → k.whole ≡ v.whole → Lawful k → Fits v.whole k.journal k.next k.rounds v → Found v k.journal k.rounds
-finds v k whole lawful fits = let l = lawful_in v.whole k whole lawful in record { legal = l.0; limit = l.1; mine = fits.mine }
+finds v k whole lawful fits = let l = lawful_in v.whole k whole lawful in record { legal = l.0; limit = l.1; later = fits.later; mine = fits.mine }
 
 -- the view of a seat that holds a book
 abbrev pub held_as : View → List Entry → History → View
@@ -64,7 +61,9 @@ pub record After (v v' : View) (s : List Entry) (k k' : History) (es : List Entr
   pub rounds : v'.seen_rounds ≡ k'.rounds
   pub mine : v'.mine ≡ v.mine ++ es
   pub next : v'.next ≡ k'.next
-  pub story : v'.story ≡ s ++ es
+  pub history : v'.history ≡ s ++ es
+  pub drawn : IsPrefix v.drawn v'.drawn
+  pub alone : v'.alone ≡ v.alone
 
 pub after : (v v' v1 v2 : View) (s : List Entry) (k k' : History) (es : List Entry) → v1 ≡ held_as v s k → v2 ≡ noted_as v1 k' → v' ≡ settled v2 → drop (length k.journal) k'.journal ≡ es
     → After v v' s k k' es × (v'.drawn ≡ v.drawn ++ numbers k.next (k'.next - k.next))
@@ -77,10 +76,16 @@ after v v' v1 v2 s k k' es held noted put more =
         rounds = ap (λ (x : View). x.seen_rounds) e;
         mine = ap (λ (x : View). x.mine) e ∙ ap (λ (l : List Entry). v.mine ++ l) more;
         next = ap (λ (x : View). x.next) e;
-        story = ap (λ (x : View). x.story) e ∙ ap (λ (l : List Entry). s ++ l) more;
+        history = ap (λ (x : View). x.history) e ∙ ap (λ (l : List Entry). s ++ l) more;
+        drawn = (numbers k.next (k'.next - k.next), sym (ap (λ (x : View). x.drawn) e));
+        alone = ap (λ (x : View). x.alone) e;
       },
       ap (λ (x : View). x.drawn) e,
     )
+
+-- the same, told of the seat as it was before
+pub after_alone : {v v' : View} {s : List Entry} {k k' : History} {es : List Entry} → After v v' s k k' es → After v (record v' { alone = v.alone }) s k k' es
+after_alone a = record { whole = a.whole; actor = a.actor; seen = a.seen; rounds = a.rounds; mine = a.mine; next = a.next; history = a.history; drawn = a.drawn; alone = refl }
 
 -- what stands behind what was found, where entries were added
 pub added_is : (j j' es : List Entry) → j' ≡ j ++ es → drop (length j) j' ≡ es
@@ -99,7 +104,7 @@ pub unnoted : (v v1 : View) (s : List Entry) (k : History) → v1 ≡ held_as v 
 unnoted v v1 s k held = held ∙ sym (ap (λ (x : View). noted_as x k) held)
 
 -- the same where a seat was made
-pub after_cut : (v v' v1 v2 v3 : View) (s : List Entry) (k k' : History) → v1 ≡ held_as v s k → v2 ≡ noted_as v1 k' → v3 ≡ parent v2 → v' ≡ settled v3 → k'.journal ≡ k.journal → After v v' s k k' []
+pub after_cut : (v v' v1 v2 v3 : View) (s : List Entry) (k k' : History) → v1 ≡ held_as v s k → v2 ≡ noted_as v1 k' → v3 ≡ parent v2 → v' ≡ settled v3 → k'.journal ≡ k.journal → After v (record v' { alone = v.alone }) s k k' []
 after_cut v v' v1 v2 v3 s k k' held noted cut put same =
     let e : v' ≡ settled (parent (noted_as (held_as v s k) k')) = put ∙ ap settled (cut ∙ ap parent (noted ∙ ap (λ (x : View). noted_as x k') held)) in
     record {
@@ -109,21 +114,22 @@ after_cut v v' v1 v2 v3 s k k' held noted cut put same =
       rounds = ap (λ (x : View). x.seen_rounds) e;
       mine = ap (λ (x : View). x.mine) e ∙ ap (λ (l : List Entry). v.mine ++ l) (same_is k.journal k'.journal same);
       next = ap (λ (x : View). x.next) e;
-      story = ap (λ (x : View). x.story) e ∙ ap (λ (l : List Entry). s ++ l) (same_is k.journal k'.journal same);
+      history = ap (λ (x : View). x.history) e ∙ ap (λ (l : List Entry). s ++ l) (same_is k.journal k'.journal same);
+      drawn = (numbers k'.next (k'.next - k'.next), sym (ap (λ (x : View). x.drawn) e));
+      alone = refl;
     }
 
--- what a seat has heard once its own entries stand behind the story
-heard_now : (v v' : View) (s : List Entry) (k k' : History) (es : List Entry) → After v v' s k k' es → Heard v s k.journal → Tells v.whole (s ++ es) k'.journal → OnlyOf v.actor es → LeftOf v'.mine (entries_of v'.actor k'.journal) → Heard v' v'.story v'.seen
-heard_now v v' s k k' es a heard told own left = record {
-  tells = subst (λ (j : List Entry). Tells v'.whole v'.story j) (sym a.seen) (subst (λ (l : List Entry). Tells v'.whole l k'.journal) (sym a.story) (subst (λ (w : Whole). Tells w (s ++ es) k'.journal) (sym a.whole) told));
-  begins = prefix_self v'.story;
-  mine = a.mine ∙ (ap (λ (l : List Entry). l ++ es) heard.mine ∙ (own_more v.actor s es own ∙ (λ i. entries_of (sym a.actor i) (sym a.story i))));
-  left = subst (λ (j : List Entry). LeftOf v'.mine (entries_of v'.actor j)) (sym a.seen) left;
+-- what a seat has follows once its own entries stand behind the history
+follows_now : (v v' : View) (s : List Entry) (k k' : History) (es : List Entry) → After v v' s k k' es → Follows v s k.journal → IsHistoryOf v.whole (s ++ es) k'.journal → OnlyOf v.actor es → Follows v' v'.history v'.seen
+follows_now v v' s k k' es a follows told own = record {
+  is = subst (λ (j : List Entry). IsHistoryOf v'.whole v'.history j) (sym a.seen) (subst (λ (l : List Entry). IsHistoryOf v'.whole l k'.journal) (sym a.history) (subst (λ (w : Whole). IsHistoryOf w (s ++ es) k'.journal) (sym a.whole) told));
+  begins = prefix_self v'.history;
+  mine = a.mine ∙ (ap (λ (l : List Entry). l ++ es) follows.mine ∙ (own_more v.actor s es own ∙ (λ i. entries_of (sym a.actor i) (sym a.history i))));
 }
 
 -- what stays of a seat
-pub stays : (v v' : View) (s : List Entry) (k k' : History) (es : List Entry) → After v v' s k k' es → Heard v s k.journal → Tells v.whole (s ++ es) k'.journal → OnlyOf v.actor es → k'.whole ≡ v.whole → Lawful k' → Fits v.whole k.journal k.next k.rounds v → LeftOf (v.mine ++ es) (entries_of v.actor k'.journal) → k.next ≤ k'.next → Stays v v'
-stays v v' s k k' es a heard told own whole lawful fits left up =
+pub stays : (v v' : View) (s : List Entry) (k k' : History) (es : List Entry) → After v v' s k k' es → Follows v s k.journal → IsHistoryOf v.whole (s ++ es) k'.journal → OnlyOf v.actor es → k'.whole ≡ v.whole → Lawful k' → Fits v.whole k.journal k.next k.rounds v → LeftOf (v.mine ++ es) (entries_of v.actor k'.journal) → k.next ≤ k'.next → Stays v v'
+stays v v' s k k' es a follows told own whole lawful fits left up =
     let same : k'.whole ≡ v'.whole = whole ∙ sym a.whole in
     let l = lawful_in v'.whole k' same lawful in
     let le = fits.next in
@@ -131,12 +137,15 @@ stays v v' s k k' es a heard told own whole lawful fits left up =
     let mine : LeftOf v'.mine (entries_of v'.actor k'.journal) =
     subst (λ (m : List Entry). LeftOf m (entries_of v'.actor k'.journal)) (sym a.mine)
     (subst (λ (n : ℕ). LeftOf (v.mine ++ es) (entries_of n k'.journal)) (sym a.actor) left) in
+    let later : Later v'.seen_rounds v'.seen k'.rounds k'.journal =
+    subst (λ (j : List Entry). Later v'.seen_rounds j k'.rounds k'.journal) (sym a.seen) (subst (λ (q : ℕ). Later q k'.journal k'.rounds k'.journal) (sym a.rounds) (later_self k'.rounds k'.journal)) in
     record {
       whole = a.whole;
       actor = a.actor;
       next = omega (arith, le, up, next);
-      stands = subst (λ (j : List Entry). Found v' j v'.seen_rounds) (sym a.seen) (subst (λ (q : ℕ). Found v' k'.journal q) (sym a.rounds) (record { legal = l.0; limit = l.1; mine = mine }));
-      heard = heard_now v v' s k k' es a heard told own mine;
+      drawn = a.drawn;
+      stands = subst (λ (j : List Entry). Found v' j v'.seen_rounds) (sym a.seen) (subst (λ (q : ℕ). Found v' k'.journal q) (sym a.rounds) (record { legal = l.0; limit = l.1; later = later; mine = mine }));
+      follows = follows_now v v' s k k' es a follows told own;
     }
 
 -- what an act leaves, accepted or refused
@@ -144,7 +153,7 @@ pub act_leaves : (k k' : History) (actor : ℕ) (answer : Result (List Record) R
 act_leaves k k' actor (Ok made) noted = noted
 act_leaves k k' actor (Err r) noted = noted ∙ ap (λ (j : List Entry). history k.whole j k.next k.rounds) (sym (append-nil k.journal))
 
-numbers_none : (a b : ℕ) → b ≡ a → numbers a (b - a) ≡ []
+pub numbers_none : (a b : ℕ) → b ≡ a → numbers a (b - a) ≡ []
 numbers_none a b e = let none : b - a ≡ 0 = omega (arith, e) in ap (numbers a) none
 
 numbers_one : (a b : ℕ) → b ≡ a + 1 → numbers a (b - a) ≡ a ∷ []
@@ -153,13 +162,14 @@ numbers_one a b e = let one : b - a ≡ 1 = omega (arith, e) in ap (numbers a) o
 -- a seat's turn: it holds a book, notes what it leaves, and puts that back
 pub record Turn (v v1 v2 v' : View) (s : List Entry) (k k' : History) : Type 0 where
   pub held : v1 ≡ held_as v s k
-  pub heard : Heard v s k.journal
+  pub follows : Follows v s k.journal
   pub noted : v2 ≡ noted_as v1 k'
   pub put : v' ≡ settled v2
   pub whole : k.whole ≡ v.whole
   pub lawful : Lawful k
   pub left : Lawful k'
   pub fits : Fits v.whole k.journal k.next k.rounds v
+  pub alone : v.alone ≡ true → k.journal ≡ v.seen
 
 -- a turn in which a step was answered
 pub acts : {v v1 v2 v' : View} {s : List Entry} {k k' : History} (actor : ℕ) (step : Step) (answer : Result (List Record) Refusal) → Turn v v1 v2 v' s k k' → actor ≡ v.actor → Answers k.whole k.journal step answer → k' ≡ noted_by actor k answer → Acted v v' step answer
@@ -170,8 +180,8 @@ acts {v = v} {v1 = v1} {v2 = v2} {v' = v'} {s = s} {k = k} {k' = k'} actor step 
     let same : k'.next ≡ k.next = ap (λ (h : History). h.next) leaves in
     let of : k'.whole ≡ v.whole = ap (λ (h : History). h.whole) leaves ∙ t.whole in
     let own = only_by v.actor (written answer) in
-    let told : Tells v.whole (s ++ es) k'.journal =
-    subst (λ (j : List Entry). Tells v.whole (s ++ es) j) (sym more) (tells_more v.whole s k.journal es t.heard.tells (subst (IsLegal v.whole) more (lawful_in v.whole k' of t.left).0)) in
+    let told : IsHistoryOf v.whole (s ++ es) k'.journal =
+    subst (λ (j : List Entry). IsHistoryOf v.whole (s ++ es) j) (sym more) (history_more v.whole s k.journal es t.follows.is (subst (IsLegal v.whole) more (lawful_in v.whole k' of t.left).0)) in
     let a = after v v' v1 v2 s k k' es t.held t.noted t.put (added_is k.journal k'.journal es more) in
     let rounds : v'.seen_rounds ≡ k.rounds = a.0.rounds ∙ ap (λ (h : History). h.rounds) leaves in
     let left : LeftOf (v.mine ++ es) (entries_of v.actor k'.journal) =
@@ -181,12 +191,13 @@ acts {v = v} {v1 = v1} {v2 = v2} {v' = v'} {s = s} {k = k} {k' = k'} actor step 
       found = subst (λ (q : ℕ). Found v k.journal q) (sym rounds) (finds v k t.whole t.lawful t.fits);
       answers = subst (λ (w : Whole). Answers w k.journal step answer) t.whole answers;
       seen = a.0.seen ∙ more;
-      story = s;
-      heard = t.heard;
-      goes_on = a.0.story;
+      history = s;
+      follows = t.follows;
+      goes_on = a.0.history;
       mine = a.0.mine;
       drawn = a.1 ∙ (ap (λ (l : List ℕ). v.drawn ++ l) (numbers_none k.next k'.next same) ∙ append-nil v.drawn);
-      stays = stays v v' s k k' es a.0 t.heard told own of t.left t.fits left (omega (arith, same));
+      alone = record { found = t.alone; still = a.0.alone };
+      stays = stays v v' s k k' es a.0 t.follows told own of t.left t.fits left (omega (arith, same));
     }
 
 -- a book as it was, but that its next number may be greater
@@ -209,29 +220,30 @@ draw_leaves k k' (Ok n) most ok err =
 draw_leaves k k' (Err e) most ok err = record { journal = ap (λ (h : History). h.journal) err.1; whole = ap (λ (h : History). h.whole) err.1; rounds = ap (λ (h : History). h.rounds) err.1; up = let same : k'.next ≡ k.next = ap (λ (h : History). h.next) err.1 in omega (arith, same) }
 
 -- a call that leaves the journal as it is
-pub looks : (v v' : View) (s : List Entry) (k k' : History) → After v v' s k k' [] → Heard v s k.journal → k.whole ≡ v.whole → Lawful k → Lawful k' → Fits v.whole k.journal k.next k.rounds v → Kept_as k k' → Looked v v'
-looks v v' s k k' a heard whole lawful lawful' fits leaves =
-    let same : v'.story ≡ s = a.story ∙ append-nil s in
-    let told : Tells v.whole (s ++ []) k'.journal = tells_same v.whole s k'.journal (subst (λ (j : List Entry). Tells v.whole s j) (sym leaves.journal) heard.tells) in
+pub looks : (v v' : View) (s : List Entry) (k k' : History) → After v v' s k k' [] → Follows v s k.journal → k.whole ≡ v.whole → Lawful k → Lawful k' → Fits v.whole k.journal k.next k.rounds v → (v.alone ≡ true → k.journal ≡ v.seen) → Kept_as k k' → Looked v v'
+looks v v' s k k' a follows whole lawful lawful' fits alone leaves =
+    let same : v'.history ≡ s = a.history ∙ append-nil s in
+    let told : IsHistoryOf v.whole (s ++ []) k'.journal = history_same v.whole s k'.journal (subst (λ (j : List Entry). IsHistoryOf v.whole s j) (sym leaves.journal) follows.is) in
     let left : LeftOf (v.mine ++ []) (entries_of v.actor k'.journal) =
     subst (λ (m : List Entry). LeftOf m (entries_of v.actor k'.journal)) (sym (append-nil v.mine)) (subst (λ (j : List Entry). LeftOf v.mine (entries_of v.actor j)) (sym leaves.journal) fits.mine) in
     record {
       journal = k.journal;
       found = subst (λ (q : ℕ). Found v k.journal q) (sym (a.rounds ∙ leaves.rounds)) (finds v k whole lawful fits);
       seen = a.seen ∙ leaves.journal;
-      heard = subst (λ (l : List Entry). Heard v l k.journal) (sym same) heard;
+      follows = subst (λ (l : List Entry). Follows v l k.journal) (sym same) follows;
       mine = a.mine ∙ append-nil v.mine;
-      stays = stays v v' s k k' [] a heard told tt (leaves.whole ∙ whole) lawful' fits left leaves.up;
+      alone = record { found = alone; still = a.alone };
+      stays = stays v v' s k k' [] a follows told tt (leaves.whole ∙ whole) lawful' fits left leaves.up;
     }
 
 -- a turn in which ended sessions were forgotten
 pub forgets : {v v1 v2 v' : View} {s : List Entry} {k k' : History} → Turn v v1 v2 v' s k k' → k' ≡ forgotten k → Forgot v v'
 forgets {v = v} {v1 = v1} {v2 = v2} {v' = v'} {s = s} {k = k} {k' = k'} t is = ⊎_elim (λ (e : forgotten k ≡ k). same (is ∙ e)) (λ (e : forgotten k ≡ shortened k). shorter (is ∙ e)) (either_way k)
   where
-    told_after : (j : List Entry) → k'.journal ≡ j → Tells v.whole s j → Tells v.whole (s ++ []) k'.journal
-    told_after j is told = tells_same v.whole s k'.journal (subst (λ (l : List Entry). Tells v.whole s l) (sym is) told)
+    told_after : (j : List Entry) → k'.journal ≡ j → IsHistoryOf v.whole s j → IsHistoryOf v.whole (s ++ []) k'.journal
+    told_after j is told = history_same v.whole s k'.journal (subst (λ (l : List Entry). IsHistoryOf v.whole s l) (sym is) told)
 
-    leave : (of : k'.whole ≡ k.whole) (next : k'.next ≡ k.next) (none : drop (length k.journal) k'.journal ≡ []) (left : LeftOf v.mine (entries_of v.actor k'.journal)) (told : Tells v.whole (s ++ []) k'.journal) → Forgot v v'
+    leave : (of : k'.whole ≡ k.whole) (next : k'.next ≡ k.next) (none : drop (length k.journal) k'.journal ≡ []) (left : LeftOf v.mine (entries_of v.actor k'.journal)) (told : IsHistoryOf v.whole (s ++ []) k'.journal) → Forgot v v'
     leave of next none left told =
         let a = after v v' v1 v2 s k k' [] t.held t.noted t.put none in
         let whole : k'.whole ≡ v.whole = of ∙ t.whole in
@@ -242,21 +254,22 @@ forgets {v = v} {v1 = v1} {v2 = v2} {v' = v'} {s = s} {k = k} {k' = k'} t is = �
           rounds = k.rounds;
           found = finds v k t.whole t.lawful t.fits;
           forgets = found ∙ (is ∙ ap forgotten old);
-          heard = subst (λ (l : List Entry). Heard v l k.journal) (sym (a.0.story ∙ append-nil s)) t.heard;
+          follows = subst (λ (l : List Entry). Follows v l k.journal) (sym (a.0.history ∙ append-nil s)) t.follows;
           mine = a.0.mine ∙ append-nil v.mine;
           drawn = a.1 ∙ (ap (λ (l : List ℕ). v.drawn ++ l) (numbers_none k.next k'.next next) ∙ append-nil v.drawn);
-          stays = stays v v' s k k' [] a.0 t.heard told tt whole t.left t.fits (subst (λ (m : List Entry). LeftOf m (entries_of v.actor k'.journal)) (sym (append-nil v.mine)) left) (omega (arith, next));
+          alone = record { found = t.alone; still = a.0.alone };
+          stays = stays v v' s k k' [] a.0 t.follows told tt whole t.left t.fits (subst (λ (m : List Entry). LeftOf m (entries_of v.actor k'.journal)) (sym (append-nil v.mine)) left) (omega (arith, next));
         }
 
     same : k' ≡ k → Forgot v v'
     same e =
         let journal : k'.journal ≡ k.journal = ap (λ (h : History). h.journal) e in
-        leave (ap (λ (h : History). h.whole) e) (ap (λ (h : History). h.next) e) (same_is k.journal k'.journal journal) (subst (λ (j : List Entry). LeftOf v.mine (entries_of v.actor j)) (sym journal) t.fits.mine) (told_after k.journal journal t.heard.tells)
+        leave (ap (λ (h : History). h.whole) e) (ap (λ (h : History). h.next) e) (same_is k.journal k'.journal journal) (subst (λ (j : List Entry). LeftOf v.mine (entries_of v.actor j)) (sym journal) t.fits.mine) (told_after k.journal journal t.follows.is)
 
     shorter : k' ≡ shortened k → Forgot v v'
     shorter e =
         let journal : k'.journal ≡ less_ended k.journal = ap (λ (h : History). h.journal) e in
-        leave (ap (λ (h : History). h.whole) e) (ap (λ (h : History). h.next) e) (ended_is k.journal k'.journal journal) (subst (λ (j : List Entry). LeftOf v.mine (entries_of v.actor j)) (sym journal) (left_ended v.actor v.mine k.journal t.fits.mine)) (told_after (less_ended k.journal) journal (tells_ended v.whole s k.journal t.heard.tells (lawful_in v.whole k t.whole t.lawful).0))
+        leave (ap (λ (h : History). h.whole) e) (ap (λ (h : History). h.next) e) (ended_is k.journal k'.journal journal) (subst (λ (j : List Entry). LeftOf v.mine (entries_of v.actor j)) (sym journal) (left_ended v.actor v.mine k.journal t.fits.mine)) (told_after (less_ended k.journal) journal (history_ended v.whole s k.journal t.follows.is (lawful_in v.whole k t.whole t.lawful).0))
 
 pub draws : (v v' v1 v2 : View) (s : List Entry) (k k' : History) (drawn : Result ℕ NumbersSpent) (most : ℕ) → v1 ≡ held_as v s k → v2 ≡ noted_as v1 k' → v' ≡ settled v2 → Fits v.whole k.journal k.next k.rounds v → k'.journal ≡ k.journal
     → IfOk drawn (λ n. (n ≡ k.next) × (n < most) × (k' ≡ record k { next = n + 1 })) → IfOk drawn (λ n. Drew v v' n)
@@ -275,8 +288,8 @@ draws v v' v1 v2 s k k' (Ok n) most held noted put fits same ok =
     }
 
 pub makes : (v v' v1 v2 v3 u : View) (s : List Entry) (k k' : History) (n most : ℕ) → v1 ≡ held_as v s k → v2 ≡ noted_as v1 k' → v3 ≡ parent v2 → v' ≡ settled v3 → u ≡ child v2 → k.whole ≡ v.whole → Lawful k → Fits v.whole k.journal k.next k.rounds v
-    → ((a : ℕ) → k.next ≤ a → entries_of a k.journal ≡ []) → Heard v s k.journal → ((a : ℕ) → k.next ≤ a → entries_of a s ≡ []) → (n ≡ k.next) × (n < most) × (k' ≡ record k { next = n + 1 }) → Made v v' u
-makes v v' v1 v2 v3 u s k k' n most held noted cut put made whole lawful fits fresh heard new ok =
+    → ((a : ℕ) → k.next ≤ a → entries_of a k.journal ≡ []) → Follows v s k.journal → ((a : ℕ) → k.next ≤ a → entries_of a s ≡ []) → (n ≡ k.next) × (n < most) × (k' ≡ record k { next = n + 1 }) → Made v v' u
+makes v v' v1 v2 v3 u s k k' n most held noted cut put made whole lawful fits fresh follows new ok =
     let e : v2 ≡ noted_as (held_as v s k) k' = noted ∙ ap (λ (x : View). noted_as x k') held in
     let f : u ≡ child (noted_as (held_as v s k) k') = made ∙ ap child e in
     let p : v' ≡ settled (parent (noted_as (held_as v s k) k')) = put ∙ ap settled (cut ∙ ap parent e) in
@@ -290,8 +303,8 @@ makes v v' v1 v2 v3 u s k k' n most held noted cut put made whole lawful fits fr
     let rounds : u.seen_rounds ≡ k.rounds = ap (λ (x : View). x.seen_rounds) f in
     let of : u.whole ≡ v.whole = ap (λ (x : View). x.whole) f in
     let mine : u.mine ≡ [] = ap (λ (x : View). x.mine) f in
-    let story : u.story ≡ s = ap (λ (x : View). x.story) f in
-    let goes : v'.story ≡ s = ap (λ (x : View). x.story) p ∙ (ap (λ (l : List Entry). s ++ l) (same_is k.journal k'.journal (ap (λ (h : History). h.journal) ok.2)) ∙ append-nil s) in
+    let history : u.history ≡ s = ap (λ (x : View). x.history) f in
+    let goes : v'.history ≡ s = ap (λ (x : View). x.history) p ∙ (ap (λ (l : List Entry). s ++ l) (same_is k.journal k'.journal (ap (λ (h : History). h.journal) ok.2)) ∙ append-nil s) in
     let l = lawful_in u.whole k (whole ∙ sym of) lawful in
     let left : LeftOf u.mine (entries_of u.actor k.journal) = subst (λ (m : List Entry). LeftOf m (entries_of u.actor k.journal)) (sym mine) (left_none u.actor k.journal (fresh u.actor (omega (arith, is)))) in
     record {
@@ -303,18 +316,19 @@ makes v v' v1 v2 v3 u s k k' n most held noted cut put made whole lawful fits fr
       same_next = ap (λ (x : View). x.next) f ∙ sym next;
       seen = seen ∙ (sym (ap (λ (h : History). h.journal) ok.2) ∙ sym (ap (λ (x : View). x.seen) p));
       rounds = rounds ∙ (sym (ap (λ (h : History). h.rounds) ok.2) ∙ sym (ap (λ (x : View). x.seen_rounds) p));
-      story = story ∙ sym goes;
-      heard = record {
-        tells = subst (λ (j : List Entry). Tells u.whole u.story j) (sym seen) (subst (λ (l : List Entry). Tells u.whole l k.journal) (sym story) (subst (λ (w : Whole). Tells w s k.journal) (sym of) heard.tells));
-        begins = prefix_self u.story;
-        mine = mine ∙ (sym (new u.actor (omega (arith, is))) ∙ ap (entries_of u.actor) (sym story));
-        left = subst (λ (j : List Entry). LeftOf u.mine (entries_of u.actor j)) (sym seen) left;
+      history = history ∙ sym goes;
+      follows = record {
+        is = subst (λ (j : List Entry). IsHistoryOf u.whole u.history j) (sym seen) (subst (λ (l : List Entry). IsHistoryOf u.whole l k.journal) (sym history) (subst (λ (w : Whole). IsHistoryOf w s k.journal) (sym of) follows.is));
+        begins = prefix_self u.history;
+        mine = mine ∙ (sym (new u.actor (omega (arith, is))) ∙ ap (entries_of u.actor) (sym history));
       };
       mine = mine;
       drawn = ap (λ (x : View). x.drawn) f;
+      alone = (ap (λ (x : View). x.alone) p, ap (λ (x : View). x.alone) f);
       stands = subst (λ (j : List Entry). Found u j u.seen_rounds) (sym seen) (record {
         legal = l.0;
         limit = l.1;
+        later = subst (λ (j : List Entry). Later u.seen_rounds j u.seen_rounds k.journal) (sym seen) (later_self u.seen_rounds k.journal);
         mine = left;
       });
     }
@@ -355,12 +369,13 @@ same_leaves v v1 s k k' held same =
 
 -- a look puts back the book that it found, as it was
 pub only_looks : {v v1 v' : View} (s : List Entry) (k : History) → v1 ≡ held_as v s k → v' ≡ settled v1 → k ≡ history v.whole k.journal k.next k.rounds → IsLegal k.whole k.journal → length k.journal + owed (book_of k.journal) ≤ k.whole.journal → Fits v.whole k.journal k.next k.rounds v
-    → Heard v s k.journal
+    → Follows v s k.journal
+    → (v.alone ≡ true → k.journal ≡ v.seen)
     → Looked v v'
-only_looks {v = v} {v1 = v1} {v' = v'} s k held put value legal limit fits heard =
+only_looks {v = v} {v1 = v1} {v' = v'} s k held put value legal limit fits follows alone =
     let a = after v v' v1 v1 s k k [] held (unnoted v v1 s k held) put (same_is k.journal k.journal refl) in
     let lawful : Lawful k = record { legal = legal; limit = limit } in
-    looks v v' s k k a.0 heard (ap (λ (h : History). h.whole) value) lawful lawful fits (look_leaves k)
+    looks v v' s k k a.0 follows (ap (λ (h : History). h.whole) value) lawful lawful fits alone (look_leaves k)
 
 -- and draws no number
 pub look_draws_none : (v v1 v' : View) (s : List Entry) (k : History) → v1 ≡ held_as v s k → v' ≡ settled v1 → v'.drawn ≡ v.drawn
@@ -378,106 +393,11 @@ cut_draws_none v v' v1 v2 v3 s k k' held noted cut put =
 pub stands_first : (w : Whole) (v : View) → v ≡ first_view w → Found v [] 0
 stands_first w v is =
     let nothing : owed empty ≡ 0 = amount-empty returns in
-    subst (λ (x : View). Found x [] 0) (sym is) (record { legal = tt; limit = omega (arith, nothing); mine = left_none 0 [] refl })
+    subst (λ (x : View). Found x [] 0) (sym is) (record { legal = tt; limit = omega (arith, nothing); later = later_self 0 []; mine = left_none 0 [] refl })
 
--- and the story that it has heard
-pub heard_first : (w : Whole) (v : View) → v ≡ first_view w → Heard v [] []
-heard_first w v is = subst (λ (x : View). Heard x [] []) (sym is) (record { tells = record { legal = tt; book = refl }; begins = prefix_self []; mine = refl; left = nothing_left })
-
--- A checkpoint.
-
--- a seat that made a checkpoint notes what it left
-pub check_leaves : (v v1 : View) (s : List Entry) (k k' : History) → IsLegal k.whole k.journal → v1 ≡ held_as v s k → k' ≡ checkpointed k → Leaves (noted_as v1 k') v1.found v1.found_rounds
-check_leaves v v1 s k k' legal held is =
-    let found : v1.found ≡ k.journal = ap (λ (x : View). x.found) held in
-    let rounds : v1.found_rounds ≡ k.rounds = ap (λ (x : View). x.found_rounds) held in
-    let next : v1.next ≡ k.next = ap (λ (x : View). x.next) held in
-    ⊎_elim
-    (λ (e : checkpointed k ≡ k).
-    let same : k' ≡ k = is ∙ e in
-    inl (record { more = []; left = ap (λ (h : History). h.journal) same ∙ sym found ∙ sym (append-nil v1.found); own = tt; rounds = ap (λ (h : History). h.rounds) same ∙ sym rounds }))
-    (λ (e : checkpointed k ≡ anew k).
-    let new : k' ≡ anew k = is ∙ e in
-    let ms = snapshot is_settled (book_of k.journal) in
-    let stays_there : ℕ → Bool = λ q. is_other is_settled (get (book_of k.journal) q) in
-    let short = condensed_is k.whole is_settled k.next k.journal legal in
-    let size = short.size in
-    let more : k'.next ≡ k.next + 1 = ap (λ (h : History). h.next) new in
-    inr (inr (record {
-      kept = stays_there;
-      made = ms;
-      left = ap (λ (h : History). h.journal) new ∙ (λ i. filter (λ e. stays_there (session_of e.change)) (sym found i) ++ entries_by (sym next i) ms);
-      book = ap (λ (h : History). book_of h.journal) new ∙ (short.book ∙ ap book_of (sym found));
-      shorter = subst (λ (l : List Entry). length k'.journal ≤ length l) (sym found) (subst (λ (l : List Entry). length l ≤ length k.journal) (sym (ap (λ (h : History). h.journal) new)) size);
-      rounds = ap (λ (h : History). h.rounds) new ∙ ap (λ (n : ℕ). n + 1) (sym rounds);
-      spent = omega (arith, next, more);
-    })))
-    (either_checked k)
-
--- the next number is none that it had
-check_up : (k k' : History) → k' ≡ checkpointed k → k.next ≤ k'.next
-check_up k k' is =
-    ⊎_elim
-    (λ (e : checkpointed k ≡ k). let same : k'.next ≡ k.next = ap (λ (h : History). h.next) (is ∙ e) in omega (arith, same))
-    (λ (e : checkpointed k ≡ anew k). let more : k'.next ≡ k.next + 1 = ap (λ (h : History). h.next) (is ∙ e) in omega (arith, more))
-    (either_checked k)
-
-pub check_notes_up : (v v1 : View) (s : List Entry) (k k' : History) → v1 ≡ held_as v s k → k' ≡ checkpointed k → v1.next ≤ k'.next
-check_notes_up v v1 s k k' held is = let next : v1.next ≡ k.next = ap (λ (x : View). x.next) held in let up = check_up k k' is in omega (arith, next, up)
-
--- and puts that back
-pub check_puts : (v v1 v2 : View) (s : List Entry) (k k' : History) → v1 ≡ held_as v s k → v2 ≡ noted_as v1 k' → k.whole ≡ v.whole → k' ≡ checkpointed k → k' ≡ history v2.whole v2.left v2.left_next v2.left_rounds
-check_puts v v1 v2 s k k' held noted whole is =
-    let of : k'.whole ≡ k.whole =
-    ap (λ (h : History). h.whole) is
-    ∙ ⊎_elim (λ (e : checkpointed k ≡ k). ap (λ (h : History). h.whole) e) (λ (e : checkpointed k ≡ anew k). ap (λ (h : History). h.whole) e) (either_checked k) in
-    let e : v2 ≡ noted_as (held_as v s k) k' = noted ∙ ap (λ (x : View). noted_as x k') held in
-    let same : k'.whole ≡ v.whole = of ∙ whole in
-    sym (ap (λ (x : View). history x.whole x.left x.left_next x.left_rounds) e ∙ ap (λ (w : Whole). history w k'.journal k'.next k'.rounds) (sym same))
-
--- a turn in which a checkpoint was made
-pub checks : {v v1 v2 v' : View} {s : List Entry} {k k' : History} → Turn v v1 v2 v' s k k' → k' ≡ checkpointed k → Checked v v'
-checks {v = v} {v1 = v1} {v2 = v2} {v' = v'} {s = s} {k = k} {k' = k'} t is = ⊎_elim (λ (e : checkpointed k ≡ k). same (is ∙ e)) (λ (e : checkpointed k ≡ anew k). new (is ∙ e)) (either_checked k)
-  where
-    leave : (of : k'.whole ≡ k.whole) (none : drop (length k.journal) k'.journal ≡ []) (book : book_of k'.journal ≡ book_of k.journal) (left : LeftOf v.mine (entries_of v.actor k'.journal)) → Checked v v'
-    leave of none book left =
-        let a = after v v' v1 v2 s k k' [] t.held t.noted t.put none in
-        let whole : k'.whole ≡ v.whole = of ∙ t.whole in
-        let found : history v'.whole v'.seen v'.next v'.seen_rounds ≡ k' = λ i. history ((a.0.whole ∙ sym whole) i) (a.0.seen i) (a.0.next i) (a.0.rounds i) in
-        let old : k ≡ history v.whole k.journal k.next k.rounds = λ i. history (t.whole i) k.journal k.next k.rounds in
-        let up = check_up k k' is in
-        let told : Tells v.whole s k'.journal = record { legal = t.heard.tells.legal; book = t.heard.tells.book ∙ sym book } in
-        record {
-          journal = k.journal;
-          number = k.next;
-          rounds = k.rounds;
-          found = finds v k t.whole t.lawful t.fits;
-          up = t.fits.next;
-          heard = subst (λ (l : List Entry). Heard v l k.journal) (sym (a.0.story ∙ append-nil s)) t.heard;
-          makes = found ∙ (is ∙ ap checkpointed old);
-          mine = a.0.mine ∙ append-nil v.mine;
-          drawn = a.1 ∙ ap (λ (n : ℕ). v.drawn ++ numbers k.next (n - k.next)) (sym a.0.next);
-          stays = stays v v' s k k' [] a.0 t.heard (tells_same v.whole s k'.journal told) tt whole t.left t.fits (subst (λ (m : List Entry). LeftOf m (entries_of v.actor k'.journal)) (sym (append-nil v.mine)) left) up;
-        }
-
-    same : k' ≡ k → Checked v v'
-    same e =
-        let journal : k'.journal ≡ k.journal = ap (λ (h : History). h.journal) e in
-        leave (ap (λ (h : History). h.whole) e) (same_is k.journal k'.journal journal) (ap book_of journal) (subst (λ (j : List Entry). LeftOf v.mine (entries_of v.actor j)) (sym journal) t.fits.mine)
-
-    new : k' ≡ anew k → Checked v v'
-    new e =
-        let ms = snapshot is_settled (book_of k.journal) in
-        let journal : k'.journal ≡ condensed is_settled k.next k.journal = ap (λ (h : History). h.journal) e in
-        let short = condensed_is k.whole is_settled k.next k.journal t.lawful.legal in
-        let lt = t.fits.actor in
-        let ne : v.actor ≢ k.next = λ q. absurd (omega (arith, q, lt)) in
-        let stays_there : ℕ → Bool = λ q. is_other is_settled (get (book_of k.journal) q) in
-        leave (ap (λ (h : History). h.whole) e)
-        (ap (λ (l : List Entry). drop (length k.journal) l) journal ∙ drop_of_length-le (condensed is_settled k.next k.journal) short.size)
-        (ap book_of journal ∙ short.book)
-        (subst (λ (j : List Entry). LeftOf v.mine (entries_of v.actor j)) (sym journal)
-        (left_other v.actor k.next v.mine (filter (λ e. stays_there (session_of e.change)) k.journal) (entries_by k.next ms) (left_kept v.actor stays_there v.mine k.journal t.fits.mine) (only_by k.next ms) ne))
+-- and the history that it has follows
+pub follows_first : (w : Whole) (v : View) → v ≡ first_view w → Follows v [] []
+follows_first w v is = subst (λ (x : View). Follows x [] []) (sym is) (record { is = record { legal = tt; book = refl }; begins = prefix_self []; mine = refl })
 
 -- a seat that made another leaves the journal as it is
 pub cut_unchanged : (v v1 v2 : View) (s : List Entry) (k k' : History) → v1 ≡ held_as v s k → v2 ≡ noted_as v1 k' → Kept_as k k' → (v2.left ≡ v2.found) × (v2.left_rounds ≡ v2.found_rounds)

@@ -1,5 +1,5 @@
 use Rattle.rtsp_lock.proofs.Runs.{continues}
-use Rattle.rtsp_lock.proofs.laws.law_story.Goals as goal
+use Rattle.rtsp_lock.proofs.laws.law_history.Goals as goal
 
 pub returns : goal.returns
 returns c = continues
