@@ -154,7 +154,7 @@ has_before [] ys x h = absurd (has_none x h)
 has_before (z ∷ zs) ys x (zero, e) = (zero, e)
 has_before (z ∷ zs) ys x (suc k, e) = let more = has_before zs ys x (k, e) in (suc more.0, more.1)
 
-has_last : (xs : List ℕ) (x : ℕ) → Has (xs ++ x ∷ []) x
+pub has_last : (xs : List ℕ) (x : ℕ) → Has (xs ++ x ∷ []) x
 has_last [] x = (zero, refl)
 has_last (z ∷ zs) x = let more = has_last zs x in (suc more.0, more.1)
 

@@ -25,8 +25,8 @@ mod view;
 
 pub use laws::{
     law_acted, law_actors_differ, law_checked, law_draws_differ, law_forgot, law_history,
-    law_history_answers, law_history_lasts, law_later, law_looked, law_one_history, law_relief_decides,
-    law_relieved, law_run, law_run_goes_on, law_run_lasts,
+    law_history_answers, law_history_lasts, law_later, law_looked, law_one_history,
+    law_relief_decides, law_relieved, law_run, law_run_goes_on, law_run_lasts,
 };
 pub use lock::BookLock;
 pub use names::Name;
