@@ -12,7 +12,7 @@
 #![tactic(auto)]
 
 mod asks;
-mod condensing;
+mod checkpoints;
 mod forgetting;
 mod kept;
 mod laws;
@@ -22,9 +22,10 @@ mod refusals;
 mod reply;
 mod steps;
 
+pub use checkpoints::CHECKPOINT_SLACK;
 pub use asks::{Admitted, Ask, Opening, Wanted};
 pub use kept::{Kept, NumbersSpent};
-pub use laws::{law_condensed, law_condensed_by_ends, law_giving_back, law_granted, law_snapshot};
+pub use laws::{law_giving_back, law_granted};
 pub use receipts::{FreedPorts, Receipt};
 pub use refusals::Refusal;
 pub use rtsp_record::Life;
