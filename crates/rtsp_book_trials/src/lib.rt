@@ -7,6 +7,8 @@ mod admissions;
 #[cfg(test)]
 mod books;
 #[cfg(test)]
+mod checkpoints;
+#[cfg(test)]
 mod forgetting;
 #[cfg(test)]
 mod journals;
