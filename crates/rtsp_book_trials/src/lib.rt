@@ -7,6 +7,7 @@ mod admissions;
 #[cfg(test)]
 mod books;
 #[cfg(test)]
+mod checkpoints;
 mod checkpoints_at_lock;
 #[cfg(test)]
 mod forgetting;
