@@ -8,6 +8,7 @@ mod admissions;
 mod books;
 #[cfg(test)]
 mod checkpoints;
+#[cfg(test)]
 mod checkpoints_at_lock;
 #[cfg(test)]
 mod forgetting;
