@@ -57,9 +57,8 @@ impl<R: Wait> TwoSeats<'_, '_, R> {
     fn renew(&mut self, most: u32) -> bool
         ensures { self.new.lock ≡ self.old.lock }
     {
-        let mut until = 60_000u64;
-        while until < 60_000 + u64::from(most) {
-            until += 1;
+        for turn in 0..most {
+            let until = 60_001 + u64::from(turn);
             if self.act_alone(&step(Asked::Touch(2, until))).is_err() {
                 return false;
             }
