@@ -23,8 +23,8 @@ mod refusals;
 mod reply;
 mod steps;
 
-pub use checkpoints::CHECKPOINT_SLACK;
 pub use asks::{Admitted, Ask, Opening, Wanted};
+pub use checkpoints::CHECKPOINT_SLACK;
 pub use kept::{Kept, NumbersSpent};
 pub use laws::{law_giving_back, law_granted};
 pub use receipts::{FreedPorts, Receipt};

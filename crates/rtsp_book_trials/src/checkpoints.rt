@@ -6,10 +6,8 @@ ghost use Rattle.rtsp_book.specs.Replies.{IsAskable};
 
 use crate::books::{Asked, WITH_STREAM, step};
 use crate::world::{OVER_CHANNELS, OVER_PORTS, SMALL};
-use rtsp_book::{
-    BookRep, CHECKPOINT_SLACK, Commit, Kept, PlainBook, Play, Refusal, Startup, Step,
-};
-use rtsp_record::{Entry, Life, Id, Record, Renewal, Stream, Whole, write_journal};
+use rtsp_book::{BookRep, CHECKPOINT_SLACK, Commit, Kept, PlainBook, Play, Refusal, Startup, Step};
+use rtsp_record::{Entry, Id, Life, Record, Renewal, Stream, Whole, write_journal};
 use rtsp_undo::{book_text, law_checkpoint, law_nothing_restated, law_snapshot, replay, rewind};
 use std::alloc::Global;
 use std::test::Fail;
@@ -104,8 +102,12 @@ fn a_setup_under_way_keeps_its_entries(rt: HostRuntime) -> Result<(), Fail> {
     // The journal can be replayed, and leads back to the empty book.
     let copy = Vec::from_slice(rt.alloc(), kept.journal())?;
     let replayed: Kept<PlainBook> = replay(rt.alloc(), &SMALL, copy)?;
-    assert!(rt; printed(rt.alloc(), &replayed)?.as_slice() == printed(rt.alloc(), &kept)?.as_slice());
-    assert!(rt; rewind(&mut kept, 9).is_ok() && kept.journal().is_empty() && kept.book().living() == 0);
+    assert!(rt;
+        printed(rt.alloc(), &replayed)?.as_slice() == printed(rt.alloc(), &kept)?.as_slice()
+    );
+    assert!(rt;
+        rewind(&mut kept, 9).is_ok() && kept.journal().is_empty() && kept.book().living() == 0
+    );
     Ok(())
 }
 
@@ -114,11 +116,17 @@ fn nobody_lives_or_all_are_under_way(rt: HostRuntime) -> Result<(), Fail> {
     let mut nobody = kept_after(rt.alloc(), &SMALL, WITH_STREAM.as_slice())?;
     nobody.act(0, &step(Asked::End(2)))?;
     assert!(rt; leaves(rt.alloc(), &mut nobody, "")? && leaves(rt.alloc(), &mut nobody, "")?);
-    let under_way = [Asked::Open(2, 1), Asked::Rate(2, 3), Asked::Touch(2, 70_000)];
+    let under_way = [
+        Asked::Open(2, 1),
+        Asked::Rate(2, 3),
+        Asked::Touch(2, 70_000),
+    ];
     let mut all = kept_after(rt.alloc(), &SMALL, under_way.as_slice())?;
     let before = journal_of(rt.alloc(), &all)?;
     all.checkpoint();
-    assert!(rt; journal_of(rt.alloc(), &all)?.as_slice() == before.as_slice() && all.next_number() == 2);
+    assert!(rt;
+        journal_of(rt.alloc(), &all)?.as_slice() == before.as_slice() && all.next_number() == 2
+    );
     Ok(())
 }
 
@@ -132,7 +140,9 @@ fn a_full_journal_has_room_again(rt: HostRuntime) -> Result<(), Fail> {
     kept.act(0, &step(Asked::Touch(2, 70_000)))?;
     let renewal = step(Asked::Touch(2, 80_000));
     let refused = kept.act(0, &renewal).err();
-    assert!(rt; refused == Some(Refusal::JournalFull) && kept.journal().len() + kept.book().owed() == 9);
+    assert!(rt;
+        refused == Some(Refusal::JournalFull) && kept.journal().len() + kept.book().owed() == 9
+    );
     kept.checkpoint();
     assert!(rt; kept.journal().len() == 4 && kept.act(0, &renewal).is_ok());
     Ok(())
@@ -154,12 +164,15 @@ fn play(now: u64) -> Step
 fn the_phase_and_the_binding_are_restated(rt: HostRuntime) -> Result<(), Fail> {
     let steps = [Asked::Open(2, 1), Asked::Rate(2, 3), Asked::Port(2, 3, 0)];
     let mut kept = kept_after(rt.alloc(), &SMALL, steps.as_slice())?;
-    kept.act(0, &Step::Commit(Commit {
-        session: 2,
-        admission: 3,
-        stream: OVER_PORTS,
-        startup: Some(Startup { conn: 1, number: 7 }),
-    }))?;
+    kept.act(
+        0,
+        &Step::Commit(Commit {
+            session: 2,
+            admission: 3,
+            stream: OVER_PORTS,
+            startup: Some(Startup { conn: 1, number: 7 }),
+        }),
+    )?;
     kept.act(0, &play(1_000))?;
     let playing = "1 open 2 00000000000000000000000000000001 1 60000\n\
         1 bind 2 1 7\n\
@@ -168,11 +181,25 @@ fn the_phase_and_the_binding_are_restated(rt: HostRuntime) -> Result<(), Fail> {
         1 add 2 3 0 0 00000001 0 0 7f000001 8000 8001\n\
         1 move 2 ready:0:0 playing:0:500:0:1000\n";
     assert!(rt; leaves(rt.alloc(), &mut kept, playing)?);
-    kept.act(0, &Step::Pause { session: 2, unit_ms: 20, now: 2_000 })?;
+    kept.act(
+        0,
+        &Step::Pause {
+            session: 2,
+            unit_ms: 20,
+            now: 2_000,
+        },
+    )?;
     kept.checkpoint();
     assert!(rt; kept.journal().len() == 6 && kept.book().owed() == 6);
     kept.act(0, &play(3_000))?;
-    kept.act(0, &Step::Finish { session: 2, unit_ms: 20, now: 60_000 })?;
+    kept.act(
+        0,
+        &Step::Finish {
+            session: 2,
+            unit_ms: 20,
+            now: 60_000,
+        },
+    )?;
     kept.checkpoint();
     assert!(rt; kept.journal().len() == 6 && kept.book().owed() == 6);
     kept.act(0, &step(Asked::End(2)))?;
@@ -195,8 +222,14 @@ fn at_the_greatest_number_nothing_is_done(rt: HostRuntime) -> Result<(), Fail> {
         to: 70_000,
     });
     let entries = [
-        Entry { actor: u64::MAX, change: opening },
-        Entry { actor: 0, change: renewal },
+        Entry {
+            actor: u64::MAX,
+            change: opening,
+        },
+        Entry {
+            actor: 0,
+            change: renewal,
+        },
     ];
     let journal = Vec::from_slice(rt.alloc(), entries.as_slice())?;
     let mut kept: Kept<PlainBook> = replay(rt.alloc(), &SMALL, journal)?;
@@ -240,7 +273,17 @@ fn sixteen_streams_are_restated(rt: HostRuntime) -> Result<(), Fail> {
         let admission = 100 - u64::from(track);
         kept.act(0, &step(Asked::Rate(2, admission)))?;
         kept.act(0, &step(Asked::Pair(2, admission)))?;
-        kept.act(0, &step(Asked::Commit(2, admission, Stream { track, ..OVER_PORTS })))?;
+        kept.act(
+            0,
+            &step(Asked::Commit(
+                2,
+                admission,
+                Stream {
+                    track,
+                    ..OVER_PORTS
+                },
+            )),
+        )?;
     }
     let before = printed(rt.alloc(), &kept)?;
     kept.checkpoint();

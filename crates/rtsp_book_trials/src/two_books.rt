@@ -82,9 +82,11 @@ impl TwoBooks {
         let mut journals = (Vec::new(alloc), Vec::new(alloc));
         write_journal(&mut journals.0, self.plain.journal())?;
         write_journal(&mut journals.1, self.indexed.journal())?;
-        Ok(self.print_alike()?
-            && self.text.1.as_slice() == printed.as_slice()
-            && journals.0.as_slice() == journals.1.as_slice())
+        Ok(
+            self.print_alike()?
+                && self.text.1.as_slice() == printed.as_slice()
+                && journals.0.as_slice() == journals.1.as_slice(),
+        )
     }
 
     // Whether both print the same.

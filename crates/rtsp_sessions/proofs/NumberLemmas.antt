@@ -202,17 +202,17 @@ above_put a k f [] h = above-cons a (k, f) [] h
 above_put a k f (e ∷ es) h =
     by_cases k e.0 (numbers_above a (put nat_cmp k f (e ∷ es)) ≡ inserted k (numbers_above a (e ∷ es)))
     (λ same.
-      let here : is_above a e.0 ≡ true = ap (is_above a) (sym same) ∙ h in
-      ap (numbers_above a) (put_same k f e es same) ∙ above-cons a (e.0, f) es here ∙ sym (ap (inserted k) (above-cons a e es here) ∙ inserted-same k e.0 (numbers_above a es) same))
+    let here : is_above a e.0 ≡ true = ap (is_above a) (sym same) ∙ h in
+    ap (numbers_above a) (put_same k f e es same) ∙ above-cons a (e.0, f) es here ∙ sym (ap (inserted k) (above-cons a e es here) ∙ inserted-same k e.0 (numbers_above a es) same))
     (λ less.
-      let here : is_above a e.0 ≡ true = above_more a k e.0 h less in
-      ap (numbers_above a) (put_less k f e es less) ∙ above-cons a (k, f) (e ∷ es) h ∙ ap (λ (l : List ℕ). k ∷ l) (above-cons a e es here) ∙ sym (ap (inserted k) (above-cons a e es here) ∙ inserted-less k e.0 (numbers_above a es) less))
+    let here : is_above a e.0 ≡ true = above_more a k e.0 h less in
+    ap (numbers_above a) (put_less k f e es less) ∙ above-cons a (k, f) (e ∷ es) h ∙ ap (λ (l : List ℕ). k ∷ l) (above-cons a e es here) ∙ sym (ap (inserted k) (above-cons a e es here) ∙ inserted-less k e.0 (numbers_above a es) less))
     (λ more.
-      ap (numbers_above a) (put_more k f e es more)
-      ∙ elim (is_above a e.0) as (λ t. map (λ e. e.0) (cond t (e ∷ filter (λ e. is_above a e.0) (put nat_cmp k f es)) (filter (λ e. is_above a e.0) (put nat_cmp k f es))) ≡ inserted k (map (λ e. e.0) (cond t (e ∷ filter (λ e. is_above a e.0) es) (filter (λ e. is_above a e.0) es)))) [
-          | true ↦ ap (λ (l : List ℕ). e.0 ∷ l) (above_put a k f es h) ∙ sym (inserted-greater k e.0 (numbers_above a es) more)
-          | false ↦ above_put a k f es h
-      ])
+    ap (numbers_above a) (put_more k f e es more)
+    ∙ elim (is_above a e.0) as (λ t. map (λ e. e.0) (cond t (e ∷ filter (λ e. is_above a e.0) (put nat_cmp k f es)) (filter (λ e. is_above a e.0) (put nat_cmp k f es))) ≡ inserted k (map (λ e. e.0) (cond t (e ∷ filter (λ e. is_above a e.0) es) (filter (λ e. is_above a e.0) es)))) [
+      | true ↦ ap (λ (l : List ℕ). e.0 ∷ l) (above_put a k f es h) ∙ sym (inserted-greater k e.0 (numbers_above a es) more)
+      | false ↦ above_put a k f es h
+    ])
 
 not_above : (a : Option ℕ) (k q : ℕ) → is_above a q ≡ false → k < q → is_above a k ≡ false
 not_above a k q h lt = elim (is_above a k) as (λ t. is_above a k ≡ t → t ≡ false) [ true ↦ λ on. sym (above_more a k q on lt) ∙ h | false ↦ λ _. refl ] refl
@@ -223,15 +223,15 @@ below_put a k f [] h = above-skip a (k, f) [] h
 below_put a k f (e ∷ es) h =
     by_cases k e.0 (numbers_above a (put nat_cmp k f (e ∷ es)) ≡ numbers_above a (e ∷ es))
     (λ same.
-      let here : is_above a e.0 ≡ false = ap (is_above a) (sym same) ∙ h in
-      ap (numbers_above a) (put_same k f e es same) ∙ above-skip a (e.0, f) es here ∙ sym (above-skip a e es here))
+    let here : is_above a e.0 ≡ false = ap (is_above a) (sym same) ∙ h in
+    ap (numbers_above a) (put_same k f e es same) ∙ above-skip a (e.0, f) es here ∙ sym (above-skip a e es here))
     (λ less. ap (numbers_above a) (put_less k f e es less) ∙ above-skip a (k, f) (e ∷ es) h)
     (λ more.
-      ap (numbers_above a) (put_more k f e es more)
-      ∙ elim (is_above a e.0) as (λ t. map (λ e. e.0) (cond t (e ∷ filter (λ e. is_above a e.0) (put nat_cmp k f es)) (filter (λ e. is_above a e.0) (put nat_cmp k f es))) ≡ map (λ e. e.0) (cond t (e ∷ filter (λ e. is_above a e.0) es) (filter (λ e. is_above a e.0) es))) [
-          | true ↦ ap (λ (l : List ℕ). e.0 ∷ l) (below_put a k f es h)
-          | false ↦ below_put a k f es h
-      ])
+    ap (numbers_above a) (put_more k f e es more)
+    ∙ elim (is_above a e.0) as (λ t. map (λ e. e.0) (cond t (e ∷ filter (λ e. is_above a e.0) (put nat_cmp k f es)) (filter (λ e. is_above a e.0) (put nat_cmp k f es))) ≡ map (λ e. e.0) (cond t (e ∷ filter (λ e. is_above a e.0) es) (filter (λ e. is_above a e.0) es))) [
+      | true ↦ ap (λ (l : List ℕ). e.0 ∷ l) (below_put a k f es h)
+      | false ↦ below_put a k f es h
+    ])
 
 -- the first of the rows from a place on, with the row before it
 pub first_more : (a : Option ℕ) (k n : ℕ) (found new : List ℕ) (es : List (ℕ × Session)) (i : ℕ) (e : ℕ × Session) → T (is_sorted nat_cmp (drop i es)) → i < length es → get_or es i e ≡ e → n ≡ e.0 → is_above a n ≡ true
