@@ -24,8 +24,8 @@ mod sweeper;
 mod tools;
 
 pub use limits::{
-    ACCEPT_RETRY, ACCEPTS, ANSWERS, CONNECTIONS, MESSAGE_LIMIT, PATIENCE, PATIENCE_STEP, PAUSE,
-    PIECE, PIECES, SILENCE_LIMIT, SWEEP_EVERY, SWEEP_SESSIONS,
+    ACCEPT_RETRY, ACCEPTS, ANSWERS, CONNECTIONS, MESSAGE_LIMIT, PAUSE, PIECE, PIECES,
+    SILENCE_LIMIT, SWEEP_EVERY, SWEEP_SESSIONS, WAITS,
 };
 pub use rtsp_lanes::{BookHandle, Lane, LaneTurn, PoolEnd, run_pool, whole_of};
 pub use server::{Server, ServerFault};

@@ -29,11 +29,8 @@ pub const SILENCE_LIMIT: u64 = 60_000;
 pub const MESSAGE_LIMIT: u64 = 30_000;
 
 /// How often a lane waits for the others before a piece, where the journal stays more than half full
-/// by sessions that they are setting tracks up in.
-pub const PATIENCE: u32 = 100;
-
-/// How long it waits each time.
-pub const PATIENCE_STEP: u64 = 1;
+/// by sessions that they are setting tracks up in: for a millisecond, then twice as long each time.
+pub const WAITS: u32 = 7;
 
 /// The time between two sweeps.
 pub const SWEEP_EVERY: u64 = 1_000;
