@@ -30,7 +30,7 @@ SESSIONS_OF_A_FLOOD = 8
 
 def least_journal(workers: int, sessions: int, tracks: int) -> int:
     """The least `journal` with which nobody is refused for its sake (docs/OPERATING.md)."""
-    return sessions * (9 * tracks + 11) + 720 * workers + 1000
+    return sessions * (9 * tracks + 11) + 1000 * (workers + 1)
 
 
 class Flood(NamedTuple):
