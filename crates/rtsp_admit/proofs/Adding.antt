@@ -18,7 +18,7 @@ use Rattle.rtsp_lock.specs.declared.view.View.{View}
 use Rattle.rtsp_lock.specs.Entries.{Later}
 use Rattle.rtsp_lock.specs.Calls.{Acted, Looked}
 use Rattle.rtsp_lock.specs.Laws.{Grown}
-use Rattle.rtsp_lock.proofs.Entries.{later_self, later_more, later_then}
+use Rattle.rtsp_lock.proofs.Entries.{prefix_self, prefix_then, later_self, later_more, later_then}
 use Rattle.rtsp_lock.proofs.Runs.{entries_by-append}
 use Rattle.rtsp_admit.specs.declared.failure.Failure.{Failure}
 use Rattle.rtsp_admit.specs.declared.failure.Failure.TheVariants as failure
@@ -31,7 +31,7 @@ use Rattle.rtsp_admit.specs.Runs.{State, with_view, Opened, NotOpened, Held, Rat
 use Rattle.rtsp_admit.specs.Additions.{hold_records, opened_records, rated_records, unreturned_records, returned_records, tried_records, granted_records, ungranted_records, addressed_records, unaddressed_records, failed_records, AdmissionsGrow}
 
 pub grown_self : (v : View) → Grown v v []
-grown_self v = record { whole = refl; actor = refl; next = omega arith; later = later_self v.seen_rounds v.seen; mine = sym (append-nil v.mine) }
+grown_self v = record { whole = refl; actor = refl; next = omega arith; later = later_self v.seen_rounds v.seen; mine = sym (append-nil v.mine); begins = prefix_self v.history; own = λ own. own }
 
 pub grown_none : (v u : View) → u ≡ v → Grown v u []
 grown_none v u same = subst (λ (x : View). Grown v x []) (sym same) (grown_self v)
@@ -43,6 +43,8 @@ grown_acted v u step answer acted = record {
   next = acted.stays.next;
   later = subst (λ (j : List Entry). Later v.seen_rounds v.seen u.seen_rounds j) (sym acted.seen) (later_more v.seen_rounds v.seen u.seen_rounds acted.journal (entries_by v.actor (written answer)) acted.found.later);
   mine = acted.mine;
+  begins = prefix_then v.history acted.history u.history acted.follows.begins (entries_by v.actor (written answer), sym acted.goes_on);
+  own = λ _. acted.stays.follows.mine;
 }
 
 pub grown_looked : (v u : View) → Looked v u → Grown v u []
@@ -52,6 +54,8 @@ grown_looked v u looked = record {
   next = looked.stays.next;
   later = subst (λ (j : List Entry). Later v.seen_rounds v.seen u.seen_rounds j) (sym looked.seen) looked.found.later;
   mine = looked.mine ∙ sym (append-nil v.mine);
+  begins = looked.follows.begins;
+  own = λ _. looked.stays.follows.mine;
 }
 
 pub grown_then : (v u w : View) (rs ss : List Record) → Grown v u rs → Grown u w ss → Grown v w (rs ++ ss)
@@ -68,6 +72,8 @@ grown_then v u w rs ss g h =
           ∙ (ap (λ (l : List Entry). l ++ entries_by v.actor ss) g.mine
           ∙ (append_assoc v.mine (entries_by v.actor rs) (entries_by v.actor ss)
           ∙ ap (λ (l : List Entry). v.mine ++ l) (sym (entries_by-append v.actor rs ss)))));
+      begins = prefix_then v.history u.history w.history g.begins h.begins;
+      own = λ own. h.own (g.own own);
     }
 
 module _ (ask : Ask) where

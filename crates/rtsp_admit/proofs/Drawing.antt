@@ -5,6 +5,7 @@ use Rattle.std.proofs.lemmas.Bool.{cases_eq, ne_eqb}
 use Rattle.std.proofs.lemmas.Option.{none-some, same_Some}
 use Rattle.std.proofs.lemmas.List.Elements.{filter-append}
 use Rattle.std.specs.FinMap.{get, entries}
+use mathlib.Core.List.{IsPrefix}
 use Rattle.rtsp_record.specs.declared.holdings.Admission.{Admission}
 use Rattle.rtsp_record.specs.declared.holdings.Thing.{Thing}
 use Rattle.rtsp_record.specs.declared.holdings.Thing.TheVariants.{Rate}
@@ -19,9 +20,6 @@ use Rattle.rtsp_record.specs.Books.{Session, Book, book_of}
 use Rattle.rtsp_record.specs.Moments.{point, sent_with_due}
 use Rattle.rtsp_record.specs.Records.{holds, adds, moves, touches}
 use Rattle.rtsp_book.specs.declared.asks.Ask.{Ask}
-use Rattle.rtsp_book.specs.declared.asks.Opening.{Opening}
-use Rattle.rtsp_book.specs.declared.asks.Wanted.{Wanted}
-use Rattle.rtsp_book.specs.declared.asks.Wanted.TheVariants as wanted
 use Rattle.rtsp_book.specs.declared.refusals.Refusal.{Refusal}
 use Rattle.rtsp_sessions.specs.declared.startups.Startup.{Startup}
 use Rattle.rtsp_book.specs.declared.steps.Step.{Step}
@@ -42,17 +40,11 @@ use Rattle.rtsp_book.specs.Answers.{written}
 use Rattle.rtsp_lock.specs.Entries.{Has}
 use Rattle.rtsp_lock.specs.Calls.{Acted}
 use Rattle.rtsp_lock.proofs.Entries.{has_none}
-use Rattle.rtsp_admit.specs.declared.failure.Failure.{Failure}
-use Rattle.rtsp_admit.specs.declared.failure.Failure.TheVariants as failure
-use Rattle.rtsp_admit.specs.declared.failure.NoAddress.{NoAddress}
-use Rattle.rtsp_admit.specs.declared.udp_ports.UdpPorts.{UdpPorts}
-use Rattle.rtsp_admit.specs.declared.udp_ports.UdpPorts.TheVariants as udp
 use Rattle.rtsp_admit.specs.Binder.{Calls}
-use Rattle.rtsp_admit.specs.Steps.{chain_left, open_step, rate_step, ports_from, ports_step, chan_step, return_step, commit_step}
-use Rattle.rtsp_admit.specs.Runs.{State, with_view, Opened, NotOpened, Held, Rated, PortsReturned, PortsRefused, Tried, PortsGranted, NoPortsGranted, Addressed, NotAddressed, Fails}
 use Rattle.rtsp_admit.specs.Refused.{is_use_of, uses}
-use Rattle.rtsp_admit.specs.Numbers.{UsesDrawn, admission_of, ActsUseDrawn, DrawsGiveUnused, AdmissionsKeepDrawn}
+use Rattle.rtsp_admit.specs.Numbers.{UsesDrawn, admission_of, ActsUseDrawn, LooksUseDrawn, DrawsGiveUnused, AdmissionsKeepDrawn}
 use Rattle.rtsp_admit.proofs.Going.{made_is}
+use Rattle.rtsp_admit.proofs.Keeping.{admissions_keep}
 
 -- no Hold or Add under this number
 abbrev pub Quiet : ℕ → List Record → Type 0
@@ -162,13 +154,20 @@ has_before [] ys x h = absurd (has_none x h)
 has_before (z ∷ zs) ys x (zero, e) = (zero, e)
 has_before (z ∷ zs) ys x (suc k, e) = let more = has_before zs ys x (k, e) in (suc more.0, more.1)
 
-has_last : (xs : List ℕ) (x : ℕ) → Has (xs ++ x ∷ []) x
+pub has_last : (xs : List ℕ) (x : ℕ) → Has (xs ++ x ∷ []) x
 has_last [] x = (zero, refl)
 has_last (z ∷ zs) x = let more = has_last zs x in (suc more.0, more.1)
 
 pub not_some : {X : Type 0} (l : List X) → (l ≢ [] → ⊥) → l ≡ []
 not_some [] none = refl
 not_some (x ∷ l) none = absurd (none (λ e. absurd cc))
+
+-- a number drawn is among the numbers drawn later
+pub has_later : (xs ys : List ℕ) (x : ℕ) → IsPrefix xs ys → Has xs x → Has ys x
+has_later xs ys x p h = subst (λ l. Has l x) p.1 (has_before xs p.0 x h)
+
+pub looks_use_drawn : LooksUseDrawn
+looks_use_drawn v u own looked n some = has_later v.drawn u.drawn n looked.stays.drawn (own n (λ none. some (ap (uses n) looked.mine ∙ none)))
 
 pub draws_give_unused : DrawsGiveUnused
 draws_give_unused v u n own looked drew = (
@@ -179,84 +178,13 @@ draws_give_unused v u n own looked drew = (
   },
 )
 
-module _ (ask : Ask) where
-  -- a seat that has drawn the number of the admission too
-  abbrev Owns : View → Type 0
-  Owns v = UsesDrawn v × Has v.drawn ask.admission
+-- a seat that has drawn the number of the admission too
+abbrev pub Owns : Ask → View → Type 0
+Owns ask v = UsesDrawn v × Has v.drawn ask.admission
 
-  owns : (v u : View) (step : Step) (answer : Result (List Record) Refusal) → ((x : ℕ) → admission_of step ≡ Some x → x ≡ ask.admission) → Acted v u step answer → Owns v → Owns u
-  owns v u step answer of acted own =
-      (acts_use_drawn v u step answer own.0 (λ x is. subst (Has v.drawn) (sym (of x is)) own.1) acted, subst (λ d. Has d ask.admission) (sym acted.drawn) own.1)
+pub owns : (ask : Ask) (v u : View) (step : Step) (answer : Result (List Record) Refusal) → ((x : ℕ) → admission_of step ≡ Some x → x ≡ ask.admission) → Acted v u step answer → Owns ask v → Owns ask u
+owns ask v u step answer of acted own =
+    (acts_use_drawn v u step answer own.0 (λ x is. subst (Has v.drawn) (sym (of x is)) own.1) acted, subst (λ d. Has d ask.admission) (sym acted.drawn) own.1)
 
-  owns_own : (v u : View) (step : Step) (answer : Result (List Record) Refusal) → admission_of step ≡ Some ask.admission → Acted v u step answer → Owns v → Owns u
-  owns_own v u step answer is acted own = owns v u step answer (λ x there. same_Some x ask.admission (sym there ∙ is)) acted own
-
-  owns_none : (v u : View) (step : Step) (answer : Result (List Record) Refusal) → admission_of step ≡ None → Acted v u step answer → Owns v → Owns u
-  owns_none v u step answer is acted own = owns v u step answer (λ x there. absurd (none-some x (sym is ∙ there))) acted own
-
-  owns_held : (v u : View) (step : Step) (x : Thing) → admission_of step ≡ Some ask.admission → Held ask step x v u → Owns v → Owns u
-  owns_held v u step x is held own = owns_own v u step (Ok (holds ask.session ask.admission x ∷ [])) is held own
-
-  owns_opened : (o : Option Opening) (v u : View) → Opened ask o v u → Owns v → Owns u
-  owns_opened None v u h own = subst Owns (sym h) own
-  owns_opened (Some o) v u h own = owns_none v u (open_step ask o) (Ok h.0) refl h.1 own
-
-  owns_not_opened : (o : Option Opening) (refusal : Refusal) (v u : View) → NotOpened ask o refusal v u → Owns v → Owns u
-  owns_not_opened None refusal v u h own = absurd h
-  owns_not_opened (Some o) refusal v u h own = owns_none v u (open_step ask o) (Err refusal) refl h own
-
-  -- a step for ports names the admission
-  names_ports : (kind : UdpPorts) (from : ℕ) → admission_of (ports_step ask kind from) ≡ Some ask.admission
-  names_ports udp.Pair from = refl
-  names_ports udp.Port from = refl
-
-  owns_rated : (v u : View) → Rated ask v u → Owns v → Owns u
-  owns_rated v u h own = owns_held h.opened u (rate_step ask) (Rate ask.rate) refl h.holds (owns_opened ask.opening v h.opened h.opens own)
-
-module _ {B : Type 0} (calls : Calls B) (ask : Ask) (kind : UdpPorts) where
-  owns_ports : (from : ℕ) (x : Thing) (v u : View) → Held ask (ports_step ask kind from) x v u → Owns ask v → Owns ask u
-  owns_ports from x v u held own = owns_held ask v u (ports_step ask kind from) x (names_ports ask kind from) held own
-
-  owns_returned : (from p : ℕ) (s t : State B) → PortsReturned calls ask kind from p s t → Owns ask s.view → Owns ask t.view
-  owns_returned from p s t h own =
-      owns_none ask h.between t.view (return_step ask (ports_from kind p)) (Ok h.made) refl h.returned (owns_ports from (ports_from kind p) s.view h.between h.held own)
-
-  owns_tried : (before : List ℕ) (from : ℕ) (s t : State B) → Tried calls ask kind before from s t → Owns ask s.view → Owns ask t.view
-  owns_tried [] from s t h own = subst (λ (x : State B). Owns ask x.view) (sym h.1) own
-  owns_tried (p ∷ before) from s t h own = owns_returned h.start p h.between t h.returned (owns_tried before h.start s h.between h.before own)
-
-  owns_ports_refused : (from : ℕ) (refusal : Refusal) (unreturned : Option Thing) (s t : State B) → PortsRefused calls ask kind from refusal unreturned s t → Owns ask s.view → Owns ask t.view
-  owns_ports_refused from refusal None s t h own = owns_own ask s.view t.view (ports_step ask kind from) (Err refusal) (names_ports ask kind from) h.0 own
-  owns_ports_refused from refusal (Some x) s t h own =
-      owns_none ask h.between t.view (return_step ask x) (Err refusal) refl h.refused (owns_ports from x s.view h.between h.held own)
-
-  owns_granted : (x : Thing) (s t : State B) → PortsGranted calls ask kind x s t → Owns ask s.view → Owns ask t.view
-  owns_granted x s t h own = owns_ports h.from (ports_from kind h.first) h.between.view t.view h.last.held (owns_tried h.tried h.from s h.between h.tries own)
-
-  owns_not_granted : (e : NoAddress) (s t : State B) → NoPortsGranted calls ask kind e s t → Owns ask s.view → Owns ask t.view
-  owns_not_granted e s t h own = owns_ports_refused h.from e.refusal e.unreturned h.between t h.last (owns_tried h.tried h.from s h.between h.tries own)
-
-module _ {B : Type 0} (calls : Calls B) (ask : Ask) where
-  owns_addressed : (want : Wanted) (x : Thing) (s t : State B) → Addressed calls ask want x s t → Owns ask s.view → Owns ask t.view
-  owns_addressed wanted.Pair x s t h own = owns_granted calls ask udp.Pair x s t h own
-  owns_addressed wanted.Port x s t h own = owns_granted calls ask udp.Port x s t h own
-  owns_addressed (wanted.Channels conn wish) x s t h own = owns_held ask s.view t.view (chan_step ask conn wish) x refl h.0 own
-
-  owns_not_addressed : (want : Wanted) (e : NoAddress) (s t : State B) → NotAddressed calls ask want e s t → Owns ask s.view → Owns ask t.view
-  owns_not_addressed wanted.Pair e s t h own = owns_not_granted calls ask udp.Pair e s t h own
-  owns_not_addressed wanted.Port e s t h own = owns_not_granted calls ask udp.Port e s t h own
-  owns_not_addressed (wanted.Channels conn wish) e s t h own = owns_own ask s.view t.view (chan_step ask conn wish) (Err e.refusal) refl h.refused own
-
-  owns_fails : (cause : Failure) (s t : State B) → Fails calls ask cause s t → Owns ask s.view → Owns ask t.view
-  owns_fails (failure.Open refusal) s t h own = owns_not_opened ask ask.opening refusal s.view t.view h.0 own
-  owns_fails (failure.Rate refusal) s t h own = owns_own ask h.opened t.view (rate_step ask) (Err refusal) refl h.refused (owns_opened ask ask.opening s.view h.opened h.opens own)
-  owns_fails (failure.Address e) s t h own = owns_not_addressed ask.wanted e (with_view h.rated s) t h.addresses (owns_rated ask s.view h.rated h.rates own)
-  owns_fails (failure.Commit refusal x) s t h own =
-      owns_own ask h.held t.view (commit_step ask) (Err refusal) refl h.refused (owns_addressed ask.wanted x (with_view h.rated s) (with_view h.held t) h.addresses (owns_rated ask s.view h.rated h.rates own))
-
-  pub admissions_keep_drawn : AdmissionsKeepDrawn calls ask
-  admissions_keep_drawn (Ok granted) s t run drawn own =
-      let h = run.0 in
-      (owns_own ask h.held.view t.view (commit_step ask) (Ok h.made) refl h.commits (owns_addressed ask.wanted granted.address (with_view h.rated s) h.held h.addresses (owns_rated ask s.view h.rated h.rates (own, drawn)))).0
-  admissions_keep_drawn (Err refusal) s t run drawn own =
-      (owns_none ask run.broken.view t.view (Unwind (chain_left ask run.cause)) run.answer refl run.unwinds (owns_fails run.cause s run.broken run.fails (own, drawn))).0
+pub admissions_keep_drawn : {B : Type 0} (calls : Calls B) (ask : Ask) → AdmissionsKeepDrawn calls ask
+admissions_keep_drawn calls ask result s t run drawn own = (admissions_keep calls ask (Owns ask) (owns ask) result s t run (own, drawn)).0

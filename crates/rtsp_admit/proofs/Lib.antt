@@ -5,8 +5,10 @@ pub mod Choosing
 pub mod Breaking
 pub mod Unwinding
 pub mod Having
+pub mod Keeping
 pub mod Drawing
 pub mod Counting
 pub mod Sharing
+pub mod Alone
 pub mod Freeing
 pub mod Adding

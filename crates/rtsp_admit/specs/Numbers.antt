@@ -1,5 +1,5 @@
 -- The numbers under which a seat holds and adds. One that it drew itself is used by no other seat that keeps to its own.
-use Rattle.std.specs.Prelude.{◌≡◌, ◌≢◌, ℕ, List, [], Contains, Option, Some, None, Result, Err}
+use Rattle.std.specs.Prelude.{◌≡◌, ◌≢◌, ℕ, true, List, [], Contains, Option, Some, None, Result, Err}
 use Rattle.rtsp_record.specs.declared.changes.Entry.{Entry}
 use Rattle.rtsp_record.specs.declared.changes.Record.{Record}
 use Rattle.rtsp_record.specs.declared.holdings.Whole.{Whole}
@@ -11,6 +11,7 @@ use Rattle.rtsp_book.specs.declared.steps.Step.TheVariants.{HoldRate, HoldPair, 
 use Rattle.rtsp_lock.specs.declared.view.View.{View}
 use Rattle.rtsp_lock.specs.Entries.{Has, OnlyOf}
 use Rattle.rtsp_lock.specs.Calls.{Acted, Looked, Drew}
+use Rattle.rtsp_lock.specs.Rule.{first_view}
 use Rattle.rtsp_lock.specs.Laws.{TwoSeats}
 use Rattle.rtsp_admit.specs.Binder.{Calls}
 use Rattle.rtsp_admit.specs.Refused.{uses, LeftNothing}
@@ -39,6 +40,10 @@ ActsUseDrawn =
     (v u : View) (step : Step) (answer : Result (List Record) Refusal)
     → UsesDrawn v → NamesDrawn v step → Acted v u step answer → UsesDrawn u
 
+-- and over a look
+abbrev pub LooksUseDrawn : Type 0
+LooksUseDrawn = (v u : View) → UsesDrawn v → Looked v u → UsesDrawn u
+
 -- a number just drawn, under which the seat has no Hold or Add
 pub record IsUnused (v : View) (n : ℕ) : Type 0 where
   pub drawn : Has v.drawn n
@@ -55,6 +60,26 @@ KeepsDrawn ask v u = Has v.drawn ask.admission → UsesDrawn v → UsesDrawn u
 -- a refusal under an unused number leaves nothing, where in the journal then seen nobody else has a Hold or Add under it
 abbrev pub LeavesNothingUnused : Ask → View → View → Type 0
 LeavesNothingUnused ask v u = IsUnused v ask.admission → OnlyOf u.actor (uses ask.admission u.seen) → LeftNothing ask v u
+
+-- the only seat of its lock, in whose journal all entries are its own, each Hold and Add under a number that it drew
+pub record OwnsAll (v : View) : Type 0 where
+  pub alone : v.alone ≡ true
+  pub own : OnlyOf v.actor v.seen
+  pub drawn : UsesDrawn v
+
+-- the seat that opens a lock is so, and stays so over looks, draws among them, and over steps that name a number that it drew, or none
+pub record OwnsAllLasts : Type 0 where
+  pub first : (w : Whole) → OwnsAll (first_view w)
+  pub looked : (v u : View) → OwnsAll v → Looked v u → OwnsAll u
+  pub acted : (v u : View) (step : Step) (answer : Result (List Record) Refusal) → OwnsAll v → NamesDrawn v step → Acted v u step answer → OwnsAll u
+
+-- and over an admission under a number that it drew
+abbrev pub KeepsAll : Ask → View → View → Type 0
+KeepsAll ask v u = Has v.drawn ask.admission → OwnsAll v → OwnsAll u
+
+-- of its own admissions nothing is left after a refusal, whatever they are, under an unused number
+abbrev pub LeavesNothingAlone : Ask → View → View → Type 0
+LeavesNothingAlone ask v u = OwnsAll v → IsUnused v ask.admission → LeftNothing ask v u
 
 -- another seat of the lock whose entries bear this actor, and which uses numbers that it drew alone
 pub record DrawingSeat (w : Whole) (u : View) (by : ℕ) : Type 0 where
@@ -79,3 +104,11 @@ module _ {B : Type 0} (calls : Calls B) (ask : Ask) where
   -- so it is with each admission
   abbrev pub AdmissionsKeepDrawn : Type 0
   AdmissionsKeepDrawn = (result : Result Admitted Refusal) (s t : State B) → Admits calls ask result s t → KeepsDrawn ask s.view t.view
+
+  -- so it is with each admission of an only seat
+  abbrev pub AdmissionsKeepAll : Type 0
+  AdmissionsKeepAll = (result : Result Admitted Refusal) (s t : State B) → Admits calls ask result s t → KeepsAll ask s.view t.view
+
+  -- and with each that is refused
+  abbrev pub RefusalsLeaveNothingAlone : Type 0
+  RefusalsLeaveNothingAlone = (refusal : Refusal) (s t : State B) → Admits calls ask (Err refusal) s t → LeavesNothingAlone ask s.view t.view

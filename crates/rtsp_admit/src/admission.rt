@@ -9,13 +9,13 @@ ghost use Rattle.rtsp_admit.specs.Runs.{state_of, Addressed, NotAddressed, Compl
 ghost use Rattle.rtsp_admit.specs.Refused.{LeavesNothing};
 ghost use Rattle.rtsp_admit.specs.Addresses.{KeepsAddresses, GainsAddress};
 ghost use Rattle.rtsp_admit.specs.Faults.{CountsFaults};
-ghost use Rattle.rtsp_admit.specs.Numbers.{KeepsDrawn, LeavesNothingUnused};
+ghost use Rattle.rtsp_admit.specs.Numbers.{KeepsDrawn, LeavesNothingUnused, KeepsAll, LeavesNothingAlone};
 
 use crate::binder::{Binder, release, unbind_freed};
 use crate::failure::{Failure, NoAddress};
 use crate::laws::{
-    law_admitted_address, law_admitted_keeps_drawn, law_faults_counted, law_refused,
-    law_refused_addresses, law_refused_unused,
+    law_admitted_address, law_admitted_keeps_all, law_admitted_keeps_drawn, law_faults_counted,
+    law_refused, law_refused_addresses, law_refused_alone, law_refused_unused,
 };
 use crate::ports::grant_ports;
 use crate::steps::{commit_step, hold_channels, hold_rate, open};
@@ -145,6 +145,7 @@ pub fn admit<R: Wait, B: Binder>(
     // A refusal leaves nothing of the admission, and the binder has what it had.
     ensures nothing { OnErr result (LeavesNothing ask.now (seat_view seat.old) (seat_view seat.new)) }
     ensures unused { OnErr result (LeavesNothingUnused ask.now (seat_view seat.old) (seat_view seat.new)) }
+    ensures alone { OnErr result (LeavesNothingAlone ask.now (seat_view seat.old) (seat_view seat.new)) }
     ensures released { OnErr result (KeepsAddresses B.calls binder.old binder.new) }
 
     // What is granted is bound, and what the Commit freed is not.
@@ -155,9 +156,11 @@ pub fn admit<R: Wait, B: Binder>(
 
     // A seat that uses its own numbers alone goes on so.
     ensures drawn { KeepsDrawn ask.now (seat_view seat.old) (seat_view seat.new) }
+    ensures owns { KeepsAll ask.now (seat_view seat.old) (seat_view seat.new) }
 {
     law_faults_counted::<B>(ask);
     law_admitted_keeps_drawn::<B>(ask);
+    law_admitted_keeps_all::<B>(ask);
     match attempt(rt, seat, lock, binder, ask) {
         Ok(granted) => {
             law_admitted_address::<B>(ask);
@@ -166,6 +169,7 @@ pub fn admit<R: Wait, B: Binder>(
         Err(refusal) => {
             law_refused::<B>(ask);
             law_refused_unused::<B>(ask);
+            law_refused_alone::<B>(ask);
             law_refused_addresses::<B>(ask);
             Err(refusal)
         }

@@ -4,7 +4,8 @@ ghost use Rattle.rtsp_admit.specs.Additions.{AdmissionsGrow};
 ghost use Rattle.rtsp_admit.specs.Refused.{RefusalsLeaveNothing};
 ghost use Rattle.rtsp_admit.specs.Addresses.{RefusalsKeepAddresses, AdmissionsGainAddress};
 ghost use Rattle.rtsp_admit.specs.Faults.{AdmissionsCountFaults};
-ghost use Rattle.rtsp_admit.specs.Numbers.{ActsUseDrawn, DrawsGiveUnused, DrawnUsedAlone, AdmissionsKeepDrawn, RefusalsLeaveNothingUnused};
+ghost use Rattle.rtsp_admit.specs.Numbers.{ActsUseDrawn, LooksUseDrawn, DrawsGiveUnused, DrawnUsedAlone, AdmissionsKeepDrawn, RefusalsLeaveNothingUnused};
+ghost use Rattle.rtsp_admit.specs.Numbers.{OwnsAllLasts, AdmissionsKeepAll, RefusalsLeaveNothingAlone};
 
 use crate::binder::Binder;
 use rtsp_book::Ask;
@@ -47,6 +48,11 @@ pub fn law_acts_use_drawn()
     ensures { ActsUseDrawn }
 {}
 
+/// It stays so over a look.
+pub fn law_looks_use_drawn()
+    ensures { LooksUseDrawn }
+{}
+
 /// It stays so over a draw, and has no Hold or Add under the number drawn.
 pub fn law_drawn_is_unused()
     ensures { DrawsGiveUnused }
@@ -64,8 +70,25 @@ pub fn law_admitted_keeps_drawn<B: Binder>(ask: &Ask)
     ensures { AdmissionsKeepDrawn B.calls ask.now }
 {}
 
-/// Over an admission what its seat has seen comes after what it had seen before, and its entries
-/// grow by the records of the replies to its steps and by nothing else.
+/// The seat that opens a lock finds a journal of its own entries alone, and uses numbers that it
+/// drew, as long as it is the only one and names such numbers. A checkpoint would end that, whose
+/// entries are nobody's.
+pub fn law_owns_all()
+    ensures { OwnsAllLasts }
+{}
+
+/// So it is over an admission under a number that it drew.
+pub fn law_admitted_keeps_all<B: Binder>(ask: &Ask)
+    ensures { AdmissionsKeepAll B.calls ask.now }
+{}
+
+/// A refused admission of such a seat leaves nothing, under a number that it drew and had not used.
+pub fn law_refused_alone<B: Binder>(ask: &Ask)
+    ensures { RefusalsLeaveNothingAlone B.calls ask.now }
+{}
+
+/// Over an admission what its seat has seen of the history goes on by the records of the replies to
+/// its steps, among the entries of others, and its own entries grow by these and by nothing else.
 pub fn law_admitted_grows<B: Binder>(ask: &Ask)
     ensures { AdmissionsGrow B.calls ask.now }
 {}

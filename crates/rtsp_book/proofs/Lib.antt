@@ -10,3 +10,6 @@ pub mod Owing
 pub mod Replying
 pub mod Keeping
 pub mod LeavingOut
+pub mod AllEnds
+pub mod Restating
+pub mod Noting

@@ -8,3 +8,4 @@ pub mod Cases
 pub mod Owed
 pub mod Kept
 pub mod Answers
+pub mod Checkpoints

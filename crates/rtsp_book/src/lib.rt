@@ -12,6 +12,7 @@
 #![tactic(auto)]
 
 mod asks;
+mod checkpoints;
 mod forgetting;
 mod kept;
 mod laws;
@@ -21,6 +22,7 @@ mod refusals;
 mod reply;
 mod steps;
 
+pub use checkpoints::CHECKPOINT_SLACK;
 pub use asks::{Admitted, Ask, Opening, Wanted};
 pub use kept::{Kept, NumbersSpent};
 pub use laws::{law_giving_back, law_granted};

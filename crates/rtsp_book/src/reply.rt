@@ -18,6 +18,7 @@ use crate::receipts::Receipt;
 use crate::refusals::Refusal;
 use crate::steps::Step;
 pub(crate) use case::Case;
+pub(crate) use returning::end;
 use rtsp_sessions::BookRep;
 pub(crate) use sessions::is_opening;
 

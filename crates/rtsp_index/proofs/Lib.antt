@@ -6,3 +6,4 @@ pub mod SearchLemmas
 pub mod NameLemmas
 pub mod OnConnLemmas
 pub mod AgreeLemmas
+pub mod AboveLemmas

@@ -1,16 +1,17 @@
 -- What sessions are searched by, and the least that passes.
-use Rattle.std.specs.Prelude.{◌≡◌, ℕ, ◌<◌, ◌≤◌, Bool, true, nat_le, IfSome, List, Option, Some, None, slice_get}
+use Rattle.std.specs.Prelude.{◌≡◌, ℕ, ◌<◌, ◌≤◌, Bool, true, not, nat_le, IfSome, List, Option, Some, None, slice_get}
 use Rattle.std.specs.FinMap.{get}
 use Rattle.rtsp_record.specs.Books.{Session, Book}
-use Rattle.rtsp_sessions.specs.Searches.{is_expired, is_on}
+use Rattle.rtsp_sessions.specs.Searches.{is_settled, is_expired, is_on}
 use Rattle.rtsp_index.specs.declared.search.Search.{Search}
-use Rattle.rtsp_index.specs.declared.search.Search.TheVariants.{From, Expired, OnConn}
+use Rattle.rtsp_index.specs.declared.search.Search.TheVariants.{From, Expired, OnConn, Unsettled}
 
 -- the session is one that is searched
 abbrev pub passes : Search → ℕ × Session → Bool
 passes (From n) e = nat_le n e.0
 passes (Expired now) e = is_expired now e
 passes (OnConn c) e = is_on c e
+passes Unsettled e = not (is_settled e.1)
 
 -- the session of this number lives, and passes
 abbrev pub Passes : (ℕ × Session → Bool) → Book → ℕ → Type 0

@@ -6,7 +6,7 @@ ghost use Rattle.rtsp_index.specs.Agreeing.{book_in, AllAgree};
 use crate::parts::Parts;
 use crate::search::Search;
 use rtsp_record::{Record, Whole};
-use rtsp_sessions::{BookRep, SessionView};
+use rtsp_sessions::{BookRep, SessionNumbers, SessionView};
 use std::alloc::{AllocError, Global};
 use std::marker::Model;
 
@@ -14,8 +14,8 @@ use std::marker::Model;
 /// however many sessions live, and so do the choices and sums; of a record that opens or closes a
 /// session or moves its expiry, a part grows with the logarithm of their number. `due` and
 /// `on_conn` cost the same where they answer `None`. Where they find a session, and in
-/// `next_session`, all sessions are gone through: by their numbers and expiries alone, but for
-/// `on_conn`, which reads each row.
+/// `next_session` and `next_sessions`, all sessions are gone through: by their numbers and expiries
+/// alone, but for `on_conn` and `unsettled`, which read each row.
 ///
 /// The parts stand on the heap, so a book is moved as one address.
 #[derive(Drop)]
@@ -88,6 +88,14 @@ impl BookRep for IndexedBook {
 
     fn next_session(&self, from: u64) -> Option<u64> {
         self.parts().sessions.least(&Search::From(from))
+    }
+
+    fn next_sessions(&self, above: Option<u64>, found: &mut SessionNumbers) {
+        self.parts().sessions.least_above(above, found)
+    }
+
+    fn unsettled(&self) -> Option<u64> {
+        self.parts().sessions.least(&Search::Unsettled)
     }
 
     fn by_id(&self, id: u128) -> Option<u64> {

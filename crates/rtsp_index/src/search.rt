@@ -9,4 +9,6 @@ pub(crate) enum Search {
     Expired(u64),
     /// Channels or a binding of this connection.
     OnConn(u64),
+    /// A SETUP that is under way.
+    Unsettled,
 }

@@ -1,13 +1,14 @@
 //! The table of living sessions, by number.
 
-ghost use Rattle.std.specs.Prelude.{◌≡◌, ◌+◌, ◌<◌, ◌≤◌, ℕ, nat_eq, Some, None, IsSome, IfSome, is_some, IsTrue, IsOk, OnOk, option_copied, slice_get, ◌⊎◌};
+ghost use Rattle.std.specs.Prelude.{◌≡◌, ◌+◌, ◌<◌, ◌≤◌, ℕ, nat_eq, Some, None, IsSome, IfSome, is_some, IsTrue, IsOk, OnOk, option_copied, slice_get, take, length, ◌⊎◌};
 ghost use Rattle.std.specs.FinMap.{get, empty, entries};
 ghost use Rattle.indexmap.specs.IndexMap.{get as get_place};
+ghost use Rattle.slab.specs.Slab.{get as row_in};
 ghost use Rattle.rtsp_record.specs.Tables.{set};
 ghost use Rattle.rtsp_record.specs.Books.{Session, effect, after};
 ghost use Rattle.rtsp_record.specs.Sums.{one_if};
 ghost use Rattle.rtsp_record.specs.Rules.{Living};
-ghost use Rattle.rtsp_sessions.specs.Lookups.{session_at, number_of, expired_in};
+ghost use Rattle.rtsp_sessions.specs.Lookups.{session_at, number_of, numbers_above, expired_in};
 ghost use Rattle.rtsp_sessions.specs.Plain.{RoomFor, FitsIn, is_open};
 ghost use Rattle.rtsp_index.specs.Placing.{IsPlaced};
 ghost use Rattle.rtsp_index.specs.Dating.{AreDated};
@@ -17,7 +18,7 @@ use crate::moments::Moments;
 use crate::search::Search;
 use indexmap::IndexMap;
 use rtsp_record::Record;
-use rtsp_sessions::SessionView;
+use rtsp_sessions::{SessionNumbers, SessionView, is_above};
 use slab::Slab;
 use std::alloc::{AllocError, Global};
 
@@ -34,7 +35,7 @@ pub(crate) struct SessionTable {
 }
 
 impl SessionTable {
-    ghost use Rattle.rtsp_index.specs.Contents.{sessions_in, HasRoom};
+    ghost use Rattle.rtsp_index.specs.Contents.{sessions_in, sessions_of_first, StandsAt, HasRoom};
 
     /// No session.
     pub(crate) fn new(alloc: Global) -> Self
@@ -146,7 +147,7 @@ impl SessionTable {
     }
 
     // Whether the session of this number, which has this place, is one that is searched. Its row is
-    // read only for what the connection has of it.
+    // read only for what the connection has of it, and for its admissions.
     fn takes(&self, search: &Search, session: u64, place: usize) -> bool
         requires { get_place nat_eq self.now.places session ≡ Some place }
         ensures { (f : Session) → get (sessions_in self.now) session ≡ Some f → result ≡ passes search.now (session, f) }
@@ -154,10 +155,19 @@ impl SessionTable {
         match *search {
             Search::From(least) => least <= session,
             Search::Expired(moment) => self.expiries.at(place) <= moment,
-            Search::OnConn(conn) => match self.rows.get(place) {
-                Some(view) => view.is_on(conn),
-                None => unreachable!(),
-            },
+            Search::OnConn(conn) => self.view_at(place).is_on(conn),
+            Search::Unsettled => !self.view_at(place).is_settled(),
+        }
+    }
+
+    // The row of a place that has one.
+    fn view_at(&self, place: usize) -> &SessionView
+        requires { IsSome (row_in self.now.rows place) }
+        ensures { Some result.now ≡ row_in self.now.rows place }
+    {
+        match self.rows.get(place) {
+            Some(view) => view,
+            None => unreachable!(),
         }
     }
 
@@ -183,6 +193,41 @@ impl SessionTable {
             least = lesser(least, self.searched_at(index, search));
         }
         least
+    }
+
+    /// The least numbers of sessions above this one, or of all, at most 64. It looks at all numbers,
+    /// and at no row.
+    pub(crate) fn least_above(&self, above: Option<u64>, found: &mut SessionNumbers)
+        ensures { found.new ≡ take 64 (numbers_above above (entries (sessions_in self.now))) }
+    {
+        found.clear();
+        for index in 0..self.places.len() {
+            self.put_above(index, above, found);
+        }
+    }
+
+    // Puts the number at this place in the order of the look-ups among those before it, where it is
+    // above.
+    fn put_above(&self, index: usize, above: Option<u64>, found: &mut SessionNumbers)
+        requires within { index < length self.now.places.entries }
+        requires before { found.old ≡ take 64 (numbers_above above (entries (sessions_of_first self.now index))) }
+        ensures { found.new ≡ take 64 (numbers_above above (entries (sessions_of_first self.now (index + 1)))) }
+    {
+        let number = self.number_at(index);
+        if is_above(above, number) {
+            found.insert(number);
+        }
+    }
+
+    // The number at this place in the order of the look-ups.
+    fn number_at(&self, index: usize) -> u64
+        requires { index < length self.now.places.entries }
+        ensures { StandsAt self.now index result }
+    {
+        match self.places.get_index(index) {
+            Some(entry) => *entry.0,
+            None => unreachable!(),
+        }
     }
 
     /// The least number of a session whose expiry is at this moment or before, in milliseconds.

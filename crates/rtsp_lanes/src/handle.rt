@@ -2,7 +2,7 @@
 
 ghost use Rattle.std.specs.Prelude.{◌≡◌, IfSome};
 ghost use Rattle.std.specs.Arc.{arc_value};
-ghost use Rattle.rtsp_lock.specs.Calls.{IsSeatOf, SameSeat, Looked, Drew, Forgot, Made, seat_view};
+ghost use Rattle.rtsp_lock.specs.Calls.{IsSeatOf, SameSeat, Looked, Drew, Forgot, Checked, Relieved, Made, seat_view};
 
 use rtsp_lock::{BookLock, BookSeat};
 use std::sync::{Arc, Wait};
@@ -58,5 +58,25 @@ impl BookHandle {
         ensures forgot { Forgot (seat_view self.old.seat) (seat_view self.new.seat) }
     {
         self.seat.forget(rt, &self.lock);
+    }
+
+    /// Makes a checkpoint: each session of which no SETUP is under way stands in the journal by
+    /// what makes it, and no more by all that it did.
+    pub fn checkpoint<R: Wait>(&mut self, rt: &R)
+        ensures same { SameSeat self.old.seat self.new.seat }
+        ensures lock { arc_value self.new.lock ≡ arc_value self.old.lock }
+        ensures checked { Checked (seat_view self.old.seat) (seat_view self.new.seat) }
+    {
+        self.seat.checkpoint(rt, &self.lock);
+    }
+
+    /// Makes a checkpoint where it pays, with more entries than `above`, and tells whether one was
+    /// due. Where none is, the lock is held for a moment only.
+    pub fn relieve<R: Wait>(&mut self, rt: &R, above: usize) -> bool
+        ensures same { SameSeat self.old.seat self.new.seat }
+        ensures lock { arc_value self.new.lock ≡ arc_value self.old.lock }
+        ensures relieved { Relieved above result (seat_view self.old.seat) (seat_view self.new.seat) }
+    {
+        self.seat.relieve(rt, &self.lock, above)
     }
 }

@@ -1,5 +1,6 @@
 -- What a call promises, from what it found and what it put back.
-use Rattle.std.proofs.Common.{◌≡◌, ℕ, ◌+◌, ◌-◌, ◌≤◌, ◌<◌, ⊎_elim, inl, inr, List, [], ◌∷◌, ◌++◌, length, drop, ap, sym, ◌∙◌, subst, arith, append-nil, le_refl, refl, Option, Result, Ok, Err, IfOk, OnErr}
+use mathlib.Core.List.{IsPrefix}
+use Rattle.std.proofs.Common.{◌≡◌, ◌≢◌, true, ℕ, ◌+◌, ◌-◌, ◌≤◌, ◌<◌, ⊎_elim, inl, inr, List, [], ◌∷◌, ◌++◌, length, drop, ap, sym, ◌∙◌, subst, arith, append-nil, le_refl, refl, Option, Result, Ok, Err, IfOk, OnErr}
 use Rattle.std.proofs.Math.Seq.{drop-append_seam}
 use Rattle.std.proofs.Math.ListN.{drop_of_length-le}
 use Rattle.atomic_table.specs.Table.{Me}
@@ -19,12 +20,13 @@ use Rattle.rtsp_book.specs.Kept.{History, history, entries_by, extended, shorten
 use Rattle.rtsp_book.proofs.LeavingOut.{either_way}
 use Rattle.rtsp_book.specs.Answers.{Answers, written, noted_by}
 use Rattle.rtsp_lock.specs.declared.view.View.{View}
-use Rattle.rtsp_lock.specs.Entries.{entries_of, Later, LeftOf}
+use Rattle.rtsp_lock.specs.Entries.{entries_of, OnlyOf, Later, LeftOf, IsHistoryOf}
 use Rattle.rtsp_lock.specs.Rule.{Fits, Leaves, first_view}
-use Rattle.rtsp_lock.specs.Steps.{holding, noting, settled, parent, child, numbers}
+use Rattle.rtsp_lock.specs.Steps.{Follows, holding, noting, settled, parent, child, numbers}
 use Rattle.rtsp_lock.specs.Calls.{Found, Stays, Acted, Looked, Drew, Made, Forgot}
-use Rattle.rtsp_lock.proofs.Entries.{later_self, left_own, left_ended, left_none, only_by}
+use Rattle.rtsp_lock.proofs.Entries.{prefix_self, later_self, left_own, left_ended, left_none, only_by}
 use Rattle.rtsp_lock.proofs.Holder.{ended_shorter}
+use Rattle.rtsp_lock.proofs.Histories.{history_more, history_ended, history_same, own_more}
 
 -- the view of a seat that is known
 pub view_is : {m m' : Me (Option History) View} → m ≡ m' → m.0 ≡ m'.0
@@ -44,26 +46,29 @@ pub finds : (v : View) (k : History) → k.whole ≡ v.whole → Lawful k → Fi
 finds v k whole lawful fits = let l = lawful_in v.whole k whole lawful in record { legal = l.0; limit = l.1; later = fits.later; mine = fits.mine }
 
 -- the view of a seat that holds a book
-abbrev pub held_as : View → History → View
-held_as v k = holding v k.journal k.next k.rounds
+abbrev pub held_as : View → List Entry → History → View
+held_as v s k = holding v s k.journal k.next k.rounds
 
 -- the view of a seat that notes a book
 abbrev pub noted_as : View → History → View
 noted_as v k = noting v k.journal k.next k.rounds
 
 -- the view of a seat that found a book and left another one with entries of its own
-pub record After (v v' : View) (k k' : History) (es : List Entry) : Type 0 where
+pub record After (v v' : View) (s : List Entry) (k k' : History) (es : List Entry) : Type 0 where
   pub whole : v'.whole ≡ v.whole
   pub actor : v'.actor ≡ v.actor
   pub seen : v'.seen ≡ k'.journal
   pub rounds : v'.seen_rounds ≡ k'.rounds
   pub mine : v'.mine ≡ v.mine ++ es
   pub next : v'.next ≡ k'.next
+  pub history : v'.history ≡ s ++ es
+  pub drawn : IsPrefix v.drawn v'.drawn
+  pub alone : v'.alone ≡ v.alone
 
-pub after : (v v' v1 v2 : View) (k k' : History) (es : List Entry) → v1 ≡ held_as v k → v2 ≡ noted_as v1 k' → v' ≡ settled v2 → drop (length k.journal) k'.journal ≡ es
-    → After v v' k k' es × (v'.drawn ≡ v.drawn ++ numbers k.next (k'.next - k.next))
-after v v' v1 v2 k k' es held noted put more =
-    let e : v' ≡ settled (noted_as (held_as v k) k') = put ∙ ap settled (noted ∙ ap (λ (x : View). noted_as x k') held) in (
+pub after : (v v' v1 v2 : View) (s : List Entry) (k k' : History) (es : List Entry) → v1 ≡ held_as v s k → v2 ≡ noted_as v1 k' → v' ≡ settled v2 → drop (length k.journal) k'.journal ≡ es
+    → After v v' s k k' es × (v'.drawn ≡ v.drawn ++ numbers k.next (k'.next - k.next))
+after v v' v1 v2 s k k' es held noted put more =
+    let e : v' ≡ settled (noted_as (held_as v s k) k') = put ∙ ap settled (noted ∙ ap (λ (x : View). noted_as x k') held) in (
       record {
         whole = ap (λ (x : View). x.whole) e;
         actor = ap (λ (x : View). x.actor) e;
@@ -71,9 +76,16 @@ after v v' v1 v2 k k' es held noted put more =
         rounds = ap (λ (x : View). x.seen_rounds) e;
         mine = ap (λ (x : View). x.mine) e ∙ ap (λ (l : List Entry). v.mine ++ l) more;
         next = ap (λ (x : View). x.next) e;
+        history = ap (λ (x : View). x.history) e ∙ ap (λ (l : List Entry). s ++ l) more;
+        drawn = (numbers k.next (k'.next - k.next), sym (ap (λ (x : View). x.drawn) e));
+        alone = ap (λ (x : View). x.alone) e;
       },
       ap (λ (x : View). x.drawn) e,
     )
+
+-- the same, told of the seat as it was before
+pub after_alone : {v v' : View} {s : List Entry} {k k' : History} {es : List Entry} → After v v' s k k' es → After v (record v' { alone = v.alone }) s k k' es
+after_alone a = record { whole = a.whole; actor = a.actor; seen = a.seen; rounds = a.rounds; mine = a.mine; next = a.next; history = a.history; drawn = a.drawn; alone = refl }
 
 -- what stands behind what was found, where entries were added
 pub added_is : (j j' es : List Entry) → j' ≡ j ++ es → drop (length j) j' ≡ es
@@ -88,13 +100,13 @@ pub ended_is : (j j' : List Entry) → j' ≡ less_ended j → drop (length j) j
 ended_is j j' ended = ap (λ (l : List Entry). drop (length j) l) ended ∙ drop_of_length-le (less_ended j) (ended_shorter j)
 
 -- where nothing is noted, what was found is what is left
-pub unnoted : (v v1 : View) (k : History) → v1 ≡ held_as v k → v1 ≡ noted_as v1 k
-unnoted v v1 k held = held ∙ sym (ap (λ (x : View). noted_as x k) held)
+pub unnoted : (v v1 : View) (s : List Entry) (k : History) → v1 ≡ held_as v s k → v1 ≡ noted_as v1 k
+unnoted v v1 s k held = held ∙ sym (ap (λ (x : View). noted_as x k) held)
 
 -- the same where a seat was made
-pub after_cut : (v v' v1 v2 v3 : View) (k k' : History) → v1 ≡ held_as v k → v2 ≡ noted_as v1 k' → v3 ≡ parent v2 → v' ≡ settled v3 → k'.journal ≡ k.journal → After v v' k k' []
-after_cut v v' v1 v2 v3 k k' held noted cut put same =
-    let e : v' ≡ settled (parent (noted_as (held_as v k) k')) = put ∙ ap settled (cut ∙ ap parent (noted ∙ ap (λ (x : View). noted_as x k') held)) in
+pub after_cut : (v v' v1 v2 v3 : View) (s : List Entry) (k k' : History) → v1 ≡ held_as v s k → v2 ≡ noted_as v1 k' → v3 ≡ parent v2 → v' ≡ settled v3 → k'.journal ≡ k.journal → After v (record v' { alone = v.alone }) s k k' []
+after_cut v v' v1 v2 v3 s k k' held noted cut put same =
+    let e : v' ≡ settled (parent (noted_as (held_as v s k) k')) = put ∙ ap settled (cut ∙ ap parent (noted ∙ ap (λ (x : View). noted_as x k') held)) in
     record {
       whole = ap (λ (x : View). x.whole) e;
       actor = ap (λ (x : View). x.actor) e;
@@ -102,11 +114,22 @@ after_cut v v' v1 v2 v3 k k' held noted cut put same =
       rounds = ap (λ (x : View). x.seen_rounds) e;
       mine = ap (λ (x : View). x.mine) e ∙ ap (λ (l : List Entry). v.mine ++ l) (same_is k.journal k'.journal same);
       next = ap (λ (x : View). x.next) e;
+      history = ap (λ (x : View). x.history) e ∙ ap (λ (l : List Entry). s ++ l) (same_is k.journal k'.journal same);
+      drawn = (numbers k'.next (k'.next - k'.next), sym (ap (λ (x : View). x.drawn) e));
+      alone = refl;
     }
 
+-- what a seat has follows once its own entries stand behind the history
+follows_now : (v v' : View) (s : List Entry) (k k' : History) (es : List Entry) → After v v' s k k' es → Follows v s k.journal → IsHistoryOf v.whole (s ++ es) k'.journal → OnlyOf v.actor es → Follows v' v'.history v'.seen
+follows_now v v' s k k' es a follows told own = record {
+  is = subst (λ (j : List Entry). IsHistoryOf v'.whole v'.history j) (sym a.seen) (subst (λ (l : List Entry). IsHistoryOf v'.whole l k'.journal) (sym a.history) (subst (λ (w : Whole). IsHistoryOf w (s ++ es) k'.journal) (sym a.whole) told));
+  begins = prefix_self v'.history;
+  mine = a.mine ∙ (ap (λ (l : List Entry). l ++ es) follows.mine ∙ (own_more v.actor s es own ∙ (λ i. entries_of (sym a.actor i) (sym a.history i))));
+}
+
 -- what stays of a seat
-pub stays : (v v' : View) (k k' : History) (es : List Entry) → After v v' k k' es → k'.whole ≡ v.whole → Lawful k' → Fits v.whole k.journal k.next k.rounds v → LeftOf (v.mine ++ es) (entries_of v.actor k'.journal) → k.next ≤ k'.next → Stays v v'
-stays v v' k k' es a whole lawful fits left up =
+pub stays : (v v' : View) (s : List Entry) (k k' : History) (es : List Entry) → After v v' s k k' es → Follows v s k.journal → IsHistoryOf v.whole (s ++ es) k'.journal → OnlyOf v.actor es → k'.whole ≡ v.whole → Lawful k' → Fits v.whole k.journal k.next k.rounds v → LeftOf (v.mine ++ es) (entries_of v.actor k'.journal) → k.next ≤ k'.next → Stays v v'
+stays v v' s k k' es a follows told own whole lawful fits left up =
     let same : k'.whole ≡ v'.whole = whole ∙ sym a.whole in
     let l = lawful_in v'.whole k' same lawful in
     let le = fits.next in
@@ -120,7 +143,9 @@ stays v v' k k' es a whole lawful fits left up =
       whole = a.whole;
       actor = a.actor;
       next = omega (arith, le, up, next);
+      drawn = a.drawn;
       stands = subst (λ (j : List Entry). Found v' j v'.seen_rounds) (sym a.seen) (subst (λ (q : ℕ). Found v' k'.journal q) (sym a.rounds) (record { legal = l.0; limit = l.1; later = later; mine = mine }));
+      follows = follows_now v v' s k k' es a follows told own;
     }
 
 -- what an act leaves, accepted or refused
@@ -128,31 +153,36 @@ pub act_leaves : (k k' : History) (actor : ℕ) (answer : Result (List Record) R
 act_leaves k k' actor (Ok made) noted = noted
 act_leaves k k' actor (Err r) noted = noted ∙ ap (λ (j : List Entry). history k.whole j k.next k.rounds) (sym (append-nil k.journal))
 
-numbers_none : (a b : ℕ) → b ≡ a → numbers a (b - a) ≡ []
+pub numbers_none : (a b : ℕ) → b ≡ a → numbers a (b - a) ≡ []
 numbers_none a b e = let none : b - a ≡ 0 = omega (arith, e) in ap (numbers a) none
 
 numbers_one : (a b : ℕ) → b ≡ a + 1 → numbers a (b - a) ≡ a ∷ []
 numbers_one a b e = let one : b - a ≡ 1 = omega (arith, e) in ap (numbers a) one
 
 -- a seat's turn: it holds a book, notes what it leaves, and puts that back
-pub record Turn (v v1 v2 v' : View) (k k' : History) : Type 0 where
-  pub held : v1 ≡ held_as v k
+pub record Turn (v v1 v2 v' : View) (s : List Entry) (k k' : History) : Type 0 where
+  pub held : v1 ≡ held_as v s k
+  pub follows : Follows v s k.journal
   pub noted : v2 ≡ noted_as v1 k'
   pub put : v' ≡ settled v2
   pub whole : k.whole ≡ v.whole
   pub lawful : Lawful k
   pub left : Lawful k'
   pub fits : Fits v.whole k.journal k.next k.rounds v
+  pub alone : v.alone ≡ true → k.journal ≡ v.seen
 
 -- a turn in which a step was answered
-pub acts : {v v1 v2 v' : View} {k k' : History} (actor : ℕ) (step : Step) (answer : Result (List Record) Refusal) → Turn v v1 v2 v' k k' → actor ≡ v.actor → Answers k.whole k.journal step answer → k' ≡ noted_by actor k answer → Acted v v' step answer
-acts {v = v} {v1 = v1} {v2 = v2} {v' = v'} {k = k} {k' = k'} actor step answer t is answers noted =
+pub acts : {v v1 v2 v' : View} {s : List Entry} {k k' : History} (actor : ℕ) (step : Step) (answer : Result (List Record) Refusal) → Turn v v1 v2 v' s k k' → actor ≡ v.actor → Answers k.whole k.journal step answer → k' ≡ noted_by actor k answer → Acted v v' step answer
+acts {v = v} {v1 = v1} {v2 = v2} {v' = v'} {s = s} {k = k} {k' = k'} actor step answer t is answers noted =
     let leaves = act_leaves k k' actor answer noted in
     let es = entries_by v.actor (written answer) in
     let more : k'.journal ≡ k.journal ++ es = ap (λ (h : History). h.journal) leaves ∙ ap (λ (n : ℕ). k.journal ++ entries_by n (written answer)) is in
     let same : k'.next ≡ k.next = ap (λ (h : History). h.next) leaves in
     let of : k'.whole ≡ v.whole = ap (λ (h : History). h.whole) leaves ∙ t.whole in
-    let a = after v v' v1 v2 k k' es t.held t.noted t.put (added_is k.journal k'.journal es more) in
+    let own = only_by v.actor (written answer) in
+    let told : IsHistoryOf v.whole (s ++ es) k'.journal =
+    subst (λ (j : List Entry). IsHistoryOf v.whole (s ++ es) j) (sym more) (history_more v.whole s k.journal es t.follows.is (subst (IsLegal v.whole) more (lawful_in v.whole k' of t.left).0)) in
+    let a = after v v' v1 v2 s k k' es t.held t.noted t.put (added_is k.journal k'.journal es more) in
     let rounds : v'.seen_rounds ≡ k.rounds = a.0.rounds ∙ ap (λ (h : History). h.rounds) leaves in
     let left : LeftOf (v.mine ++ es) (entries_of v.actor k'.journal) =
     subst (λ (j : List Entry). LeftOf (v.mine ++ es) (entries_of v.actor j)) (sym more) (left_own v.actor v.mine k.journal es t.fits.mine (only_by v.actor (written answer))) in
@@ -161,9 +191,13 @@ acts {v = v} {v1 = v1} {v2 = v2} {v' = v'} {k = k} {k' = k'} actor step answer t
       found = subst (λ (q : ℕ). Found v k.journal q) (sym rounds) (finds v k t.whole t.lawful t.fits);
       answers = subst (λ (w : Whole). Answers w k.journal step answer) t.whole answers;
       seen = a.0.seen ∙ more;
+      history = s;
+      follows = t.follows;
+      goes_on = a.0.history;
       mine = a.0.mine;
       drawn = a.1 ∙ (ap (λ (l : List ℕ). v.drawn ++ l) (numbers_none k.next k'.next same) ∙ append-nil v.drawn);
-      stays = stays v v' k k' es a.0 of t.left t.fits left (omega (arith, same));
+      alone = record { found = t.alone; still = a.0.alone };
+      stays = stays v v' s k k' es a.0 t.follows told own of t.left t.fits left (omega (arith, same));
     }
 
 -- a book as it was, but that its next number may be greater
@@ -186,25 +220,32 @@ draw_leaves k k' (Ok n) most ok err =
 draw_leaves k k' (Err e) most ok err = record { journal = ap (λ (h : History). h.journal) err.1; whole = ap (λ (h : History). h.whole) err.1; rounds = ap (λ (h : History). h.rounds) err.1; up = let same : k'.next ≡ k.next = ap (λ (h : History). h.next) err.1 in omega (arith, same) }
 
 -- a call that leaves the journal as it is
-pub looks : (v v' : View) (k k' : History) → After v v' k k' [] → k.whole ≡ v.whole → Lawful k → Lawful k' → Fits v.whole k.journal k.next k.rounds v → Kept_as k k' → Looked v v'
-looks v v' k k' a whole lawful lawful' fits leaves =
+pub looks : (v v' : View) (s : List Entry) (k k' : History) → After v v' s k k' [] → Follows v s k.journal → k.whole ≡ v.whole → Lawful k → Lawful k' → Fits v.whole k.journal k.next k.rounds v → (v.alone ≡ true → k.journal ≡ v.seen) → Kept_as k k' → Looked v v'
+looks v v' s k k' a follows whole lawful lawful' fits alone leaves =
+    let same : v'.history ≡ s = a.history ∙ append-nil s in
+    let told : IsHistoryOf v.whole (s ++ []) k'.journal = history_same v.whole s k'.journal (subst (λ (j : List Entry). IsHistoryOf v.whole s j) (sym leaves.journal) follows.is) in
     let left : LeftOf (v.mine ++ []) (entries_of v.actor k'.journal) =
     subst (λ (m : List Entry). LeftOf m (entries_of v.actor k'.journal)) (sym (append-nil v.mine)) (subst (λ (j : List Entry). LeftOf v.mine (entries_of v.actor j)) (sym leaves.journal) fits.mine) in
     record {
       journal = k.journal;
       found = subst (λ (q : ℕ). Found v k.journal q) (sym (a.rounds ∙ leaves.rounds)) (finds v k whole lawful fits);
       seen = a.seen ∙ leaves.journal;
+      follows = subst (λ (l : List Entry). Follows v l k.journal) (sym same) follows;
       mine = a.mine ∙ append-nil v.mine;
-      stays = stays v v' k k' [] a (leaves.whole ∙ whole) lawful' fits left leaves.up;
+      alone = record { found = alone; still = a.alone };
+      stays = stays v v' s k k' [] a follows told tt (leaves.whole ∙ whole) lawful' fits left leaves.up;
     }
 
 -- a turn in which ended sessions were forgotten
-pub forgets : {v v1 v2 v' : View} {k k' : History} → Turn v v1 v2 v' k k' → k' ≡ forgotten k → Forgot v v'
-forgets {v = v} {v1 = v1} {v2 = v2} {v' = v'} {k = k} {k' = k'} t is = ⊎_elim (λ (e : forgotten k ≡ k). same (is ∙ e)) (λ (e : forgotten k ≡ shortened k). shorter (is ∙ e)) (either_way k)
+pub forgets : {v v1 v2 v' : View} {s : List Entry} {k k' : History} → Turn v v1 v2 v' s k k' → k' ≡ forgotten k → Forgot v v'
+forgets {v = v} {v1 = v1} {v2 = v2} {v' = v'} {s = s} {k = k} {k' = k'} t is = ⊎_elim (λ (e : forgotten k ≡ k). same (is ∙ e)) (λ (e : forgotten k ≡ shortened k). shorter (is ∙ e)) (either_way k)
   where
-    leave : (of : k'.whole ≡ k.whole) (next : k'.next ≡ k.next) (none : drop (length k.journal) k'.journal ≡ []) (left : LeftOf v.mine (entries_of v.actor k'.journal)) → Forgot v v'
-    leave of next none left =
-        let a = after v v' v1 v2 k k' [] t.held t.noted t.put none in
+    told_after : (j : List Entry) → k'.journal ≡ j → IsHistoryOf v.whole s j → IsHistoryOf v.whole (s ++ []) k'.journal
+    told_after j is told = history_same v.whole s k'.journal (subst (λ (l : List Entry). IsHistoryOf v.whole s l) (sym is) told)
+
+    leave : (of : k'.whole ≡ k.whole) (next : k'.next ≡ k.next) (none : drop (length k.journal) k'.journal ≡ []) (left : LeftOf v.mine (entries_of v.actor k'.journal)) (told : IsHistoryOf v.whole (s ++ []) k'.journal) → Forgot v v'
+    leave of next none left told =
+        let a = after v v' v1 v2 s k k' [] t.held t.noted t.put none in
         let whole : k'.whole ≡ v.whole = of ∙ t.whole in
         let found : history v'.whole v'.seen v'.next v'.seen_rounds ≡ k' = λ i. history ((a.0.whole ∙ sym whole) i) (a.0.seen i) (a.0.next i) (a.0.rounds i) in
         let old : k ≡ history v.whole k.journal v'.next k.rounds = λ i. history (t.whole i) k.journal ((sym (a.0.next ∙ next)) i) k.rounds in
@@ -213,28 +254,30 @@ forgets {v = v} {v1 = v1} {v2 = v2} {v' = v'} {k = k} {k' = k'} t is = ⊎_elim 
           rounds = k.rounds;
           found = finds v k t.whole t.lawful t.fits;
           forgets = found ∙ (is ∙ ap forgotten old);
+          follows = subst (λ (l : List Entry). Follows v l k.journal) (sym (a.0.history ∙ append-nil s)) t.follows;
           mine = a.0.mine ∙ append-nil v.mine;
           drawn = a.1 ∙ (ap (λ (l : List ℕ). v.drawn ++ l) (numbers_none k.next k'.next next) ∙ append-nil v.drawn);
-          stays = stays v v' k k' [] a.0 whole t.left t.fits (subst (λ (m : List Entry). LeftOf m (entries_of v.actor k'.journal)) (sym (append-nil v.mine)) left) (omega (arith, next));
+          alone = record { found = t.alone; still = a.0.alone };
+          stays = stays v v' s k k' [] a.0 t.follows told tt whole t.left t.fits (subst (λ (m : List Entry). LeftOf m (entries_of v.actor k'.journal)) (sym (append-nil v.mine)) left) (omega (arith, next));
         }
 
     same : k' ≡ k → Forgot v v'
     same e =
         let journal : k'.journal ≡ k.journal = ap (λ (h : History). h.journal) e in
-        leave (ap (λ (h : History). h.whole) e) (ap (λ (h : History). h.next) e) (same_is k.journal k'.journal journal) (subst (λ (j : List Entry). LeftOf v.mine (entries_of v.actor j)) (sym journal) t.fits.mine)
+        leave (ap (λ (h : History). h.whole) e) (ap (λ (h : History). h.next) e) (same_is k.journal k'.journal journal) (subst (λ (j : List Entry). LeftOf v.mine (entries_of v.actor j)) (sym journal) t.fits.mine) (told_after k.journal journal t.follows.is)
 
     shorter : k' ≡ shortened k → Forgot v v'
     shorter e =
         let journal : k'.journal ≡ less_ended k.journal = ap (λ (h : History). h.journal) e in
-        leave (ap (λ (h : History). h.whole) e) (ap (λ (h : History). h.next) e) (ended_is k.journal k'.journal journal) (subst (λ (j : List Entry). LeftOf v.mine (entries_of v.actor j)) (sym journal) (left_ended v.actor v.mine k.journal t.fits.mine))
+        leave (ap (λ (h : History). h.whole) e) (ap (λ (h : History). h.next) e) (ended_is k.journal k'.journal journal) (subst (λ (j : List Entry). LeftOf v.mine (entries_of v.actor j)) (sym journal) (left_ended v.actor v.mine k.journal t.fits.mine)) (told_after (less_ended k.journal) journal (history_ended v.whole s k.journal t.follows.is (lawful_in v.whole k t.whole t.lawful).0))
 
-pub draws : (v v' v1 v2 : View) (k k' : History) (drawn : Result ℕ NumbersSpent) (most : ℕ) → v1 ≡ held_as v k → v2 ≡ noted_as v1 k' → v' ≡ settled v2 → Fits v.whole k.journal k.next k.rounds v → k'.journal ≡ k.journal
+pub draws : (v v' v1 v2 : View) (s : List Entry) (k k' : History) (drawn : Result ℕ NumbersSpent) (most : ℕ) → v1 ≡ held_as v s k → v2 ≡ noted_as v1 k' → v' ≡ settled v2 → Fits v.whole k.journal k.next k.rounds v → k'.journal ≡ k.journal
     → IfOk drawn (λ n. (n ≡ k.next) × (n < most) × (k' ≡ record k { next = n + 1 })) → IfOk drawn (λ n. Drew v v' n)
-draws v v' v1 v2 k k' (Err e) most held noted put fits same ok = ok
-draws v v' v1 v2 k k' (Ok n) most held noted put fits same ok =
+draws v v' v1 v2 s k k' (Err e) most held noted put fits same ok = ok
+draws v v' v1 v2 s k k' (Ok n) most held noted put fits same ok =
     let is = ok.0 in
     let next : k'.next ≡ n + 1 = ap (λ (h : History). h.next) ok.2 in
-    let a = after v v' v1 v2 k k' [] held noted put (same_is k.journal k'.journal same) in
+    let a = after v v' v1 v2 s k k' [] held noted put (same_is k.journal k'.journal same) in
     let one : numbers k.next (k'.next - k.next) ≡ n ∷ [] = numbers_one k.next k'.next (omega (arith, is, next)) ∙ ap (λ (x : ℕ). x ∷ []) (sym is) in
     let le = fits.next in
     record {
@@ -244,12 +287,12 @@ draws v v' v1 v2 k k' (Ok n) most held noted put fits same ok =
       next = a.0.next ∙ next;
     }
 
-pub makes : (v v' v1 v2 v3 u : View) (k k' : History) (n most : ℕ) → v1 ≡ held_as v k → v2 ≡ noted_as v1 k' → v3 ≡ parent v2 → v' ≡ settled v3 → u ≡ child v2 → k.whole ≡ v.whole → Lawful k → Fits v.whole k.journal k.next k.rounds v
-    → ((a : ℕ) → k.next ≤ a → entries_of a k.journal ≡ []) → (n ≡ k.next) × (n < most) × (k' ≡ record k { next = n + 1 }) → Made v v' u
-makes v v' v1 v2 v3 u k k' n most held noted cut put made whole lawful fits fresh ok =
-    let e : v2 ≡ noted_as (held_as v k) k' = noted ∙ ap (λ (x : View). noted_as x k') held in
-    let f : u ≡ child (noted_as (held_as v k) k') = made ∙ ap child e in
-    let p : v' ≡ settled (parent (noted_as (held_as v k) k')) = put ∙ ap settled (cut ∙ ap parent e) in
+pub makes : (v v' v1 v2 v3 u : View) (s : List Entry) (k k' : History) (n most : ℕ) → v1 ≡ held_as v s k → v2 ≡ noted_as v1 k' → v3 ≡ parent v2 → v' ≡ settled v3 → u ≡ child v2 → k.whole ≡ v.whole → Lawful k → Fits v.whole k.journal k.next k.rounds v
+    → ((a : ℕ) → k.next ≤ a → entries_of a k.journal ≡ []) → Follows v s k.journal → ((a : ℕ) → k.next ≤ a → entries_of a s ≡ []) → (n ≡ k.next) × (n < most) × (k' ≡ record k { next = n + 1 }) → Made v v' u
+makes v v' v1 v2 v3 u s k k' n most held noted cut put made whole lawful fits fresh follows new ok =
+    let e : v2 ≡ noted_as (held_as v s k) k' = noted ∙ ap (λ (x : View). noted_as x k') held in
+    let f : u ≡ child (noted_as (held_as v s k) k') = made ∙ ap child e in
+    let p : v' ≡ settled (parent (noted_as (held_as v s k) k')) = put ∙ ap settled (cut ∙ ap parent e) in
     let is : u.actor ≡ k.next = ap (λ (x : View). x.actor) f in
     let next : v'.next ≡ k'.next = ap (λ (x : View). x.next) p in
     let up : k'.next ≡ n + 1 = ap (λ (h : History). h.next) ok.2 in
@@ -260,7 +303,10 @@ makes v v' v1 v2 v3 u k k' n most held noted cut put made whole lawful fits fres
     let rounds : u.seen_rounds ≡ k.rounds = ap (λ (x : View). x.seen_rounds) f in
     let of : u.whole ≡ v.whole = ap (λ (x : View). x.whole) f in
     let mine : u.mine ≡ [] = ap (λ (x : View). x.mine) f in
+    let history : u.history ≡ s = ap (λ (x : View). x.history) f in
+    let goes : v'.history ≡ s = ap (λ (x : View). x.history) p ∙ (ap (λ (l : List Entry). s ++ l) (same_is k.journal k'.journal (ap (λ (h : History). h.journal) ok.2)) ∙ append-nil s) in
     let l = lawful_in u.whole k (whole ∙ sym of) lawful in
+    let left : LeftOf u.mine (entries_of u.actor k.journal) = subst (λ (m : List Entry). LeftOf m (entries_of u.actor k.journal)) (sym mine) (left_none u.actor k.journal (fresh u.actor (omega (arith, is)))) in
     record {
       whole = of;
       other = λ same. absurd (omega (arith, is, same, lt));
@@ -270,19 +316,26 @@ makes v v' v1 v2 v3 u k k' n most held noted cut put made whole lawful fits fres
       same_next = ap (λ (x : View). x.next) f ∙ sym next;
       seen = seen ∙ (sym (ap (λ (h : History). h.journal) ok.2) ∙ sym (ap (λ (x : View). x.seen) p));
       rounds = rounds ∙ (sym (ap (λ (h : History). h.rounds) ok.2) ∙ sym (ap (λ (x : View). x.seen_rounds) p));
+      history = history ∙ sym goes;
+      follows = record {
+        is = subst (λ (j : List Entry). IsHistoryOf u.whole u.history j) (sym seen) (subst (λ (l : List Entry). IsHistoryOf u.whole l k.journal) (sym history) (subst (λ (w : Whole). IsHistoryOf w s k.journal) (sym of) follows.is));
+        begins = prefix_self u.history;
+        mine = mine ∙ (sym (new u.actor (omega (arith, is))) ∙ ap (entries_of u.actor) (sym history));
+      };
       mine = mine;
       drawn = ap (λ (x : View). x.drawn) f;
+      alone = (ap (λ (x : View). x.alone) p, ap (λ (x : View). x.alone) f);
       stands = subst (λ (j : List Entry). Found u j u.seen_rounds) (sym seen) (record {
         legal = l.0;
         limit = l.1;
         later = subst (λ (j : List Entry). Later u.seen_rounds j u.seen_rounds k.journal) (sym seen) (later_self u.seen_rounds k.journal);
-        mine = subst (λ (m : List Entry). LeftOf m (entries_of u.actor k.journal)) (sym mine) (left_none u.actor k.journal (fresh u.actor (omega (arith, is))));
+        mine = left;
       });
     }
 
 -- a seat that forgot notes what it left
-pub forget_leaves : (v v1 : View) (k k' : History) → v1 ≡ held_as v k → k' ≡ forgotten k → Leaves (noted_as v1 k') v1.found v1.found_rounds
-forget_leaves v v1 k k' held is =
+pub forget_leaves : (v v1 : View) (s : List Entry) (k k' : History) → v1 ≡ held_as v s k → k' ≡ forgotten k → Leaves (noted_as v1 k') v1.found v1.found_rounds
+forget_leaves v v1 s k k' held is =
     let found : v1.found ≡ k.journal = ap (λ (x : View). x.found) held in
     let rounds : v1.found_rounds ≡ k.rounds = ap (λ (x : View). x.found_rounds) held in
     ⊎_elim
@@ -291,22 +344,22 @@ forget_leaves v v1 k k' held is =
     inl (record { more = []; left = ap (λ (h : History). h.journal) same ∙ sym found ∙ sym (append-nil v1.found); own = tt; rounds = ap (λ (h : History). h.rounds) same ∙ sym rounds }))
     (λ (e : forgotten k ≡ shortened k).
     let shorter : k' ≡ shortened k = is ∙ e in
-    inr (record { left = ap (λ (h : History). h.journal) shorter ∙ ap less_ended (sym found); rounds = ap (λ (h : History). h.rounds) shorter ∙ ap (λ (n : ℕ). n + 1) (sym rounds) }))
+    inr (inl (record { left = ap (λ (h : History). h.journal) shorter ∙ ap less_ended (sym found); rounds = ap (λ (h : History). h.rounds) shorter ∙ ap (λ (n : ℕ). n + 1) (sym rounds) })))
     (either_way k)
 
 -- and puts that back
-pub forget_puts : (v v1 v2 : View) (k k' : History) → v1 ≡ held_as v k → v2 ≡ noted_as v1 k' → k.whole ≡ v.whole → k' ≡ forgotten k → k' ≡ history v2.whole v2.left v2.left_next v2.left_rounds
-forget_puts v v1 v2 k k' held noted whole is =
+pub forget_puts : (v v1 v2 : View) (s : List Entry) (k k' : History) → v1 ≡ held_as v s k → v2 ≡ noted_as v1 k' → k.whole ≡ v.whole → k' ≡ forgotten k → k' ≡ history v2.whole v2.left v2.left_next v2.left_rounds
+forget_puts v v1 v2 s k k' held noted whole is =
     let of : k'.whole ≡ k.whole =
     ap (λ (h : History). h.whole) is
     ∙ ⊎_elim (λ (e : forgotten k ≡ k). ap (λ (h : History). h.whole) e) (λ (e : forgotten k ≡ shortened k). ap (λ (h : History). h.whole) e) (either_way k) in
-    let e : v2 ≡ noted_as (held_as v k) k' = noted ∙ ap (λ (x : View). noted_as x k') held in
+    let e : v2 ≡ noted_as (held_as v s k) k' = noted ∙ ap (λ (x : View). noted_as x k') held in
     let same : k'.whole ≡ v.whole = of ∙ whole in
     sym (ap (λ (x : View). history x.whole x.left x.left_next x.left_rounds) e ∙ ap (λ (w : Whole). history w k'.journal k'.next k'.rounds) (sym same))
 
 -- a seat that added nothing notes what it left
-pub same_leaves : (v v1 : View) (k k' : History) → v1 ≡ held_as v k → Kept_as k k' → Leaves (noted_as v1 k') v1.found v1.found_rounds
-same_leaves v v1 k k' held same =
+pub same_leaves : (v v1 : View) (s : List Entry) (k k' : History) → v1 ≡ held_as v s k → Kept_as k k' → Leaves (noted_as v1 k') v1.found v1.found_rounds
+same_leaves v v1 s k k' held same =
     inl (record {
       more = [];
       left = same.journal ∙ (sym (ap (λ (x : View). x.found) held) ∙ sym (append-nil v1.found));
@@ -315,23 +368,25 @@ same_leaves v v1 k k' held same =
     })
 
 -- a look puts back the book that it found, as it was
-pub only_looks : {v v1 v' : View} (k : History) → v1 ≡ held_as v k → v' ≡ settled v1 → k ≡ history v.whole k.journal k.next k.rounds → IsLegal k.whole k.journal → length k.journal + owed (book_of k.journal) ≤ k.whole.journal → Fits v.whole k.journal k.next k.rounds v
+pub only_looks : {v v1 v' : View} (s : List Entry) (k : History) → v1 ≡ held_as v s k → v' ≡ settled v1 → k ≡ history v.whole k.journal k.next k.rounds → IsLegal k.whole k.journal → length k.journal + owed (book_of k.journal) ≤ k.whole.journal → Fits v.whole k.journal k.next k.rounds v
+    → Follows v s k.journal
+    → (v.alone ≡ true → k.journal ≡ v.seen)
     → Looked v v'
-only_looks {v = v} {v1 = v1} {v' = v'} k held put value legal limit fits =
-    let a = after v v' v1 v1 k k [] held (unnoted v v1 k held) put (same_is k.journal k.journal refl) in
+only_looks {v = v} {v1 = v1} {v' = v'} s k held put value legal limit fits follows alone =
+    let a = after v v' v1 v1 s k k [] held (unnoted v v1 s k held) put (same_is k.journal k.journal refl) in
     let lawful : Lawful k = record { legal = legal; limit = limit } in
-    looks v v' k k a.0 (ap (λ (h : History). h.whole) value) lawful lawful fits (look_leaves k)
+    looks v v' s k k a.0 follows (ap (λ (h : History). h.whole) value) lawful lawful fits alone (look_leaves k)
 
 -- and draws no number
-pub look_draws_none : (v v1 v' : View) (k : History) → v1 ≡ held_as v k → v' ≡ settled v1 → v'.drawn ≡ v.drawn
-look_draws_none v v1 v' k held put =
-    let a = after v v' v1 v1 k k [] held (unnoted v v1 k held) put (same_is k.journal k.journal refl) in
+pub look_draws_none : (v v1 v' : View) (s : List Entry) (k : History) → v1 ≡ held_as v s k → v' ≡ settled v1 → v'.drawn ≡ v.drawn
+look_draws_none v v1 v' s k held put =
+    let a = after v v' v1 v1 s k k [] held (unnoted v v1 s k held) put (same_is k.journal k.journal refl) in
     a.1 ∙ (ap (λ (l : List ℕ). v.drawn ++ l) (numbers_none k.next k.next refl) ∙ append-nil v.drawn)
 
 -- the maker of a seat has drawn what it had
-pub cut_draws_none : (v v' v1 v2 v3 : View) (k k' : History) → v1 ≡ held_as v k → v2 ≡ noted_as v1 k' → v3 ≡ parent v2 → v' ≡ settled v3 → v'.drawn ≡ v.drawn
-cut_draws_none v v' v1 v2 v3 k k' held noted cut put =
-    let e : v' ≡ settled (parent (noted_as (held_as v k) k')) = put ∙ ap settled (cut ∙ ap parent (noted ∙ ap (λ (x : View). noted_as x k') held)) in
+pub cut_draws_none : (v v' v1 v2 v3 : View) (s : List Entry) (k k' : History) → v1 ≡ held_as v s k → v2 ≡ noted_as v1 k' → v3 ≡ parent v2 → v' ≡ settled v3 → v'.drawn ≡ v.drawn
+cut_draws_none v v' v1 v2 v3 s k k' held noted cut put =
+    let e : v' ≡ settled (parent (noted_as (held_as v s k) k')) = put ∙ ap settled (cut ∙ ap parent (noted ∙ ap (λ (x : View). noted_as x k') held)) in
     ap (λ (x : View). x.drawn) e ∙ (ap (λ (l : List ℕ). v.drawn ++ l) (numbers_none k'.next k'.next refl) ∙ append-nil v.drawn)
 
 -- the view of the seat that opens the lock
@@ -339,3 +394,15 @@ pub stands_first : (w : Whole) (v : View) → v ≡ first_view w → Found v [] 
 stands_first w v is =
     let nothing : owed empty ≡ 0 = amount-empty returns in
     subst (λ (x : View). Found x [] 0) (sym is) (record { legal = tt; limit = omega (arith, nothing); later = later_self 0 []; mine = left_none 0 [] refl })
+
+-- and the history that it has follows
+pub follows_first : (w : Whole) (v : View) → v ≡ first_view w → Follows v [] []
+follows_first w v is = subst (λ (x : View). Follows x [] []) (sym is) (record { is = record { legal = tt; book = refl }; begins = prefix_self []; mine = refl })
+
+-- a seat that made another leaves the journal as it is
+pub cut_unchanged : (v v1 v2 : View) (s : List Entry) (k k' : History) → v1 ≡ held_as v s k → v2 ≡ noted_as v1 k' → Kept_as k k' → (v2.left ≡ v2.found) × (v2.left_rounds ≡ v2.found_rounds)
+cut_unchanged v v1 v2 s k k' held noted same =
+    let e : v2 ≡ noted_as (held_as v s k) k' = noted ∙ ap (λ (x : View). noted_as x k') held in (
+      ap (λ (x : View). x.left) e ∙ (same.journal ∙ sym (ap (λ (x : View). x.found) e)),
+      ap (λ (x : View). x.left_rounds) e ∙ (same.rounds ∙ sym (ap (λ (x : View). x.found_rounds) e)),
+    )

@@ -1,15 +1,17 @@
 //! One book for any number of threads, with one history.
 //!
 //! A `BookLock` has the book, and each thread has a `BookSeat` of it. A call of a seat finds a
-//! journal that comes after all that the seat had seen, is answered as an object of one thread is
-//! answered there, and leaves its entries behind it under the seat's actor. A journal comes after
-//! another by appended entries, and by forgetting sessions that have ended, which is counted in
-//! rounds: in the same round it begins with the other. Whenever the lock is free, the book is the
-//! replay of its journal.
+//! journal, is answered as an object of one thread is answered there, and leaves its entries behind
+//! it under the seat's actor. Whenever the lock is free, the book is the replay of its journal.
 //!
-//! The definitions of `specs/` read in this order: Entries (whose they are, which journal comes
-//! later), Rule (what the lock keeps over all seats), Steps (what a step of the lock tells its
-//! seat), Named, Calls (what the calls promise), Laws (what holds over many calls).
+//! The history has every entry that a seat ever made, in order. It exists in contracts only. The
+//! journal has its book, and is shorter: `forget` leaves the sessions out that have ended, and
+//! `checkpoint` restates those that live, under a number that is no seat's. Neither touches the
+//! history. So what a seat sees of it begins, for ever, with all that the seat had seen.
+//!
+//! The definitions of `specs/` read in this order: Entries (whose they are, and what a history is),
+//! Rule (what the lock keeps over all seats), Steps (what a step of the lock tells its seat), Named,
+//! Calls (what the calls promise), Laws (what holds over many calls).
 
 #![tactic(auto)]
 
@@ -22,8 +24,9 @@ mod seat;
 mod view;
 
 pub use laws::{
-    law_acted, law_actors_differ, law_draws_differ, law_forgot, law_looked, law_run,
-    law_run_goes_on, law_run_lasts,
+    law_acted, law_actors_differ, law_checked, law_draws_differ, law_forgot, law_history,
+    law_history_answers, law_history_lasts, law_later, law_looked, law_one_history,
+    law_relief_decides, law_relieved, law_run, law_run_goes_on, law_run_lasts,
 };
 pub use lock::BookLock;
 pub use names::Name;

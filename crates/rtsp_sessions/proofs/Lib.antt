@@ -1,4 +1,5 @@
 pub mod Least
+pub mod NumberLemmas
 pub mod SortedRows
 pub mod FirstRows
 pub mod FixedRows

@@ -1,11 +1,11 @@
 -- What look-ups give, and which changes want no memory.
-use Rattle.std.specs.Prelude.{◌==◌, ℕ, Bool, false, ◌&&◌, nat_le, List, [], ◌∷◌, option_map, Option, Some, None}
+use Rattle.std.specs.Prelude.{◌==◌, ℕ, Bool, true, false, ◌&&◌, not, nat_le, nat_lt, if◌then◌else◌, List, [], ◌∷◌, map, filter, option_map, Option, Some, None}
 use Rattle.std.specs.FinMap.{get}
 use Rattle.rtsp_record.specs.declared.changes.Record.{Record}
 use Rattle.rtsp_record.specs.declared.changes.Record.TheVariants.{Open, Hold, Add, Bind}
 use Rattle.rtsp_record.specs.Books.{Session, Book}
 use Rattle.rtsp_sessions.specs.declared.startups.Startup.{Startup}
-use Rattle.rtsp_sessions.specs.Searches.{first_with, is_expired, is_on}
+use Rattle.rtsp_sessions.specs.Searches.{first_with, is_settled, is_expired, is_on}
 
 -- a living session with its number
 abbrev pub session_at : Book → ℕ → Option (ℕ × Session)
@@ -31,6 +31,24 @@ number_of p es = option_map (λ e. e.0) (first_with p es)
 -- the least not below a number
 abbrev pub first_from : ℕ → List (ℕ × Session) → Option ℕ
 first_from from es = number_of (λ e. nat_le from e.0) es
+
+-- the number is above another, where there is one
+abbrev pub is_above : Option ℕ → ℕ → Bool
+is_above None n = true
+is_above (Some m) n = nat_lt m n
+
+-- the numbers above another, or all, in ascending order
+abbrev pub numbers_above : Option ℕ → List (ℕ × Session) → List ℕ
+numbers_above m es = map (λ e. e.0) (filter (λ e. is_above m e.0) es)
+
+-- a number among others in ascending order; where it is one of them they stay as they are
+abbrev pub inserted : ℕ → List ℕ → List ℕ
+inserted n [] = n ∷ []
+inserted n (m ∷ ms) = if nat_lt n m then n ∷ m ∷ ms else (if n == m then m ∷ ms else m ∷ inserted n ms)
+
+-- the least of which a SETUP is under way
+abbrev pub unsettled_in : List (ℕ × Session) → Option ℕ
+unsettled_in es = number_of (λ e. not (is_settled e.1)) es
 
 -- the one with this id
 abbrev pub with_id_in : ℕ → List (ℕ × Session) → Option ℕ

@@ -1,5 +1,5 @@
 -- The first row that passes, and what the rows of sessions and of admissions are searched for.
-use Rattle.std.specs.Prelude.{◌==◌, ℕ, Bool, false, ◌||◌, nat_le, if◌then◌else◌, List, [], ◌∷◌, is_some, Option, Some, None}
+use Rattle.std.specs.Prelude.{◌==◌, ℕ, Bool, true, false, ◌&&◌, ◌||◌, nat_le, if◌then◌else◌, List, [], ◌∷◌, is_some, Option, Some, None}
 use Rattle.std.specs.FinMap.{entries}
 use Rattle.rtsp_record.specs.declared.holdings.Thing.{Thing}
 use Rattle.rtsp_record.specs.declared.holdings.Thing.TheVariants.{Pair, Port, Chan, Rate}
@@ -24,6 +24,15 @@ is_of_track t e = is_track t e.1.stream
 -- the session expires at this moment or before
 abbrev pub is_expired : ℕ → ℕ × Session → Bool
 is_expired now e = nat_le e.1.expires now
+
+-- a stream stands under each of these admissions
+abbrev pub all_streaming : List (ℕ × Admission) → Bool
+all_streaming [] = true
+all_streaming (e ∷ es) = is_some e.1.stream && all_streaming es
+
+-- no SETUP of the session is under way
+abbrev pub is_settled : Session → Bool
+is_settled f = all_streaming (entries f.admissions)
 
 -- channels of the connection
 abbrev pub is_chan_of : ℕ → Option Thing → Bool

@@ -12,6 +12,7 @@
 
 mod admissions;
 mod measures;
+mod numbers;
 mod plain;
 mod representation;
 mod startups;
@@ -20,6 +21,7 @@ mod views;
 
 pub use admissions::{Admissions, MOST_HOLDING};
 pub use measures::Measure;
+pub use numbers::{SessionNumbers, is_above};
 pub use plain::{PlainBook, allowed_for_session};
 pub use representation::BookRep;
 pub use startups::Startup;

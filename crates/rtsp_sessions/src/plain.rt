@@ -14,6 +14,7 @@ mod rows;
 mod rules;
 
 use crate::measures::Measure;
+use crate::numbers::SessionNumbers;
 use crate::representation::BookRep;
 use crate::views::SessionView;
 pub use own::allowed_for_session;
@@ -107,6 +108,14 @@ impl BookRep for PlainBook {
 
     fn next_session(&self, from: u64) -> Option<u64> {
         lookups::first_from(self.rows(), from)
+    }
+
+    fn next_sessions(&self, above: Option<u64>, found: &mut SessionNumbers) {
+        lookups::first_above(self.rows(), above, found)
+    }
+
+    fn unsettled(&self) -> Option<u64> {
+        lookups::unsettled(self.rows())
     }
 
     fn by_id(&self, id: u128) -> Option<u64> {

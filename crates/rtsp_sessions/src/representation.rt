@@ -1,14 +1,15 @@
 //! A book, however it is kept.
 
-ghost use Rattle.std.specs.Prelude.{◌≡◌, ◌↔◌, IsTrue, IfOk, OnOk, OnErr, IsOk, is_some, option_copied};
+ghost use Rattle.std.specs.Prelude.{◌≡◌, ◌↔◌, IsTrue, IfOk, OnOk, OnErr, IsOk, is_some, option_copied, take};
 ghost use Rattle.std.specs.FinMap.{get, empty, entries};
 ghost use Rattle.rtsp_record.specs.declared.holdings.Whole.{Whole};
 ghost use Rattle.rtsp_record.specs.Books.{Book, after_all};
 ghost use Rattle.rtsp_record.specs.Sums.{held_rate, owed, living};
 ghost use Rattle.rtsp_record.specs.Rules.{Allowed, AllAllowed};
 ghost use Rattle.rtsp_record.specs.Choices.{HasPorts, least_pair, least_port, chosen_chan};
-ghost use Rattle.rtsp_sessions.specs.Lookups.{TakesNoMemory, session_at, first_from, with_id_in, with_startup_in, expired_in, on_conn_in};
+ghost use Rattle.rtsp_sessions.specs.Lookups.{TakesNoMemory, session_at, first_from, numbers_above, unsettled_in, with_id_in, with_startup_in, expired_in, on_conn_in};
 
+use crate::numbers::SessionNumbers;
 use crate::views::SessionView;
 use rtsp_record::{Record, Whole};
 use std::alloc::{AllocError, Global};
@@ -57,6 +58,16 @@ pub trait BookRep: Drop {
     /// The number of the least living session not below `from`.
     fn next_session(&self, from: u64) -> Option<u64>
         ensures { result ≡ first_from from (entries (contents self.now)) };
+
+    /// The least numbers of living sessions above this one, or of all: as many as there are, and no
+    /// more than 64. They replace those that are there.
+    fn next_sessions(&self, above: Option<u64>, found: &mut SessionNumbers)
+        ensures { found.new ≡ take 64 (numbers_above above (entries (contents self.now))) };
+
+    /// The number of the least living session of which a SETUP is under way: under one of its
+    /// admissions something is held, and no stream stands.
+    fn unsettled(&self) -> Option<u64>
+        ensures { result ≡ unsettled_in (entries (contents self.now)) };
 
     /// The number of the living session with this id.
     fn by_id(&self, id: u128) -> Option<u64>

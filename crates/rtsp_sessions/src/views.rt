@@ -6,7 +6,7 @@ ghost use Rattle.rtsp_record.specs.Books.{opened, under, kept, holding, freed, s
 ghost use Rattle.rtsp_record.specs.Sums.{of_session, of_admission, others_holding, is_holding};
 ghost use Rattle.rtsp_sessions.specs.Lookups.{as_binding, is_startup};
 ghost use Rattle.rtsp_sessions.specs.Plain.{RoomUnder, RoomFor};
-ghost use Rattle.rtsp_sessions.specs.Searches.{is_of_track, is_chan_of, is_channelled, is_bound_on, is_on, first_with};
+ghost use Rattle.rtsp_sessions.specs.Searches.{is_of_track, is_chan_of, is_channelled, is_bound_on, is_on, first_with, is_settled, all_streaming};
 ghost use Rattle.rtsp_sessions.specs.Measures.{measure_of};
 
 use crate::admissions::Admissions;
@@ -176,6 +176,13 @@ impl SessionView {
         ensures { result ≡ is_on conn self.now }
     {
         self.has_channels_of(conn) || self.is_bound_on(conn)
+    }
+
+    /// Whether no SETUP of the session is under way: a stream stands under each of its admissions.
+    pub fn is_settled(&self) -> bool
+        ensures { result ≡ is_settled self.now.1 }
+    {
+        all_streaming(self.admissions.rows())
     }
 
     /// How much there is of this in the session.
@@ -356,6 +363,18 @@ fn any_channels_of(rows: &[(u64, Admission)], conn: u64) -> bool
         }
     }
     false
+}
+
+// Whether a stream stands under each of these admissions.
+fn all_streaming(rows: &[(u64, Admission)]) -> bool
+    ensures { result ≡ all_streaming rows.now }
+{
+    for row in rows {
+        if row.1.stream.is_none() {
+            return false;
+        }
+    }
+    true
 }
 
 // What all the admissions count.

@@ -1,8 +1,10 @@
 //! The first row of a plain book that passes a test.
 
-ghost use Rattle.std.specs.Prelude.{◌≡◌};
-ghost use Rattle.rtsp_sessions.specs.Lookups.{first_from, with_id_in, with_startup_in, expired_in, on_conn_in};
+ghost use Rattle.std.specs.Prelude.{◌≡◌, take};
+ghost use Rattle.rtsp_sessions.specs.Plain.{InOrder};
+ghost use Rattle.rtsp_sessions.specs.Lookups.{first_from, numbers_above, unsettled_in, with_id_in, with_startup_in, expired_in, on_conn_in};
 
+use crate::numbers::{SessionNumbers, is_above};
 use crate::views::SessionView;
 
 /// The number of the first session not below `from`.
@@ -11,6 +13,34 @@ pub(super) fn first_from(rows: &[SessionView], from: u64) -> Option<u64>
 {
     for row in rows {
         if from <= row.session() {
+            return Some(row.session());
+        }
+    }
+    None
+}
+
+/// The first numbers above this one, or of all, at most 64.
+pub(super) fn first_above(rows: &[SessionView], above: Option<u64>, found: &mut SessionNumbers)
+    requires { InOrder rows.now }
+    ensures { found.new ≡ take 64 (numbers_above above rows.now) }
+{
+    found.clear();
+    let mut left = rows.len();
+    while left > 0 {
+        left -= 1;
+        let number = rows[left].session();
+        if is_above(above, number) {
+            found.insert(number);
+        }
+    }
+}
+
+/// The number of the first session of which a SETUP is under way.
+pub(super) fn unsettled(rows: &[SessionView]) -> Option<u64>
+    ensures { result ≡ unsettled_in rows.now }
+{
+    for row in rows {
+        if !row.is_settled() {
             return Some(row.session());
         }
     }
