@@ -24,7 +24,7 @@
 #define TEARDOWN "TEARDOWN rtsp://h/tone RTSP/2.0\r\nCSeq: 2\r\nSession: %.32s\r\n\r\n"
 #define UDP_SETUP "SETUP rtsp://h/tone/a RTSP/2.0\r\nCSeq: 1\r\nTransport: RTP/AVP;unicast;dest_addr=\":9\"/\":9\"\r\n\r\n"
 #define RENEWAL "GET_PARAMETER rtsp://h/tone RTSP/2.0\r\nCSeq: 3\r\nSession: %.32s\r\n\r\n"
-#define PLAY "PLAY rtsp://h/tone RTSP/2.0\r\nCSeq: 4\r\nSession: %.32s\r\n\r\n"
+#define PLAY "PLAY rtsp://h/tone RTSP/2.0\r\nCSeq: 4\r\nSession: %.32s\r\nRange: npt=0-\r\n\r\n"
 
 enum { MOST = 20000, ANSWER = 1024, EVENTS = 256 };
 

@@ -41,7 +41,8 @@ class Flood(NamedTuple):
 
 
 def play(uri: str, session: str) -> bytes:
-    return written(f"PLAY {uri} RTSP/2.0", [("CSeq", "1"), ("Session", session)])
+    # From the beginning, since each PLAY has its first unit sent, and soon all would be.
+    return written(f"PLAY {uri} RTSP/2.0", [("CSeq", "1"), ("Session", session), ("Range", "npt=0-")])
 
 
 def set_up_again(uri: str, session: str) -> bytes:
