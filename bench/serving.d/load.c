@@ -1,6 +1,9 @@
 /* Clients for bench/serving. Each prints one line of numbers; a client that can't go on says why, with status 1.
  *   options PORT CONNECTIONS DEPTH SECONDS   each connection has so many OPTIONS under way: how many were answered
  *   cycles PORT CONNECTIONS SECONDS          each sets up a track over itself and tears down: how many times
+ *   renewals PORT CONNECTIONS SECONDS        each has a session and renews it, one request after another: how many times
+ *   plays PORT DEPTH SECONDS                 one connection has so many PLAYs of its session under way: how many were
+ *                                            answered 200, and how many otherwise
  *   fresh PORT TIMES                         from the start of a new connection to its answer: the middle, 99 % and
  *                                            the greatest, in microseconds
  *   idle PORT COUNT                          opens so many, says so, and holds them until its input ends */
@@ -19,13 +22,16 @@
 #define OPTIONS "OPTIONS * RTSP/2.0\r\nCSeq: 1\r\n\r\n"
 #define SETUP "SETUP rtsp://h/tone/a RTSP/2.0\r\nCSeq: 1\r\nTransport: RTP/AVP/TCP;unicast;interleaved=0-1\r\n\r\n"
 #define TEARDOWN "TEARDOWN rtsp://h/tone RTSP/2.0\r\nCSeq: 2\r\nSession: %.32s\r\n\r\n"
+#define UDP_SETUP "SETUP rtsp://h/tone/a RTSP/2.0\r\nCSeq: 1\r\nTransport: RTP/AVP;unicast;dest_addr=\":9\"/\":9\"\r\n\r\n"
+#define RENEWAL "GET_PARAMETER rtsp://h/tone RTSP/2.0\r\nCSeq: 3\r\nSession: %.32s\r\n\r\n"
+#define PLAY "PLAY rtsp://h/tone RTSP/2.0\r\nCSeq: 4\r\nSession: %.32s\r\nRange: npt=0-\r\n\r\n"
 
 enum { MOST = 20000, ANSWER = 1024, EVENTS = 256 };
 
 typedef struct {
     int fd, length, is_set_up;
     long left;
-    char answer[ANSWER + 1];
+    char answer[ANSWER + 1], request[256];
 } Connection;
 
 static int port;
@@ -153,6 +159,67 @@ static long cycles(int count, double seconds) {
     return done;
 }
 
+/* Sets up a session and keeps what is to be asked of it. */
+static void set_up(Connection *it, const char *setup, const char *request) {
+    put(it->fd, setup, strlen(setup));
+    do {
+        long got = recv(it->fd, it->answer + it->length, ANSWER - it->length, 0);
+        if (got <= 0)
+            fail("an answer");
+        it->length += got;
+        it->answer[it->length] = 0;
+    } while (!strstr(it->answer, "\r\n\r\n"));
+    if (memcmp(it->answer, "RTSP/2.0 200", 12)) {
+        fprintf(stderr, "%s", it->answer);
+        exit(1);
+    }
+    it->length = 0;
+    snprintf(it->request, sizeof it->request, request, strstr(it->answer, "Session: ") + 9);
+}
+
+static long renewals(int count, double seconds) {
+    int poll;
+    long done = 0;
+    Connection *all = open_all(count, &poll);
+    for (int i = 0; i < count; i++)
+        set_up(&all[i], SETUP, RENEWAL);
+    for (int i = 0; i < count; i++)
+        put(all[i].fd, all[i].request, strlen(all[i].request));
+    struct epoll_event events[EVENTS];
+    for (double end = now() + seconds; now() < end;) {
+        int ready = epoll_wait(poll, events, EVENTS, 100);
+        for (int i = 0; i < ready; i++) {
+            Connection *it = events[i].data.ptr;
+            long got = recv(it->fd, it->answer, ANSWER, MSG_DONTWAIT);
+            if (got < 16 || memcmp(it->answer, "RTSP/2.0 200", 12) || memcmp(it->answer + got - 4, "\r\n\r\n", 4))
+                fail("an answer");
+            done++;
+            put(it->fd, it->request, strlen(it->request));
+        }
+    }
+    return done;
+}
+
+static void plays(int depth, double seconds) {
+    int poll;
+    Connection *it = open_all(1, &poll);
+    set_up(it, UDP_SETUP, PLAY);
+    long size = strlen(it->request), under_way = 0, kept = 0, accepted = 0, refused = 0;
+    for (double end = now() + seconds; now() < end;) {
+        for (; under_way < depth; under_way++)
+            put(it->fd, it->request, size);
+        long got = recv(it->fd, piece + kept, sizeof piece - kept, 0);
+        if (got <= 0)
+            fail("an answer");
+        char *begin = piece, *stop = piece + kept + got;
+        for (char *at; (at = memmem(begin, stop - begin, "\r\n\r\n", 4)); begin = at + 4, under_way--)
+            memcmp(begin, "RTSP/2.0 200", 12) ? refused++ : accepted++;
+        kept = stop - begin;
+        memmove(piece, begin, kept);
+    }
+    printf("%ld %ld\n", accepted, refused);
+}
+
 static int ascending(const void *left, const void *right) {
     double a = *(const double *)left, b = *(const double *)right;
     return (a > b) - (a < b);
@@ -188,6 +255,10 @@ int main(int count, char **words) {
         printf("%ld\n", options(number, atoi(words[4]), atof(words[5])));
     else if (!strcmp(words[1], "cycles") && count == 5)
         printf("%ld\n", cycles(number, atof(words[4])));
+    else if (!strcmp(words[1], "renewals") && count == 5)
+        printf("%ld\n", renewals(number, atof(words[4])));
+    else if (!strcmp(words[1], "plays") && count == 5)
+        plays(number, atof(words[4]));
     else if (!strcmp(words[1], "fresh") && count == 4)
         fresh(number);
     else if (!strcmp(words[1], "idle") && count == 4) {

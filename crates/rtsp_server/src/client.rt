@@ -4,6 +4,7 @@ use crate::answering::answer_piece;
 use crate::leaving::take_leave;
 use crate::limits::{ANSWERS, MESSAGE_LIMIT, PAUSE, PIECE, PIECES, SILENCE_LIMIT};
 use crate::reading::{Reading, read_piece};
+use crate::relieving::make_room;
 use crate::service::Service;
 use crate::shared::Shared;
 use crate::tools::Tools;
@@ -138,11 +139,13 @@ impl Client {
         !was_queued
     }
 
-    /// Writes what waits, and reads and answers what has come.
+    /// Writes what waits, and reads and answers what has come. The lane's handle is for the room of
+    /// the journal.
     pub(crate) fn visit<R: Wait + Net + rt::Clock>(
         &mut self,
         service: &Service<'_, R>,
         tools: &mut Tools,
+        lane: &mut BookHandle,
     ) -> Visit {
         self.is_queued = false;
         if self.is_writable && !self.flush(service) {
@@ -152,7 +155,7 @@ impl Client {
             return Visit::Done;
         }
         tools.room.clear();
-        let step = self.read_pieces(service, tools);
+        let step = self.read_pieces(service, tools, lane);
         self.end_visit(service, tools, step)
     }
 
@@ -173,8 +176,10 @@ impl Client {
         &mut self,
         service: &Service<'_, R>,
         tools: &mut Tools,
+        lane: &mut BookHandle,
     ) -> Step {
         for _ in 0..PIECES {
+            make_room(service, lane);
             let step = match read_piece(self.outlet.stream(), tools.piece.as_mut_slice()) {
                 Reading::Bytes(n) => self.take(service, tools, n),
                 Reading::Nothing => Step::Waits,

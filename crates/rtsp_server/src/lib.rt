@@ -14,6 +14,7 @@ mod gate;
 mod leaving;
 mod limits;
 mod reading;
+mod relieving;
 mod server;
 mod service;
 mod shared;
@@ -24,7 +25,7 @@ mod tools;
 
 pub use limits::{
     ACCEPT_RETRY, ACCEPTS, ANSWERS, CONNECTIONS, MESSAGE_LIMIT, PAUSE, PIECE, PIECES,
-    SILENCE_LIMIT, SWEEP_EVERY, SWEEP_SESSIONS,
+    SILENCE_LIMIT, SWEEP_EVERY, SWEEP_SESSIONS, WAITS,
 };
 pub use rtsp_lanes::{BookHandle, Lane, LaneTurn, PoolEnd, run_pool, whole_of};
 pub use server::{Server, ServerFault};

@@ -28,6 +28,10 @@ pub const SILENCE_LIMIT: u64 = 60_000;
 /// A connection that has begun a message and not finished it for so long is closed.
 pub const MESSAGE_LIMIT: u64 = 30_000;
 
+/// How often a lane waits for the others before a piece, where the journal stays more than half full
+/// by sessions that they are setting tracks up in: for a millisecond, then twice as long each time.
+pub const WAITS: u32 = 7;
+
 /// The time between two sweeps.
 pub const SWEEP_EVERY: u64 = 1_000;
 

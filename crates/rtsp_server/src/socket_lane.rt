@@ -199,12 +199,16 @@ impl Clients {
     }
 
     // Visits those that are in the queue, each once.
-    fn visit_ready<R: Wait + Net + rt::Clock>(&mut self, service: &Service<'_, R>) {
+    fn visit_ready<R: Wait + Net + rt::Clock>(
+        &mut self,
+        service: &Service<'_, R>,
+        handle: &mut BookHandle,
+    ) {
         for _ in 0..self.ready.len() {
             let Some(key) = self.ready.pop_front() else {
                 return;
             };
-            match self.visit(service, key) {
+            match self.visit(service, handle, key) {
                 Visit::Done => {}
                 Visit::More => self.queue(key),
                 Visit::Ended => self.end(service.rt, service.shared, key),
@@ -212,10 +216,15 @@ impl Clients {
         }
     }
 
-    fn visit<R: Wait + Net + rt::Clock>(&mut self, service: &Service<'_, R>, key: usize) -> Visit {
+    fn visit<R: Wait + Net + rt::Clock>(
+        &mut self,
+        service: &Service<'_, R>,
+        handle: &mut BookHandle,
+        key: usize,
+    ) -> Visit {
         let Clients { of, tools, .. } = self;
         match of.get_mut(key) {
-            Some(client) => client.visit(service, tools),
+            Some(client) => client.visit(service, tools, handle),
             None => Visit::Done,
         }
     }
@@ -282,7 +291,7 @@ impl Clients {
         self.ended = 0;
         self.gather();
         self.accept_some(&service, handle);
-        self.visit_ready(&service);
+        self.visit_ready(&service, handle);
         self.sweep(&service);
         LaneTurn {
             ended: self.ended,

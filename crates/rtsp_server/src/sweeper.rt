@@ -1,4 +1,4 @@
-//! The thread that ends sessions whose time is over, and forgets those that have ended.
+//! The thread that ends sessions whose time is over, and keeps the journal as long as what lives.
 
 use crate::leaving::end_expired;
 use crate::limits::SWEEP_EVERY;
@@ -10,8 +10,8 @@ use std::sync::Wait;
 use std::time::Duration;
 
 /// Ends expired sessions from time to time, until it is told to stop. After each sweep it forgets
-/// all sessions that have ended by then, however they ended, so that the journal has the entries of
-/// living sessions and of those alone that ended since.
+/// all sessions that have ended by then, however they ended, and has those that live restated where
+/// they have done much: so the journal is as long as what lives and what was done since.
 pub(crate) fn run_sweeper<R: Wait + Net + rt::Clock>(
     rt: &R,
     mut handle: BookHandle,
@@ -26,5 +26,6 @@ pub(crate) fn run_sweeper<R: Wait + Net + rt::Clock>(
         }
         end_expired(rt, &mut handle, shared, shared.now(rt));
         handle.forget(rt);
+        handle.relieve(rt, 0);
     }
 }

@@ -1,0 +1,209 @@
+"""What a player does stays in the journal while its session lives; nobody else is refused for it, nor is the player.
+
+The journals of these servers are as short as docs/OPERATING.md says that they may be.
+"""
+import contextlib
+import multiprocessing
+import select
+import socket
+import time
+from multiprocessing.sharedctypes import Synchronized
+from typing import Callable, Dict, Iterator, List, NamedTuple
+
+from checks import Checks
+from rtsp_client.connection import Connection
+from rtsp_client.messages import END, written
+
+from .bystanders import Bystanders, judge
+from .forgetting import ONE_TRACK, OVER_TCP, set_up
+from .runner import serving_test
+from .server import HERE, Presentation, Server, Track, lease
+from .witness import Punctuality, Witness
+
+# A minute, so that a play lasts as long as it is asked for.
+MINUTE = Presentation(units=3000)
+PLAYERS, FLOODED_FOR = 50, 10.0
+# Beside the players' two streams each there is room for those of the floods.
+SETTINGS = {"pairs": 160, "sessions": 96, "uplink": 200 * MINUTE.whole_rate}
+SESSIONS_OF_A_FLOOD = 8
+
+
+def least_journal(workers: int, sessions: int, tracks: int) -> int:
+    """The least `journal` with which nobody is refused for its sake (docs/OPERATING.md)."""
+    return sessions * (9 * tracks + 11) + 1000 * (workers + 1)
+
+
+class Flood(NamedTuple):
+    """Requests that are sent without end over one connection, and how many sessions they name."""
+
+    sessions: int
+    requests: Callable[[str, str], bytes]
+
+
+def play(uri: str, session: str) -> bytes:
+    # From the beginning, since each PLAY has its first unit sent, and soon all would be.
+    return written(f"PLAY {uri} RTSP/2.0", [("CSeq", "1"), ("Session", session), ("Range", "npt=0-")])
+
+
+def set_up_again(uri: str, session: str) -> bytes:
+    return written(f"SETUP {uri}/a RTSP/2.0", [("CSeq", "1"), ("Session", session), OVER_TCP])
+
+
+def renew(uri: str, session: str) -> bytes:
+    return written(f"GET_PARAMETER {uri} RTSP/2.0", [("CSeq", "1"), ("Session", session)])
+
+
+FLOODS: Dict[str, Flood] = {
+    "PLAYs": Flood(1, play),
+    "SETUPs": Flood(1, set_up_again),
+    "renewals": Flood(SESSIONS_OF_A_FLOOD, renew),
+}
+
+
+def pour(port: int, block: bytes, answered: Synchronized, refused: Synchronized) -> None:
+    """Sends a block of requests again and again, and counts the answers and those among them that aren't 200."""
+    talk = socket.create_connection((HERE, port))
+    talk.setblocking(False)
+    data, at, held = memoryview(block), 0, b""
+    poll = select.poll()
+    poll.register(talk, select.POLLIN | select.POLLOUT)
+    while True:
+        for _, events in poll.poll():
+            if events & select.POLLIN:
+                *answers, held = (held + talk.recv(1 << 16)).split(END)
+                answered.value += len(answers)
+                refused.value += sum(not it.startswith(b"RTSP/2.0 200") for it in answers)
+            if events & select.POLLOUT:
+                at = (at + talk.send(data[at : at + (1 << 16)])) % len(data)
+
+
+class Poured(NamedTuple):
+    """A flood under way: how many answers it got, and how many that weren't 200."""
+
+    name: str
+    answered: Synchronized
+    refused: Synchronized
+
+
+@contextlib.contextmanager
+def poured(server: Server, names: List[str]) -> Iterator[List[Poured]]:
+    """Floods, each over one connection in a process of its own. Their sessions have a stream over UDP."""
+    talk = server.connect()
+    running, told = [], []
+    for name in names:
+        flood = FLOODS[name]
+        sessions = [lease(talk, f"{server.uri}/a").session for _ in range(flood.sessions)]
+        block = b"".join(flood.requests(server.uri, session) for session in sessions) * (400 // flood.sessions)
+        counts = [multiprocessing.Value("Q", 0, lock=False) for _ in range(2)]
+        told.append(Poured(name, *counts))
+        running.append(multiprocessing.Process(target=pour, args=(server.port, block, *counts), daemon=True))
+    for process in running:
+        process.start()
+    try:
+        yield told
+        server.checks.same("how many still flood", len(names), sum(process.is_alive() for process in running))
+    finally:
+        for process in running:
+            process.kill()
+            process.join()
+        talk.close()
+
+
+def beside(checks: Checks, workers: int, names: List[str]) -> None:
+    """Fifty players listen, renew, seek and set up beside floods: none of them is refused, and no packet comes late."""
+    journal = least_journal(workers, SETTINGS["sessions"], len(MINUTE.tracks))
+    with Witness() as witness, Server(checks, MINUTE, workers=workers, journal=journal, **SETTINGS) as server:
+        with poured(server, names) as floods, Bystanders(server.uri, PLAYERS, FLOODED_FOR) as players:
+            heard = players.heard()
+        for name, answered, refused in floods:
+            enough = answered.value > 1000
+            checks.that(f"the flood of {name} was answered, and much", enough, answered.value)
+            checks.same(f"the flood of {name}: answers but 200 of {answered.value}", 0, refused.value)
+        checks.that("no player is refused", not heard.faults, (len(heard.faults), heard.faults[:3]))
+        checks.that("they asked much", heard.answered > 10 * PLAYERS, heard.answered)
+        judge(Punctuality(checks, witness.stalls()), heard.arrivals)
+
+
+@serving_test(limit=45, is_alone=True)
+def beside_a_flood_of_plays(checks: Checks) -> None:
+    """One connection asks for PLAY without end."""
+    beside(checks, 4, ["PLAYs"])
+
+
+@serving_test(limit=45, is_alone=True)
+def beside_a_flood_of_setups(checks: Checks) -> None:
+    """One connection sets the same track up again without end."""
+    beside(checks, 4, ["SETUPs"])
+
+
+@serving_test(limit=45, is_alone=True)
+def beside_a_flood_of_renewals(checks: Checks) -> None:
+    """One connection renews some sessions without end."""
+    beside(checks, 4, ["renewals"])
+
+
+@serving_test(limit=45, is_alone=True)
+def beside_all_floods_with_64_lanes(checks: Checks) -> None:
+    """With as many lanes as there can be, and all three at once."""
+    beside(checks, 64, [*FLOODS])
+
+
+def renewed(talk: Connection, uri: str, session: str) -> int:
+    """Renews a session in a millisecond of its own, so that the journal has it: the status."""
+    status = talk.ask("GET_PARAMETER", uri, [("Session", session)]).status
+    time.sleep(0.001)
+    return status
+
+
+@serving_test(limit=120, is_long=True)
+def a_session_outlives_its_journal(checks: Checks) -> None:
+    """A session is renewed ten times as often as the journal has entries; it lives, and there is room for another."""
+    sessions = 4
+    journal = least_journal(1, sessions, 1)
+    settings = {"pairs": 0, "sessions": sessions, "uplink": sessions * ONE_TRACK.whole_rate}
+    with Server(checks, ONE_TRACK, workers=1, journal=journal, **settings) as server:
+        talk, other = server.connect(), server.connect()
+        status, session = set_up(talk, server.uri)
+        checks.same("the SETUP of the one that lives", 200, status)
+        for number in range(10 * journal):
+            if not checks.same(f"renewal {number + 1} of {10 * journal}", 200, renewed(talk, server.uri, session)):
+                return
+            if number % 100 == 0:
+                status, passing = set_up(other, server.uri)
+                ended = other.ask("TEARDOWN", server.uri, [("Session", passing)]).status
+                checks.same(f"another's SETUP and TEARDOWN after renewal {number + 1}", (200, 200), (status, ended))
+        talk.close()
+        other.close()
+
+
+# Connections that set up in one session at once, more than there are lanes.
+TOGETHER = 6
+
+
+@serving_test(limit=60, is_timed=True)
+def a_session_that_is_always_set_up(checks: Checks) -> None:
+    """Six connections set one track up in one session without end: at most looks some SETUP of it is under way."""
+    journal = least_journal(4, 16, 2)
+    settings = {"pairs": 0, "sessions": 16, "uplink": 100 * MINUTE.whole_rate}
+    with Server(checks, MINUTE, workers=4, journal=journal, **settings) as server:
+        talk = server.connect()
+        _, session = set_up(talk, server.uri)
+        block = set_up_again(server.uri, session) * 400
+        counts = [[multiprocessing.Value("Q", 0, lock=False) for _ in range(2)] for _ in range(TOGETHER)]
+        running = [multiprocessing.Process(target=pour, args=(server.port, block, *it), daemon=True) for it in counts]
+        for process in running:
+            process.start()
+        statuses = []
+        until = time.monotonic() + FLOODED_FOR
+        while time.monotonic() < until:
+            status, passing = set_up(talk, server.uri)
+            statuses += [status, talk.ask("TEARDOWN", server.uri, [("Session", passing)]).status]
+            time.sleep(0.01)
+        for process in running:
+            process.kill()
+            process.join()
+        checks.same("answers to another session but 200", [], [it for it in statuses if it != 200])
+        checks.that("it was answered often", len(statuses) > 100, len(statuses))
+        answered = [it.value for it, _ in counts]
+        checks.that("the floods were answered", sum(answered) > 10_000, answered)
+        talk.close()
