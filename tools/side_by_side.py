@@ -2,7 +2,7 @@
 
 `rt` lets one command at a time work on a crate and on all that it rests on, and `rt all` gives each crate one job. So a
 crate is proved in a copy of the tree that has it and the crates below it, these as they were proved, and gets as many
-jobs as there are cores for it. Those with the longest chain of crates above them go first.
+jobs as there are cores for it. The one with the longest chain of crates above it goes first, and gets most of them.
 """
 import collections
 import contextlib
@@ -239,6 +239,12 @@ class Libraries:
         """Whether more than one of them was never built."""
         return sum(not (crate_of(TOP, it) / "out/rlib/stamp").exists() for it in self.left) > 1
 
+    def jobs_for(self, name: str, idle: int, others: int) -> int:
+        """How many of the idle jobs a crate gets that others, with shorter chains, could use too: all but one where its
+        chain is the longest of all, and else its share."""
+        is_first = self.chains[name] > max((self.chains[it.name] for it in self.running), default=0)
+        return max(1, min(idle - min(others, 1) if is_first else idle // (others + 1), MOST_JOBS))
+
     def start_some(self, folder: str, at_once: int, lines: "queue.Queue") -> None:
         """Starts those that rest on proved crates alone, as long as there are jobs for them."""
         ready = [it for it in self.left if self.proved.issuperset(self.uses[it])]
@@ -247,7 +253,7 @@ class Libraries:
             idle = at_once - sum(self.jobs.values())
             if idle < 1:
                 break
-            jobs = max(1, min(idle // (len(ready) - number), MOST_JOBS))
+            jobs = self.jobs_for(name, idle, len(ready) - number - 1)
             tree = self.free.pop() if self.free else Tree(self.uses, folder)
             run = Run(name, tree.begin(name), ["lib", "--jobs", str(jobs)], lines)
             self.left.remove(name)
