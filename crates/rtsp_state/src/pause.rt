@@ -1,10 +1,12 @@
 //! PAUSE (RFC 7826 section 13.6).
 
-ghost use Rattle.std.specs.Prelude.{◌≡◌, not, IfOk};
+ghost use Rattle.std.specs.Prelude.{◌≡◌, not, IfOk, option_map, None};
 ghost use Rattle.rtsp_state.specs.Fault.{Gives};
 ghost use Rattle.rtsp_state.specs.Conduct.{IsConducted};
 ghost use Rattle.rtsp_state.specs.Context.{context_value};
-ghost use Rattle.rtsp_state.specs.Pause.{pause, pause_presentation};
+ghost use Rattle.rtsp_state.specs.declared.method.Method.TheVariants as methods;
+ghost use Rattle.rtsp_state.specs.StateTable.{row};
+ghost use Rattle.rtsp_state.specs.Pause.{pause_presentation};
 
 use crate::context::{Context, is_other, streams_of, timing_of};
 use crate::fault::{Fault, must};
@@ -46,16 +48,20 @@ fn pause_presentation(
     }))
 }
 
-/// PAUSE of a session's presentation. The tracks of a session are paused together.
+/// PAUSE of a session's presentation. The tracks of a session are paused together. It is refused
+/// where no living session is named.
 pub fn pause(
     alloc: Global,
     context: &Context<'_>,
-    view: &SessionView,
+    view: Option<&SessionView>,
     target: &Target,
 ) -> Result<Plan, Fault>
-    ensures value { Gives result (pause (context_value context.now) view.now target.now) }
+    ensures value { Gives result (row (context_value context.now) methods.Pause (option_map (λ v. v.now) view.entry) None target.now) }
     ensures conducted { IfOk result IsConducted }
 {
+    let Some(view) = view else {
+        return Err(Fault::Refused(Status::SessionNotFound));
+    };
     match target {
         Target::Track(..) => Err(Fault::Refused(Status::OnlyAggregateAllowed)),
         Target::Presentation(_, presentation) => pause_presentation(

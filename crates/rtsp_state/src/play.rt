@@ -1,10 +1,12 @@
 //! PLAY (RFC 7826 section 13.4).
 
-ghost use Rattle.std.specs.Prelude.{◌≡◌, ◌≤◌, not, Ok, option_map, IfOk};
+ghost use Rattle.std.specs.Prelude.{◌≡◌, ◌≤◌, not, Ok, option_map, IfOk, None};
 ghost use Rattle.rtsp_state.specs.Fault.{Gives};
 ghost use Rattle.rtsp_state.specs.Conduct.{IsConducted};
 ghost use Rattle.rtsp_state.specs.Context.{context_value};
-ghost use Rattle.rtsp_state.specs.Play.{fault_of, range_in, from_of, units_in, units_asked, stream_of, stream_info, rtp_info_from, play, play_presentation};
+ghost use Rattle.rtsp_state.specs.declared.method.Method.TheVariants as methods;
+ghost use Rattle.rtsp_state.specs.StateTable.{row};
+ghost use Rattle.rtsp_state.specs.Play.{fault_of, range_in, from_of, units_in, units_asked, stream_of, stream_info, rtp_info_from, play_presentation};
 
 use crate::context::{Context, is_other, streams_of, timing_of};
 use crate::fault::{Fault, must};
@@ -182,16 +184,20 @@ fn play_presentation(
     }))
 }
 
-/// PLAY of a session's presentation. The tracks of a session are played together.
+/// PLAY of a session's presentation. The tracks of a session are played together. It is refused
+/// where no living session is named.
 pub fn play(
     alloc: Global,
     context: &Context<'_>,
-    view: &SessionView,
+    view: Option<&SessionView>,
     target: &Target,
 ) -> Result<Plan, Fault>
-    ensures value { Gives result (play (context_value context.now) view.now target.now) }
+    ensures value { Gives result (row (context_value context.now) methods.Play (option_map (λ v. v.now) view.entry) None target.now) }
     ensures conducted { IfOk result IsConducted }
 {
+    let Some(view) = view else {
+        return Err(Fault::Refused(Status::SessionNotFound));
+    };
     match target {
         Target::Track(..) => Err(Fault::Refused(Status::OnlyAggregateAllowed)),
         Target::Presentation(base, presentation) => {

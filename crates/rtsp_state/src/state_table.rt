@@ -58,18 +58,9 @@ fn row(
         Method::Options => options(context),
         Method::Describe => describe(alloc, context, target),
         Method::Setup => setup(alloc, context, view, name, &target),
-        Method::Teardown => match view {
-            Some(view) => teardown(alloc, context, view, &target),
-            None => Err(Fault::Refused(Status::SessionNotFound)),
-        },
-        Method::Play => match view {
-            Some(view) => play(alloc, context, view, &target),
-            None => Err(Fault::Refused(Status::SessionNotFound)),
-        },
-        Method::Pause => match view {
-            Some(view) => pause(alloc, context, view, &target),
-            None => Err(Fault::Refused(Status::SessionNotFound)),
-        },
+        Method::Teardown => teardown(alloc, context, view, &target),
+        Method::Play => play(alloc, context, view, &target),
+        Method::Pause => pause(alloc, context, view, &target),
         Method::GetParameter => get_parameter(alloc, context, view, &target),
         Method::SetParameter => set_parameter(context),
     }

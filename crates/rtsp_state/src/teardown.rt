@@ -1,10 +1,12 @@
 //! TEARDOWN (RFC 7826 section 13.7).
 
-ghost use Rattle.std.specs.Prelude.{◌≡◌, not, IfOk};
+ghost use Rattle.std.specs.Prelude.{◌≡◌, not, IfOk, option_map, None};
 ghost use Rattle.rtsp_state.specs.Fault.{Gives};
 ghost use Rattle.rtsp_state.specs.Conduct.{IsConducted};
 ghost use Rattle.rtsp_state.specs.Context.{context_value};
-ghost use Rattle.rtsp_state.specs.Teardown.{teardown, teardown_presentation, teardown_track};
+ghost use Rattle.rtsp_state.specs.declared.method.Method.TheVariants as methods;
+ghost use Rattle.rtsp_state.specs.StateTable.{row};
+ghost use Rattle.rtsp_state.specs.Teardown.{teardown_presentation, teardown_track};
 
 use crate::context::{Context, has_track, is_other, streams_of};
 use crate::fault::{Fault, must};
@@ -69,16 +71,20 @@ fn teardown_track(
     }))
 }
 
-/// TEARDOWN of a session's presentation ends the session, of its only track too.
+/// TEARDOWN of a session's presentation ends the session, of its only track too. It is refused
+/// where no living session is named.
 pub fn teardown(
     alloc: Global,
     context: &Context<'_>,
-    view: &SessionView,
+    view: Option<&SessionView>,
     target: &Target,
 ) -> Result<Plan, Fault>
-    ensures value { Gives result (teardown (context_value context.now) view.now target.now) }
+    ensures value { Gives result (row (context_value context.now) methods.Teardown (option_map (λ v. v.now) view.entry) None target.now) }
     ensures conducted { IfOk result IsConducted }
 {
+    let Some(view) = view else {
+        return Err(Fault::Refused(Status::SessionNotFound));
+    };
     match target {
         Target::Presentation(_, presentation) => {
             teardown_presentation(alloc, context, view, *presentation)

@@ -1,4 +1,4 @@
-//! One answer of each kind, from each public call.
+//! One answer from each public call.
 
 use crate::world::{PLAY, play_it, request, sessions, setup_texts, step_text, stream, tone};
 use rtsp_book::{Admitted, BookRep, Kept, Opening, PlainBook, Refusal, SessionView, Step};
@@ -10,91 +10,16 @@ use rtsp_state::{
     law_allowed_is_valid, law_answers_in_order, law_answers_refusal, law_reads_once,
     law_renews_in_steps, law_shows_allowed, law_shows_session, renewal, renewal_refused, screen,
 };
-use rtspd::EXAMPLE;
 use std::alloc::{AllocError, Global};
 use std::process::Abort;
 use std::test::Fail;
 
 const TONE: &str = "rtsp://h/tone";
 
-// The ids of the sessions 1, 2 and 4.
-const BARE: &str = "00000000000000000000000000000001";
-
+// The id of the session that is Ready.
 const READY: &str = "00000000000000000000000000000002";
 
-const ENDED: &str = "00000000000000000000000000000004";
-
 const PEER: u32 = 0x7f00_0001;
-
-// A session, its id, a method, a Range, a body, and the response to the request of the example's
-// presentation.
-type Row = (
-    u64,
-    &'static str,
-    &'static str,
-    &'static str,
-    &'static str,
-    &'static str,
-);
-
-const ANSWERS: [Row; 6] = [
-    (
-        2,
-        READY,
-        "OPTIONS",
-        "",
-        "",
-        "RTSP/2.0 200 OK\r\nCSeq: 1\r\nSession: 00000000000000000000000000000002\r\n\
-        Public: OPTIONS, DESCRIBE, SETUP, PLAY, PAUSE, TEARDOWN, GET_PARAMETER, SET_PARAMETER\r\n\r\n",
-    ),
-    (
-        1,
-        BARE,
-        "PAUSE",
-        "",
-        "",
-        "RTSP/2.0 455 Method Not Valid in This State\r\nCSeq: 1\r\n\
-        Session: 00000000000000000000000000000001\r\n\
-        Allow: OPTIONS, DESCRIBE, GET_PARAMETER, SET_PARAMETER\r\n\r\n",
-    ),
-    (
-        2,
-        READY,
-        "PLAY",
-        "smpte=0-",
-        "",
-        "RTSP/2.0 456 Header Field Not Valid for Resource\r\nCSeq: 1\r\n\
-        Session: 00000000000000000000000000000002\r\nAccept-Ranges: npt\r\n\r\n",
-    ),
-    (
-        2,
-        READY,
-        "PLAY",
-        "npt=10-",
-        "",
-        "RTSP/2.0 457 Invalid Range\r\nCSeq: 1\r\n\
-        Session: 00000000000000000000000000000002\r\n\r\n",
-    ),
-    (
-        4,
-        ENDED,
-        "PLAY",
-        "",
-        "",
-        "RTSP/2.0 457 Invalid Range\r\nCSeq: 1\r\n\
-        Session: 00000000000000000000000000000004\r\n\r\n",
-    ),
-    (
-        4,
-        ENDED,
-        "GET_PARAMETER",
-        "",
-        "position\r\nduration",
-        "RTSP/2.0 200 OK\r\nCSeq: 1\r\nSession: 00000000000000000000000000000004\r\n\
-        Content-Type: text/parameters\r\nContent-Length: 36\r\n\r\n\
-        position: 10.000\r\nduration: 10.000\r\n",
-    ),
-];
 
 // What is written in a room.
 fn assert_written(rt: &impl Abort, room: &Room, expected: &str) -> Result<(), Fail> {
@@ -126,34 +51,6 @@ fn plan_of(
         Screen::Answered(_) => Ok(None),
         Screen::Asks(parsed) => Ok(Some(decide(alloc, parsed, view, table, PEER, 0)?)),
     }
-}
-
-fn assert_answered(
-    rt: &impl Abort,
-    alloc: Global,
-    table: &Table,
-    kept: &Kept<PlainBook>,
-    row: &Row,
-) -> Result<(), Fail> {
-    let (session, id, method, range, body, expected) = row;
-    let request = request(alloc, (method, TONE), id, range, body)?;
-    let view = kept.book().session(*session);
-    let plan = plan_of(alloc, &request, view.as_ref(), table)?;
-    assert!(rt; matches!(&plan, Some(Plan::Answer(_))), "{method} {range}");
-    if let Some(Plan::Answer(reply)) = &plan {
-        assert_replied(rt, alloc, reply, expected)?;
-    }
-    Ok(())
-}
-
-#[test]
-fn some_requests_are_answered_at_once(rt: HostRuntime) -> Result<(), Fail> {
-    let table = tone(&rt)?;
-    let kept = sessions(rt.alloc())?;
-    for row in ANSWERS.iter() {
-        assert_answered(&rt, rt.alloc(), &table, &kept, row)?;
-    }
-    Ok(())
 }
 
 // The key that is drawn for a new session.
@@ -315,17 +212,6 @@ fn a_session_is_renewed_but_by_its_teardown(rt: HostRuntime) -> Result<(), Fail>
     assert!(rt; ended.is_none());
     let same = renewed_until(rt.alloc(), &table, "PLAY", 0)?;
     assert!(rt; same.is_none());
-    Ok(())
-}
-
-#[test]
-fn a_session_is_renewed_by_a_step_at_least(rt: HostRuntime) -> Result<(), Fail> {
-    let text = EXAMPLE.replacen(rt.alloc(), "timeout", "renewal_step = 5000\ntimeout", 1)?;
-    let table = Table::read(rt.alloc(), text.as_bytes())?;
-    let too_little = renewed_until(rt.alloc(), &table, "PLAY", 4_999)?;
-    assert!(rt; too_little.is_none());
-    let enough = renewed_until(rt.alloc(), &table, "PLAY", 5_000)?;
-    assert!(rt; enough == Some(65_000));
     Ok(())
 }
 

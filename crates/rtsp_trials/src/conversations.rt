@@ -5,7 +5,6 @@ use crate::world::{serve, tone};
 use rtsp_book::Kept;
 use rtsp_content::Table;
 use rtsp_engine::{Asker, CountedReader, CountedWriter, ServeEnd, TURNS};
-use rtsp_grammar::MessageFault;
 use rtsp_lock::{LockBook, open};
 use rtsp_record::write_journal;
 use rtsp_server::whole_of;
@@ -51,44 +50,6 @@ const THIRD_SETUP: &str = "SETUP rtsp://h/tone/a RTSP/2.0\r\nCSeq: 3\r\n\
 
 const TEARDOWN: &str = "TEARDOWN rtsp://h/tone RTSP/2.0\r\nCSeq: 3\r\n\
     Session: 00000000000000000000000000000001\r\n\r\n";
-
-// A request that is refused, and its answer.
-const REFUSED: [(&str, &str); 8] = [
-    (
-        "OPTIONS * RTSP/2.0\r\n\r\n",
-        "RTSP/2.0 400 Bad Request\r\n\r\n",
-    ),
-    (
-        "OPTIONS * RTSP/2.0\r\nCSeq: 1234567890\r\n\r\n",
-        "RTSP/2.0 400 Bad Request\r\n\r\n",
-    ),
-    (
-        "OPTIONS * RTSP/1.0\r\nCSeq: 1\r\n\r\n",
-        "RTSP/2.0 505 RTSP Version Not Supported\r\nCSeq: 1\r\n\r\n",
-    ),
-    (
-        "RECORD rtsp://h/tone RTSP/2.0\r\nCSeq: 1\r\n\r\n",
-        "RTSP/2.0 501 Not Implemented\r\nCSeq: 1\r\n\r\n",
-    ),
-    (
-        "OPTIONS * RTSP/2.0\r\nCSeq: 1\r\nRequire: play.basic, x.y\r\n\r\n",
-        "RTSP/2.0 551 Option Not Supported\r\nCSeq: 1\r\nUnsupported: x.y\r\n\r\n",
-    ),
-    (
-        "DESCRIBE rtsp://h/none RTSP/2.0\r\nCSeq: 1\r\n\r\n",
-        "RTSP/2.0 404 Not Found\r\nCSeq: 1\r\n\r\n",
-    ),
-    (
-        "SETUP rtsp://h/tone/a RTSP/2.0\r\nCSeq: 1\r\n\
-        Transport: RTP/SAVP;unicast;dest_addr=\":8000\"/\":8001\"\r\n\r\n",
-        "RTSP/2.0 461 Unsupported Transport\r\nCSeq: 1\r\n\r\n",
-    ),
-    (
-        "SETUP rtsp://h/tone/a RTSP/2.0\r\nCSeq: 1\r\n\
-        Transport: RTP/AVP;unicast;dest_addr=\"192.0.2.9:8000\"/\"192.0.2.9:8001\"\r\n\r\n",
-        "RTSP/2.0 463 Destination Prohibited\r\nCSeq: 1\r\n\r\n",
-    ),
-];
 
 // What a conversation says, the book that it leaves, and how it ends.
 #[derive(Drop)]
@@ -208,24 +169,6 @@ fn a_refused_setup_leaves_nothing_held(rt: HostRuntime) -> Result<(), Fail> {
         book.as_slice()
             .ends_with(b"rate 160000 0\npairs 0 2\n".as_slice())
     );
-    Ok(())
-}
-
-#[test]
-fn each_refusal_has_its_status(rt: HostRuntime) -> Result<(), Fail> {
-    for (request, answer) in REFUSED.iter() {
-        let talk = converse(&rt, [*request].as_slice())?;
-        assert!(rt; talk.said.as_slice() == answer.as_bytes());
-        assert!(rt; talk.kept.journal().is_empty());
-    }
-    Ok(())
-}
-
-#[test]
-fn a_bare_line_feed_ends_the_conversation(rt: HostRuntime) -> Result<(), Fail> {
-    let talk = converse(&rt, ["OPTIONS * RTSP/2.0\n", OPTIONS].as_slice())?;
-    assert!(rt; talk.said.as_slice() == b"RTSP/2.0 400 Bad Request\r\n\r\n".as_slice());
-    assert!(rt; talk.end == ServeEnd::Fault(MessageFault::BadLine));
     Ok(())
 }
 

@@ -24,8 +24,6 @@ mod responses;
 #[cfg(test)]
 mod servers;
 #[cfg(test)]
-mod setups;
-#[cfg(test)]
 mod state_table;
 #[cfg(test)]
 mod world;
