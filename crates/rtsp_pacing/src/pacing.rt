@@ -2,8 +2,8 @@
 
 ghost use Rattle.rtsp_lock.specs.Calls.{IsSeatOf};
 
-use crate::bell::Heard;
 use crate::desk::{Paced, PacerDesk, PacerParts};
+use crate::inbox::Heard;
 use crate::noted::NewPlay;
 use crate::play::{Next, PacedPlay};
 use crate::plays::PacerPlays;
