@@ -3,3 +3,4 @@ pub mod Noted
 pub mod Bells
 pub mod Plays
 pub mod Inbox
+pub mod Linking
