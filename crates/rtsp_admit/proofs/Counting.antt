@@ -1,10 +1,11 @@
 -- Where no failure was counted no bind failed.
-use Rattle.std.proofs.Common.{◌≡◌, ℕ, ◌+◌, ◌-◌, ◌<◌, ◌≤◌, ◌^◌, List, [], ◌∷◌, ◌++◌, refl, sym, ◌∙◌, ap, subst, arith, Ok, Err}
-use Rattle.std.specs.Prelude.{Option, Some, None, Contains}
+use Rattle.std.proofs.Common.{◌≡◌, ℕ, ◌+◌, ◌-◌, ◌<◌, ◌≤◌, ◌^◌, List, [], ◌∷◌, ◌++◌, refl, sym, ◌∙◌, ap, subst, arith, append_assoc, Ok, Err}
+use Rattle.std.specs.Prelude.{Option, Some, None}
 use Rattle.std.proofs.Math.Nat.{le-min, min-le_right}
-use Rattle.std.proofs.lemmas.List.Elements.{Contains-append_right}
+use Rattle.rtsp_record.specs.declared.changes.Record.{Record}
 use Rattle.rtsp_record.specs.declared.holdings.Thing.{Thing}
 use Rattle.rtsp_record.specs.declared.holdings.Thing.TheVariants.{Pair, Port, Chan, Rate}
+use Rattle.rtsp_record.specs.Records.{holds}
 use Rattle.rtsp_book.specs.declared.asks.Ask.{Ask}
 use Rattle.rtsp_book.specs.declared.asks.Opening.{Opening}
 use Rattle.rtsp_book.specs.declared.asks.Wanted.{Wanted}
@@ -20,9 +21,8 @@ use Rattle.rtsp_admit.specs.declared.udp_ports.UdpPorts.{UdpPorts}
 use Rattle.rtsp_admit.specs.declared.udp_ports.UdpPorts.TheVariants as udp
 use Rattle.rtsp_admit.specs.Binder.{Calls, raised, Released, UnboundAll}
 use Rattle.rtsp_admit.specs.Steps.{bound_address, open_step, rate_step, ports_from, ports_step, address_step, commit_step, opening_steps, refusal_of}
-use Rattle.rtsp_admit.specs.Runs.{State, with_view, Held, NotOpened, PortsRefused, Tried, PortsGranted, NoPortsGranted, Addressed, NotAddressed, Fails}
-use Rattle.rtsp_admit.specs.Faults.{FirstPorts, IsFirstOffer, IsFirstRefusal, AdmissionsCountFaults}
-use Rattle.rtsp_admit.proofs.Breaking.{is_chan}
+use Rattle.rtsp_admit.specs.Runs.{State, with_view, Held, Opened, NotOpened, Rated, PortsRefused, Tried, PortsGranted, NoPortsGranted, Addressed, NotAddressed, Fails}
+use Rattle.rtsp_admit.specs.Faults.{Accepts, earlier_steps, IsFirstOffer, BreaksFirst, IsFirstRefusal, AdmissionsCountFaults}
 
 -- the greatest count
 abbrev most : ℕ
@@ -40,24 +40,37 @@ pub record Rises (n k : ℕ) : Type 0 where
 rises_same : (n k : ℕ) → n ≤ most → k ≡ n → Rises n k
 rises_same n k within e = record { up = omega (arith, e); within = omega (arith, e, within) }
 
+-- steps that were accepted, and then others
+accepts_then : (xs ys : List Step) (v w u : View) → Accepts xs v w → Accepts ys w u → Accepts (xs ++ ys) v u
+accepts_then [] ys v w u first second = subst (λ z. Accepts ys z u) first second
+accepts_then (x ∷ xs) ys v w u first second = (first.0, first.1, accepts_then xs ys first.0 w u first.2 second)
+
+accepts_one : (step : Step) (made : List Record) (v u : View) → Acted v u step (Ok made) → Accepts (step ∷ []) v u
+accepts_one step made v u h = (u, (made, h), refl)
+
 module _ (ask : Ask) where
-  -- the Open is one of the steps
-  first_open : (o : Option Opening) (rest : List Step) (refusal : Refusal) (v u : View) → NotOpened ask o refusal v u → (step : Step) × Contains (opening_steps ask o ++ rest) step × Acted v u step (Err refusal)
-  first_open None rest refusal v u h = absurd h
-  first_open (Some o) rest refusal v u h = (open_step ask o, (0, omega arith, refl), h)
+  opens : (o : Option Opening) (v u : View) → Opened ask o v u → Accepts (opening_steps ask o) v u
+  opens None v u h = h
+  opens (Some o) v u h = (u, h, refl)
 
-  -- so is one of the others
-  later_step : (k : List Step) (step : Step) → Contains k step → Contains (opening_steps ask ask.opening ++ k) step
-  later_step k step is = Contains-append_right (opening_steps ask ask.opening) k step is
+  accepts_held : (step : Step) (x : Thing) (v u : View) → Held ask step x v u → Accepts (step ∷ []) v u
+  accepts_held step x v u h = accepts_one step (holds ask.session ask.admission x ∷ []) v u h
 
-  refused_as : (step : Step) (refusal : Refusal) (v u : View) → Contains (rate_step ask ∷ address_step ask ask.wanted ∷ commit_step ask ∷ []) step → Acted v u step (Err refusal) → IsFirstRefusal ask refusal
-  refused_as step refusal v u is acted =
-      record { step = step; asked = later_step (rate_step ask ∷ address_step ask ask.wanted ∷ commit_step ask ∷ []) step is; before = v; after = u; refused = acted }
+  rates : (v u : View) → Rated ask v u → Accepts (earlier_steps ask) v u
+  rates v u h = accepts_then (opening_steps ask ask.opening) (rate_step ask ∷ []) v h.opened u (opens ask.opening v h.opened h.opens) (accepts_held (rate_step ask) (Rate ask.rate) h.opened u h.holds)
 
-  -- ports that are the least of all free ones are the first offer
-  offered : (kind : UdpPorts) (p : ℕ) → FirstPorts ask kind (ports_from kind p) → IsFirstOffer ask (ports_from kind p)
-  offered udp.Pair p first = first
-  offered udp.Port p first = first
+  -- the steps behind the Open
+  abbrev rest : List Step
+  rest = rate_step ask ∷ address_step ask ask.wanted ∷ commit_step ask ∷ []
+
+  breaks_open : (o : Option Opening) (refusal : Refusal) (v u : View) → NotOpened ask o refusal v u
+      → (step : Step) × (later : List Step) × (opening_steps ask o ++ rest ≡ step ∷ later) × Acted v u step (Err refusal)
+  breaks_open None refusal v u h = absurd h
+  breaks_open (Some o) refusal v u h = (open_step ask o, rest, refl, h)
+
+  break : (earlier : List Step) (step : Step) (later : List Step) (refusal : Refusal) (v w u : View) → opening_steps ask ask.opening ++ rest ≡ earlier ++ step ∷ later → Accepts earlier v w → Acted w u step (Err refusal) → BreaksFirst ask refusal v u
+  break earlier step later refusal v w u asked accepted refused =
+      record { earlier = earlier; step = step; later = later; asked = asked; before = w; accepted = accepted; refused = refused }
 
 module _ {B : Type 0} (calls : Calls B) (ask : Ask) (kind : UdpPorts) where
   rises_tried : (before : List ℕ) (from : ℕ) (s t : State B) → Tried calls ask kind before from s t → calls.failures s.binder ≤ most → Rises (calls.failures s.binder) (calls.failures t.binder)
@@ -71,54 +84,66 @@ module _ {B : Type 0} (calls : Calls B) (ask : Ask) (kind : UdpPorts) where
       record { up = omega (arith, up, more, counted); within = omega (arith, last, counted) }
 
   -- where no failure was counted the next try is the first
-  first_try : (before : List ℕ) (from : ℕ) (s t : State B) → Tried calls ask kind before from s t → calls.failures s.binder < most → calls.failures t.binder ≡ calls.failures s.binder → from ≡ 0
-  first_try [] from s t h below same = h.0
+  first_try : (before : List ℕ) (from : ℕ) (s t : State B) → Tried calls ask kind before from s t → calls.failures s.binder < most → calls.failures t.binder ≡ calls.failures s.binder → (from ≡ 0) × (t ≡ s)
+  first_try [] from s t h below same = h
   first_try (p ∷ before) from s t h below same =
       let up = (rises_tried before h.start s h.between h.before (omega (arith, below))).up in
       let over = raised_over (calls.failures s.binder) (calls.failures h.between.binder) below up in
       let counted = h.returned.failed.count in
       absurd (omega (arith, over, counted, same))
 
-  first_granted : (x : Thing) (s t : State B) → PortsGranted calls ask kind x s t → calls.failures s.binder < most → calls.failures t.binder ≡ calls.failures s.binder → IsFirstOffer ask x
+  first_granted : (x : Thing) (s t : State B) → PortsGranted calls ask kind x s t → calls.failures s.binder < most → calls.failures t.binder ≡ calls.failures s.binder → Held ask (ports_step ask kind 0) x s.view t.view
   first_granted x s t h below same =
-      let from = first_try h.tried h.from s h.between h.tries below (sym h.last.bound.count ∙ same) in
-      let ports = ports_from kind h.first in
-      let held = subst (λ n. Held ask (ports_step ask kind n) ports h.between.view t.view) from h.last.held in
-      subst (IsFirstOffer ask) (sym h.is) (offered ask kind h.first (record { before = h.between.view; after = t.view; held = held }))
+      let first = first_try h.tried h.from s h.between h.tries below (sym h.last.bound.count ∙ same) in
+      let from : Held ask (ports_step ask kind 0) (ports_from kind h.first) h.between.view t.view = subst (λ n. Held ask (ports_step ask kind n) (ports_from kind h.first) h.between.view t.view) first.0 h.last.held in
+      let here : Held ask (ports_step ask kind 0) (ports_from kind h.first) s.view t.view = subst (λ (z : State B). Held ask (ports_step ask kind 0) (ports_from kind h.first) z.view t.view) first.1 from in
+      subst (λ z. Held ask (ports_step ask kind 0) z s.view t.view) (sym h.is) here
 
   -- the refusal of a first try for ports
-  first_ports : (from : ℕ) (refusal : Refusal) (unreturned : Option Thing) (before : List ℕ) (s w t : State B) → Tried calls ask kind before from s w → PortsRefused calls ask kind from refusal unreturned w t → calls.failures s.binder < most → calls.failures t.binder ≡ calls.failures s.binder → Acted w.view t.view (ports_step ask kind 0) (Err refusal)
+  first_ports : (from : ℕ) (refusal : Refusal) (unreturned : Option Thing) (before : List ℕ) (s w t : State B) → Tried calls ask kind before from s w → PortsRefused calls ask kind from refusal unreturned w t → calls.failures s.binder < most → calls.failures t.binder ≡ calls.failures s.binder → Acted s.view t.view (ports_step ask kind 0) (Err refusal)
   first_ports from refusal None before s w t tries h below same =
-      subst (λ n. Acted w.view t.view (ports_step ask kind n) (Err refusal)) (first_try before from s w tries below (sym (ap calls.failures h.1) ∙ same)) h.0
+      let first = first_try before from s w tries below (sym (ap calls.failures h.1) ∙ same) in
+      let start : Acted w.view t.view (ports_step ask kind 0) (Err refusal) = subst (λ n. Acted w.view t.view (ports_step ask kind n) (Err refusal)) first.0 h.0 in
+      subst (λ (z : State B). Acted z.view t.view (ports_step ask kind 0) (Err refusal)) first.1 start
   first_ports from refusal (Some x) before s w t tries h below same =
       let up = (rises_tried before from s w tries (omega (arith, below))).up in
       let over = raised_over (calls.failures s.binder) (calls.failures w.binder) below up in
       let counted = h.failed.count in
       absurd (omega (arith, over, counted, same))
 
-  first_not_granted : (e : NoAddress) (s t : State B) → NoPortsGranted calls ask kind e s t → calls.failures s.binder < most → calls.failures t.binder ≡ calls.failures s.binder → (v : View) × Acted v t.view (ports_step ask kind 0) (Err e.refusal)
-  first_not_granted e s t h below same = (h.between.view, first_ports h.from e.refusal e.unreturned h.tried s h.between t h.tries h.last below same)
+  first_not_granted : (e : NoAddress) (s t : State B) → NoPortsGranted calls ask kind e s t → calls.failures s.binder < most → calls.failures t.binder ≡ calls.failures s.binder → Acted s.view t.view (ports_step ask kind 0) (Err e.refusal)
+  first_not_granted e s t h below same = first_ports h.from e.refusal e.unreturned h.tried s h.between t h.tries h.last below same
 
 module _ {B : Type 0} (calls : Calls B) (ask : Ask) where
-  first_offer : (want : Wanted) (x : Thing) (s t : State B) → Addressed calls ask want x s t → calls.failures s.binder < most → calls.failures t.binder ≡ calls.failures s.binder → IsFirstOffer ask x
+  first_offer : (want : Wanted) (x : Thing) (s t : State B) → Addressed calls ask want x s t → calls.failures s.binder < most → calls.failures t.binder ≡ calls.failures s.binder → Held ask (address_step ask want) x s.view t.view
   first_offer wanted.Pair x s t h below same = first_granted calls ask udp.Pair x s t h below same
   first_offer wanted.Port x s t h below same = first_granted calls ask udp.Port x s t h below same
-  first_offer (wanted.Channels conn wish) x s t h below same = subst (IsFirstOffer ask) (sym (is_chan ask conn wish x s.view t.view h.0).1) tt
+  first_offer (wanted.Channels conn wish) x s t h below same = h.0
 
-  first_address : (want : Wanted) (e : NoAddress) (s t : State B) → NotAddressed calls ask want e s t → calls.failures s.binder < most → calls.failures t.binder ≡ calls.failures s.binder → (v : View) × Acted v t.view (address_step ask want) (Err e.refusal)
+  first_address : (want : Wanted) (e : NoAddress) (s t : State B) → NotAddressed calls ask want e s t → calls.failures s.binder < most → calls.failures t.binder ≡ calls.failures s.binder → Acted s.view t.view (address_step ask want) (Err e.refusal)
   first_address wanted.Pair e s t h below same = first_not_granted calls ask udp.Pair e s t h below same
   first_address wanted.Port e s t h below same = first_not_granted calls ask udp.Port e s t h below same
-  first_address (wanted.Channels conn wish) e s t h below same = (s.view, h.refused)
+  first_address (wanted.Channels conn wish) e s t h below same = h.refused
 
-  first_refusal : (cause : Failure) (s t : State B) → Fails calls ask cause s t → calls.failures s.binder < most → calls.failures t.binder ≡ calls.failures s.binder → IsFirstRefusal ask (refusal_of cause)
-  first_refusal (failure.Open refusal) s t h below same =
-      let first = first_open ask ask.opening (rate_step ask ∷ address_step ask ask.wanted ∷ commit_step ask ∷ []) refusal s.view t.view h.0 in
-      record { step = first.0; asked = first.1; before = s.view; after = t.view; refused = first.2 }
-  first_refusal (failure.Rate refusal) s t h below same = refused_as ask (rate_step ask) refusal h.opened t.view (0, omega arith, refl) h.refused
-  first_refusal (failure.Address e) s t h below same =
-      let first = first_address ask.wanted e (with_view h.rated s) t h.addresses below same in
-      refused_as ask (address_step ask ask.wanted) e.refusal first.0 t.view (1, omega arith, refl) first.1
-  first_refusal (failure.Commit refusal x) s t h below same = refused_as ask (commit_step ask) refusal h.held t.view (2, omega arith, refl) h.refused
+  breaks_first : (cause : Failure) (s t : State B) → Fails calls ask cause s t → calls.failures s.binder < most → calls.failures t.binder ≡ calls.failures s.binder → BreaksFirst ask (refusal_of cause) s.view t.view
+  breaks_first (failure.Open refusal) s t h below same =
+      let first = breaks_open ask ask.opening refusal s.view t.view h.0 in
+      break ask [] first.0 first.1 refusal s.view s.view t.view first.2 refl first.3
+  breaks_first (failure.Rate refusal) s t h below same =
+      break ask (opening_steps ask ask.opening) (rate_step ask) (address_step ask ask.wanted ∷ commit_step ask ∷ []) refusal s.view h.opened t.view refl (opens ask ask.opening s.view h.opened h.opens) h.refused
+  breaks_first (failure.Address e) s t h below same =
+      break ask (earlier_steps ask) (address_step ask ask.wanted) (commit_step ask ∷ []) e.refusal s.view h.rated t.view (sym append_assoc_here) (rates ask s.view h.rated h.rates)
+          (first_address ask.wanted e (with_view h.rated s) t h.addresses below same)
+    where
+      append_assoc_here : earlier_steps ask ++ (address_step ask ask.wanted ∷ commit_step ask ∷ []) ≡ opening_steps ask ask.opening ++ rest ask
+      append_assoc_here = append_assoc (opening_steps ask ask.opening) (rate_step ask ∷ []) (address_step ask ask.wanted ∷ commit_step ask ∷ [])
+  breaks_first (failure.Commit refusal x) s t h below same =
+      let held = first_offer ask.wanted x (with_view h.rated s) (with_view h.held t) h.addresses below same in
+      break ask (earlier_steps ask ++ address_step ask ask.wanted ∷ []) (commit_step ask) [] refusal s.view h.held t.view (sym append_assoc_here)
+          (accepts_then (earlier_steps ask) (address_step ask ask.wanted ∷ []) s.view h.rated h.held (rates ask s.view h.rated h.rates) (accepts_held ask (address_step ask ask.wanted) x h.rated h.held held)) h.refused
+    where
+      append_assoc_here : (earlier_steps ask ++ address_step ask ask.wanted ∷ []) ++ (commit_step ask ∷ []) ≡ opening_steps ask ask.opening ++ rest ask
+      append_assoc_here = append_assoc (earlier_steps ask) (address_step ask ask.wanted ∷ []) (commit_step ask ∷ []) ∙ append_assoc (opening_steps ask ask.opening) (rate_step ask ∷ []) (address_step ask ask.wanted ∷ commit_step ask ∷ [])
 
   -- an unbind counts nothing
   same_unbound : (xs : List (ℕ × Thing)) (b c : B) → UnboundAll calls xs b c → calls.failures c ≡ calls.failures b
@@ -135,6 +160,20 @@ module _ {B : Type 0} (calls : Calls B) (ask : Ask) where
   pub admissions_count_faults : AdmissionsCountFaults calls ask
   admissions_count_faults (Ok granted) s t run below same =
       let h = run.0 in
-      first_offer ask.wanted granted.address (with_view h.rated s) h.held h.addresses below (sym (same_unbound _ h.held.binder t.binder h.unbound) ∙ same)
+      record {
+        before = h.rated;
+        after = h.held.view;
+        earlier = rates ask s.view h.rated h.rates;
+        held = first_offer ask.wanted granted.address (with_view h.rated s) h.held h.addresses below (sym (same_unbound _ h.held.binder t.binder h.unbound) ∙ same);
+        commit = accepts_one (commit_step ask) h.made h.held.view t.view h.commits;
+      }
   admissions_count_faults (Err refusal) s t run below same =
-      subst (IsFirstRefusal ask) (sym run.first) (first_refusal run.cause s run.broken run.fails below (sym (same_released (bound_address run.cause) run.broken.binder t.binder run.releases) ∙ same))
+      let broken = breaks_first run.cause s run.broken run.fails below (sym (same_released (bound_address run.cause) run.broken.binder t.binder run.releases) ∙ same) in
+      record {
+        broken = run.broken.view;
+        breaks = subst (λ r. BreaksFirst ask r s.view run.broken.view) (sym run.first) broken;
+        cause = run.cause;
+        of_cause = run.first;
+        answer = run.answer;
+        unwinds = run.unwinds;
+      }

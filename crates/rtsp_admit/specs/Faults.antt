@@ -1,50 +1,65 @@
 -- A bind that failed shows in an admission only where it was counted.
-use Rattle.std.specs.Prelude.{◌≡◌, ◌-◌, ◌<◌, ◌^◌, Contains, Result, Ok, Err}
+use Rattle.std.specs.Prelude.{◌≡◌, ◌-◌, ◌<◌, ◌^◌, List, [], ◌∷◌, ◌++◌, Result, Ok, Err}
+use Rattle.rtsp_record.specs.declared.changes.Record.{Record}
 use Rattle.rtsp_record.specs.declared.holdings.Thing.{Thing}
-use Rattle.rtsp_record.specs.declared.holdings.Thing.TheVariants.{Rate, Pair, Port, Chan}
 use Rattle.rtsp_book.specs.declared.asks.Admitted.{Admitted}
 use Rattle.rtsp_book.specs.declared.asks.Ask.{Ask}
 use Rattle.rtsp_book.specs.declared.refusals.Refusal.{Refusal}
 use Rattle.rtsp_book.specs.declared.steps.Step.{Step}
+use Rattle.rtsp_book.specs.declared.steps.Step.TheVariants.{Unwind}
 use Rattle.rtsp_lock.specs.declared.view.View.{View}
 use Rattle.rtsp_lock.specs.Calls.{Acted}
-use Rattle.rtsp_admit.specs.declared.udp_ports.UdpPorts.{UdpPorts}
-use Rattle.rtsp_admit.specs.declared.udp_ports.UdpPorts.TheVariants as udp
-use Rattle.rtsp_admit.specs.Steps.{ports_step, first_steps}
+use Rattle.rtsp_admit.specs.declared.failure.Failure.{Failure}
+use Rattle.rtsp_admit.specs.Steps.{opening_steps, rate_step, address_step, commit_step, first_steps, chain_left, refusal_of}
 use Rattle.rtsp_admit.specs.Binder.{Calls}
 use Rattle.rtsp_admit.specs.Runs.{State, Held, Admits}
 
--- the least of all free ports was asked for, and was this
-pub record FirstPorts (ask : Ask) (kind : UdpPorts) (x : Thing) : Type 0 where
+-- the seat took these steps, one after another and no other, and each was accepted
+abbrev pub Accepts : List Step → View → View → Type 0
+Accepts [] v u = u ≡ v
+Accepts (step ∷ steps) v u = (w : View) × ((made : List Record) × Acted v w step (Ok made)) × Accepts steps w u
+
+-- the steps before the address
+abbrev pub earlier_steps : Ask → List Step
+earlier_steps ask = opening_steps ask ask.opening ++ rate_step ask ∷ []
+
+-- the address is what its step gave as it was first asked; for ports, the least of all free ones
+pub record IsFirstOffer (ask : Ask) (x : Thing) (v u : View) : Type 0 where
   pub before : View
   pub after : View
-  pub held : Held ask (ports_step ask kind 0) x before after
+  pub earlier : Accepts (earlier_steps ask) v before
+  pub held : Held ask (address_step ask ask.wanted) x before after
+  pub commit : Accepts (commit_step ask ∷ []) after u
 
--- ports that were granted are the first that were held
-abbrev pub IsFirstOffer : Ask → Thing → Type 0
-IsFirstOffer ask (Pair p) = FirstPorts ask udp.Pair (Pair p)
-IsFirstOffer ask (Port p) = FirstPorts ask udp.Port (Port p)
-IsFirstOffer ask (Chan c k) = Unit {0}
-IsFirstOffer ask (Rate n) = Unit {0}
-
--- a step was refused as it was first asked
-pub record IsFirstRefusal (ask : Ask) (refusal : Refusal) : Type 0 where
+-- the steps that come first were accepted as they were first asked, and so the next was refused
+pub record BreaksFirst (ask : Ask) (refusal : Refusal) (v u : View) : Type 0 where
+  pub earlier : List Step
   pub step : Step
-  pub asked : Contains (first_steps ask) step
+  pub later : List Step
+  pub asked : first_steps ask ≡ earlier ++ step ∷ later
   pub before : View
-  pub after : View
-  pub refused : Acted before after step (Err refusal)
+  pub accepted : Accepts earlier v before
+  pub refused : Acted before u step (Err refusal)
 
--- no bind that failed had part in the answer
-abbrev pub HasNoFault : Ask → Result Admitted Refusal → Type 0
-HasNoFault ask (Ok granted) = IsFirstOffer ask granted.address
-HasNoFault ask (Err refusal) = IsFirstRefusal ask refusal
+-- a step was refused as it was first asked, and then those before it were unwound
+pub record IsFirstRefusal (ask : Ask) (refusal : Refusal) (v u : View) : Type 0 where
+  pub broken : View
+  pub breaks : BreaksFirst ask refusal v broken
+  pub cause : Failure
+  pub of_cause : refusal ≡ refusal_of cause
+  pub answer : Result (List Record) Refusal
+  pub unwinds : Acted broken u (Unwind (chain_left ask cause)) answer
+
+-- no bind that failed had part in the calls of the seat, nor in the answer
+abbrev pub HasNoFault : Ask → Result Admitted Refusal → View → View → Type 0
+HasNoFault ask (Ok granted) v u = IsFirstOffer ask granted.address v u
+HasNoFault ask (Err refusal) v u = IsFirstRefusal ask refusal v u
 
 module _ {B : Type 0} (calls : Calls B) (ask : Ask) where
   -- so it is where no failure was counted, below the greatest count
-  abbrev pub CountsFaults : Result Admitted Refusal → B → B → Type 0
-  CountsFaults result b c = calls.failures b < 2 ^ 64 - 1 → calls.failures c ≡ calls.failures b → HasNoFault ask result
+  abbrev pub CountsFaults : Result Admitted Refusal → State B → State B → Type 0
+  CountsFaults result s t = calls.failures s.binder < 2 ^ 64 - 1 → calls.failures t.binder ≡ calls.failures s.binder → HasNoFault ask result s.view t.view
 
   -- each admission counts its faults
   abbrev pub AdmissionsCountFaults : Type 0
-  AdmissionsCountFaults = (result : Result Admitted Refusal) (s t : State B) → Admits calls ask result s t → CountsFaults result s.binder t.binder
+  AdmissionsCountFaults = (result : Result Admitted Refusal) (s t : State B) → Admits calls ask result s t → CountsFaults result s t

@@ -152,7 +152,7 @@ pub fn admit<R: Wait, B: Binder>(
     ensures bound { IfOk result (λ granted. GainsAddress B.calls ask.now granted (state_of seat.old binder.old) (state_of seat.new binder.new)) }
 
     // A bind that failed shows only where it was counted.
-    ensures faults { CountsFaults B.calls ask.now result binder.old binder.new }
+    ensures faults { CountsFaults B.calls ask.now result (state_of seat.old binder.old) (state_of seat.new binder.new) }
 
     // A seat that uses its own numbers alone goes on so.
     ensures drawn { KeepsDrawn ask.now (seat_view seat.old) (seat_view seat.new) }

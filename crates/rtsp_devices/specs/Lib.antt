@@ -1,2 +1,3 @@
 pub mod CountedWords
+pub mod Has
 pub mod PortSet

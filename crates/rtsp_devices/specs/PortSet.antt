@@ -1,9 +1,24 @@
 -- Which ports are bound, pairs and single ones, each by its admission.
-use Rattle.std.specs.Prelude.{◌≡◌, ◌≢◌, ℕ, ◌+◌, ◌-◌, ◌*◌, ◌/◌, slice_get, replicate, List, Option, Some, None}
+use Rattle.std.specs.Prelude.{◌≡◌, ◌≢◌, ◌≤◌, ℕ, ◌+◌, ◌-◌, ◌*◌, ◌/◌, ◌%◌, slice_get, replicate, List, Option, Some, None}
 use Rattle.rtsp_record.specs.declared.holdings.Thing.{Thing}
 use Rattle.rtsp_record.specs.declared.holdings.Thing.TheVariants.{Pair, Port, Chan, Rate}
 use Rattle.rtsp_admit.specs.Binder.{Calls, raised}
 use Rattle.rtsp_devices.specs.declared.port_set.PortSet.{PortSet}
+
+-- a pair of the set begins at its first port, or some pairs above it
+abbrev pub IsOwnPair : ℕ → ℕ → Type 0
+IsOwnPair first pair = (first ≤ pair) × ((pair - first) % 2 ≡ 0)
+
+-- a port of the set isn't below its first port
+abbrev pub IsOwnPort : ℕ → ℕ → Type 0
+IsOwnPort first port = first ≤ port
+
+-- an address of the set, where it has so many ports
+abbrev pub IsOwn : PortSet → Thing → Type 0
+IsOwn b (Pair p) = IsOwnPair b.first_port p
+IsOwn b (Port p) = IsOwnPort b.first_port p
+IsOwn b (Chan c k) = ⊥
+IsOwn b (Rate n) = ⊥
 
 -- the place of a pair, by its first port
 abbrev pub pair_place : ℕ → ℕ → ℕ
@@ -20,17 +35,19 @@ pub record NoneBound (first pairs : ℕ) (b : PortSet) : Type 0 where
   pub ports_free : b.ports.items ≡ replicate (2 * pairs) None
   pub count : b.failed ≡ 0
 
--- the place of a pair is free, and so are those of its ports
+-- a pair of the set is free, and so are its ports
 abbrev pub IsOpenPair : PortSet → ℕ → Type 0
 IsOpenPair b p =
-    (slice_get b.pairs.items (pair_place b.first_port p) ≡ Some None)
+    IsOwnPair b.first_port p
+    × (slice_get b.pairs.items (pair_place b.first_port p) ≡ Some None)
     × (slice_get b.ports.items (port_place b.first_port p) ≡ Some None)
     × (slice_get b.ports.items (port_place b.first_port p + 1) ≡ Some None)
 
--- the place of a port is free, and so is that of its pair
+-- a port of the set is free, and so is its pair
 abbrev pub IsOpenPort : PortSet → ℕ → Type 0
 IsOpenPort b p =
-    (slice_get b.ports.items (port_place b.first_port p) ≡ Some None)
+    IsOwnPort b.first_port p
+    × (slice_get b.ports.items (port_place b.first_port p) ≡ Some None)
     × (slice_get b.pairs.items (pair_place b.first_port p) ≡ Some None)
 
 -- the address can be bound
@@ -46,6 +63,11 @@ slot b (Pair p) = slice_get b.pairs.items (pair_place b.first_port p)
 slot b (Port p) = slice_get b.ports.items (port_place b.first_port p)
 slot b (Chan c k) = None
 slot b (Rate n) = None
+
+-- the address is bound under this admission
+pub record IsBoundUnder (b : PortSet) (a : ℕ) (x : Thing) : Type 0 where
+  pub own : IsOwn b x
+  pub under : slot b x ≡ Some (Some a)
 
 -- only this place differs
 abbrev pub OnlyAt : ℕ → List (Option ℕ) → List (Option ℕ) → Type 0
@@ -70,10 +92,10 @@ pub record Fails (b : PortSet) (a : ℕ) (x : Thing) (c : PortSet) : Type 0 wher
   pub taken : IsOpen b x → ⊥
   pub counted : c ≡ record b { failed = raised b.failed }
 
--- the address isn't this admission's any more, and nothing else is changed
+-- the address that was bound under this admission is free, and nothing else is changed
 pub record Unbinds (b : PortSet) (a : ℕ) (x : Thing) (c : PortSet) : Type 0 where
-  pub unbound : slot c x ≢ Some (Some a)
-  pub same : slot b x ≢ Some (Some a) → slot c x ≡ slot b x
+  pub freed : IsBoundUnder b a x → slot c x ≡ Some None
+  pub same : (IsBoundUnder b a x → ⊥) → c ≡ b
   pub others : KeepsOthers b x c
   pub first : c.first_port ≡ b.first_port
 

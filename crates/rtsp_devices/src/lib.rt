@@ -1,17 +1,19 @@
 //! What a program has in place of sockets, random words, a clock and whoever sends plays, where its
 //! answers are to be the same in each run.
 //!
-//! The definitions of `specs/` read in this order: PortSet (which ports are bound), CountedWords
-//! (words that are counted).
+//! The definitions of `specs/` read in this order: PortSet (which ports are bound), Has (what of
+//! that an admission changes), CountedWords (words that are counted).
 
 #![tactic(auto)]
 
 mod counted_words;
+mod laws;
 mod no_plays;
 mod port_set;
 mod standing_clock;
 
 pub use counted_words::CountedWords;
+pub use laws::{law_admitted_gains_ports, law_ports_show, law_refused_keeps_ports};
 pub use no_plays::NoPlays;
 pub use port_set::PortSet;
 pub use standing_clock::StandingClock;

@@ -1,12 +1,14 @@
 //! A binder that opens no socket.
 
 ghost use Rattle.std.specs.Prelude.{◌≡◌, ◌↔◌, IfOk, IsTrue, Some, None, slice_get};
-ghost use Rattle.rtsp_devices.specs.PortSet.{calls, pair_place, port_place, NoneBound, IsOpenPair, IsOpenPort};
+ghost use Rattle.rtsp_devices.specs.PortSet.{calls, IsOwnPair, IsOwnPort, pair_place, port_place, NoneBound, IsOpenPair, IsOpenPort};
 
 use rtsp_engine::{BindFault, Binder};
 use std::alloc::{AllocError, Global};
 
 /// The ports that are bound, pairs and single ones, each with its admission. No socket is opened.
+/// It has the ports from its first one on, in pairs: what begins below that, or with the second port
+/// of a pair, is no address of it, and a bind of that is a fault.
 #[derive(Drop)]
 pub struct PortSet {
     first_port: u16,
@@ -15,6 +17,19 @@ pub struct PortSet {
     // The admission of each port that is bound alone.
     ports: Vec<Option<u64>>,
     failed: u64,
+}
+
+// A pair begins at the first port of all, or some pairs above it.
+fn is_own_pair(first: u16, pair: u16) -> bool
+    ensures { IsTrue result ↔ IsOwnPair first pair }
+{
+    first <= pair && (pair - first) % 2 == 0
+}
+
+fn is_own_port(first: u16, port: u16) -> bool
+    ensures { IsTrue result ↔ IsOwnPort first port }
+{
+    first <= port
 }
 
 // The place of a pair, by its first port and that of all.
@@ -53,21 +68,23 @@ impl PortSet {
         })
     }
 
-    // The place of a pair is free, and so are its two ports.
+    // A pair of the set is free, and so are its two ports.
     fn is_open_pair(&self, pair: u16) -> bool
         ensures { IsTrue result ↔ IsOpenPair self.now pair }
     {
         let first = port_place(self.first_port, pair);
-        is_open(&self.pairs, pair_place(self.first_port, pair))
+        is_own_pair(self.first_port, pair)
+            && is_open(&self.pairs, pair_place(self.first_port, pair))
             && is_open(&self.ports, first)
             && is_open(&self.ports, first + 1)
     }
 
-    // The place of a port is free, and so is that of its pair.
+    // A port of the set is free, and so is its pair.
     fn is_open_port(&self, port: u16) -> bool
         ensures { IsTrue result ↔ IsOpenPort self.now port }
     {
-        is_open(&self.ports, port_place(self.first_port, port))
+        is_own_port(self.first_port, port)
+            && is_open(&self.ports, port_place(self.first_port, port))
             && is_open(&self.pairs, pair_place(self.first_port, port))
     }
 }
@@ -87,7 +104,10 @@ impl Binder for PortSet {
 
     fn unbind(&mut self, admission: u64, pair: u16) {
         let place = pair_place(self.first_port, pair);
-        if place < self.pairs.len() && self.pairs[place] == Some(admission) {
+        if is_own_pair(self.first_port, pair)
+            && place < self.pairs.len()
+            && self.pairs[place] == Some(admission)
+        {
             self.pairs[place] = None;
         }
     }
@@ -104,7 +124,10 @@ impl Binder for PortSet {
 
     fn unbind_port(&mut self, admission: u64, port: u16) {
         let place = port_place(self.first_port, port);
-        if place < self.ports.len() && self.ports[place] == Some(admission) {
+        if is_own_port(self.first_port, port)
+            && place < self.ports.len()
+            && self.ports[place] == Some(admission)
+        {
             self.ports[place] = None;
         }
     }

@@ -2,3 +2,5 @@ pub mod Wheel
 pub mod Noted
 pub mod Bells
 pub mod Plays
+pub mod Inbox
+pub mod Linking

@@ -3,27 +3,12 @@
 ghost use Rattle.std.specs.Prelude.{◌≡◌, IfOk, vec_len, option_copied};
 ghost use Rattle.rtsp_pacing.specs.Bells.{bell_of};
 
+use crate::inbox::{Heard, Inbox};
 use crate::noted::NewPlay;
 use std::alloc::{AllocError, Global};
-use std::collections::VecDeque;
 use std::rt::Clock;
 use std::sync::{Condvar, Mutex, Wait};
 use std::time::Duration;
-
-// What a pacer has to hear.
-#[derive(Drop)]
-struct Inbox {
-    plays: VecDeque<NewPlay>,
-    is_stopped: bool,
-}
-
-// What a pacer hears. Of several plays the one that was handed over first comes first.
-#[derive(Drop)]
-pub(crate) enum Heard {
-    Play(NewPlay),
-    Nothing,
-    Stop,
-}
 
 /// What wakes a pacer.
 #[derive(Drop)]
@@ -36,17 +21,14 @@ impl Bell {
     // A bell that takes so many plays at once without more memory.
     fn new(alloc: Global, room: usize) -> Result<Bell, AllocError> {
         Ok(Bell {
-            inbox: Mutex::new(Inbox {
-                plays: VecDeque::with_capacity(alloc, room)?,
-                is_stopped: false,
-            }),
+            inbox: Mutex::new(Inbox::new(alloc, room)?),
             rung: Condvar::new(),
         })
     }
 
     // Hands a play over. Whether there was room for it.
     pub(crate) fn ring<R: Wait>(&self, rt: &R, play: NewPlay) -> bool {
-        let is_kept = self.inbox.lock(rt).plays.push_back(play).is_ok();
+        let is_kept = self.inbox.lock(rt).put(play);
         self.rung.notify_one();
         is_kept
     }
@@ -55,23 +37,17 @@ impl Bell {
     pub(crate) fn hear<R: Wait + Clock>(&self, rt: &R, wait: Duration) -> Heard {
         let mut inbox = self.inbox.lock(rt);
         if !wait.is_zero() {
-            let (heard, _) = self.rung.wait_timeout_while(rt, inbox, wait, |inbox| {
-                inbox.plays.is_empty() && !inbox.is_stopped
-            });
+            let (heard, _) = self
+                .rung
+                .wait_timeout_while(rt, inbox, wait, |inbox| inbox.is_quiet());
             inbox = heard;
         }
-        if inbox.is_stopped {
-            return Heard::Stop;
-        }
-        match inbox.plays.pop_front() {
-            Some(play) => Heard::Play(play),
-            None => Heard::Nothing,
-        }
+        inbox.next()
     }
 
     /// Ends the pacer.
     pub fn stop<R: Wait>(&self, rt: &R) {
-        self.inbox.lock(rt).is_stopped = true;
+        self.inbox.lock(rt).stop();
         self.rung.notify_all();
     }
 }

@@ -9,6 +9,7 @@
 
 mod bell;
 mod desk;
+mod inbox;
 mod noted;
 mod noting;
 mod pacing;

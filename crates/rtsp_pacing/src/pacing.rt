@@ -1,9 +1,12 @@
 //! The thread that sends packets.
 
+ghost use Rattle.std.specs.Prelude.{◌≡◌, ◌<◌, ◌^◌, ℕ, List, Some, length};
 ghost use Rattle.rtsp_lock.specs.Calls.{IsSeatOf};
+ghost use Rattle.rtsp_pacing.specs.Linking.{LinksBehind};
+ghost use Rattle.rtsp_pacing.specs.Plays.{KeepsOthers, IsChain};
 
-use crate::bell::Heard;
 use crate::desk::{Paced, PacerDesk, PacerParts};
+use crate::inbox::Heard;
 use crate::noted::NewPlay;
 use crate::play::{Next, PacedPlay};
 use crate::plays::PacerPlays;
@@ -63,28 +66,36 @@ impl<R: Wait + Clock> Pacing<'_, R> {
         self.link(key, due);
     }
 
-    fn link(&mut self, key: usize, due: u64) {
-        if let Some(linked) = self.plays.get_mut(key) {
-            linked.before = self.wheel.link(key, due);
+    // Links a play to the slot of a moment, behind those that are linked there.
+    fn link(&mut self, key: usize, due: u64)
+        ensures others { KeepsOthers self.old.plays key self.new.plays }
+        ensures behind { LinksBehind self.old.wheel self.old.plays key due self.new.wheel self.new.plays }
+    {
+        if self.plays.has(key) {
+            let before = self.wheel.link(key, due);
+            self.plays.link(key, before);
         }
     }
 
-    // Takes the turns of the plays of one slot, from the one that was linked last.
-    fn turn_slot(&mut self, last: usize) {
+    // Takes the turns of the plays of one slot, from the one that was linked last. How many.
+    fn turn_slot(&mut self, last: usize) -> u64
+        ensures { (keys : List ℕ) → IsChain self.old.plays (Some last) keys → length keys < 2 ^ 64 → result ≡ length keys }
+    {
         let mut next = Some(last);
-        for _ in 0..u64::MAX {
+        for turns in 0..u64::MAX {
             let Some(key) = next else {
-                return;
+                return turns;
             };
-            let Some(linked) = self.plays.get_mut(key) else {
-                return;
+            let Some((before, then)) = self.plays.turn(self.alloc, &mut self.desk, key) else {
+                return turns;
             };
-            next = linked.before;
-            match linked.play.turn(self.alloc, &mut self.desk) {
+            next = before;
+            match then {
                 Next::At(due) => self.link(key, due),
                 Next::Never => self.plays.remove(key),
             }
         }
+        u64::MAX
     }
 
     // Takes the turns that are due, of some slots at most.

@@ -1,13 +1,15 @@
 //! The plays of a pacer.
 
-ghost use Rattle.std.specs.Prelude.{◌≡◌, ◌+◌, ℕ, IfOk, IfSome, IsSome, Some, None};
+ghost use Rattle.std.specs.Prelude.{◌≡◌, ◌+◌, ◌↔◌, ℕ, IfOk, IfSome, IfNone, IsSome, IsTrue, Some, None};
 ghost use Rattle.slab.specs.Slab.{get};
-ghost use Rattle.rtsp_pacing.specs.Plays.{HasRoom};
+ghost use Rattle.rtsp_pacing.specs.Plays.{HasRoom, KeepsOthers, IsLinked, Turns};
 
-use crate::play::PacedPlay;
+use crate::desk::PacerDesk;
+use crate::play::{Next, PacedPlay};
 use indexmap::IndexMap;
 use slab::Slab;
 use std::alloc::{AllocError, Global};
+use std::sync::Wait;
 
 // A play in the wheel, and the key of the play that was linked to its slot before it.
 #[derive(Drop)]
@@ -55,9 +57,35 @@ impl PacerPlays {
         Some(key)
     }
 
-    // The play of a key.
-    pub(crate) fn get_mut(&mut self, key: usize) -> Option<&mut Linked> {
-        self.plays.get_mut(key)
+    // Takes the turn of the play of a key: which one is linked before it, and when its next turn is.
+    pub(crate) fn turn<R: Wait>(
+        &mut self,
+        alloc: Global,
+        desk: &mut PacerDesk<'_, R>,
+        key: usize,
+    ) -> Option<(Option<usize>, Next)>
+        ensures turns { IfSome result (λ turned. Turns self.old key turned.0 self.new) }
+        ensures none { IfNone result (get self.old.plays key ≡ None) }
+    {
+        let linked = self.plays.get_mut(key)?;
+        let next = linked.play.turn(alloc, desk);
+        Some((linked.before, next))
+    }
+
+    pub(crate) fn has(&self, key: usize) -> bool
+        ensures { IsTrue result ↔ IsSome (get self.now.plays key) }
+    {
+        self.plays.contains(key)
+    }
+
+    // Links the play of a key behind another.
+    pub(crate) fn link(&mut self, key: usize, before: Option<usize>)
+        ensures linked { IsSome (get self.old.plays key) → IsLinked self.new key before }
+        ensures others { KeepsOthers self.old key self.new }
+    {
+        if let Some(linked) = self.plays.get_mut(key) {
+            linked.before = before;
+        }
     }
 
     // The play of a session that was taken in last.
@@ -67,7 +95,10 @@ impl PacerPlays {
     }
 
     // Drops the play of a key.
-    pub(crate) fn remove(&mut self, key: usize) {
+    pub(crate) fn remove(&mut self, key: usize)
+        ensures gone { get self.new.plays key ≡ None }
+        ensures others { KeepsOthers self.old key self.new }
+    {
         let Some(linked) = self.plays.try_remove(key) else {
             return;
         };

@@ -6,6 +6,7 @@ use rtsp_content::Table;
 use rtsp_engine::{Binder, Clock, Words};
 use rtsp_sockets::{
     Media, MediaFault, PieceClock, PortBinder, PortSockets, PortTable, RandomWords, RunningClock,
+    SourceWords,
 };
 use std::io::ErrorKind;
 use std::net::{Net, UdpSocket};
@@ -92,6 +93,17 @@ fn words_and_moments(rt: HostRuntime) -> Result<(), Fail> {
     let mut once = PieceClock::new(&rt, Instant::now(&rt)?);
     let moment = once.now();
     assert!(rt; moment < 1_000 && once.now() == moment);
+    Ok(())
+}
+
+#[test]
+fn words_of_a_source(rt: HostRuntime) -> Result<(), Fail> {
+    // A first read takes 32 of these bytes, and a second one finds too few.
+    let bytes: &[u8] = b"abcdefghijklmnopqrstuvwxyz0123456789ABCD";
+    let mut words = SourceWords::new(bytes);
+    assert!(rt; words.ssrc() == Ok(0x6463_6261) && words.seq() == Ok(0x6665));
+    assert!(rt; words.id() == Ok(0x7675_7473_7271_706f_6e6d_6c6b_6a69_6867));
+    assert!(rt; words.id().is_err() && words.seq().is_err() && words.given() == 3);
     Ok(())
 }
 

@@ -1,13 +1,14 @@
-//! Words of the system, drawn one by one.
+//! Words of a source of bytes, drawn one by one.
 
-ghost use Rattle.rtsp_sockets.specs.RandomWords.{calls};
+ghost use Rattle.rtsp_sockets.specs.SourceWords.{calls};
 
-use crate::words::RandomWords;
+use crate::words::SourceWords;
 use rtsp_engine::{Words, WordsFault};
+use std::io::Read;
 
-// Which word comes next nobody knows, so a clause knows of a call no more than how it was counted.
-impl Words for RandomWords {
-    ghost calls = { calls };
+// A word is bytes that the source gave, each of them given once and in order.
+impl<S: Read> Words for SourceWords<S> {
+    ghost calls = { calls S.remaining };
 
     fn id(&mut self) -> Result<u128, WordsFault> {
         Ok(u128::from_ne_bytes(self.take()?))

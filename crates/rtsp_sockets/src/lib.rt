@@ -7,9 +7,11 @@
 
 #![tactic(auto)]
 
+mod bound;
 mod clock;
 mod drawing;
 mod media;
+mod media_file;
 mod message;
 mod options;
 mod outlet;
@@ -18,12 +20,13 @@ mod pending;
 mod port_binder;
 mod ports;
 mod put;
+mod read_at;
 mod slots;
 mod unit;
 mod words;
 
 pub use clock::{PieceClock, RunningClock};
-pub use media::{HELD_LIMIT, Media, MediaFault};
+pub use media::{HELD_LIMIT, Media, MediaFault, MediaOf};
 pub use message::{ALL_ROOM, FRAME_ROOM, Message};
 pub use options::{SEND_BUFFER, prepare};
 pub use outlet::{Outlet, STALL_LIMIT};
@@ -31,4 +34,5 @@ pub use outlets::Outlets;
 pub use port_binder::PortBinder;
 pub use ports::{PortSockets, PortTable};
 pub use put::Put;
-pub use words::RandomWords;
+pub use read_at::ReadAt;
+pub use words::{RandomWords, SourceWords};

@@ -1,10 +1,13 @@
 //! The files of the tracks.
 
-use crate::unit::copy_unit;
+ghost use Rattle.std.specs.Prelude.{◌≡◌, IfSome, OnOk, option_copied, slice_get};
+ghost use Rattle.rtsp_sockets.specs.Media.{IsPlaceOf, StandInFile};
+
+use crate::media_file::MediaFile;
+use crate::read_at::ReadAt;
 use rtsp_content::{Presentation, Table, Track};
 use std::alloc::{AllocError, Global};
-use std::fs::{File, OpenFile};
-use std::os::unix::fs::FileExt;
+use std::fs::File;
 use std::rt::Files;
 use thiserror::Error;
 
@@ -31,15 +34,6 @@ impl From<AllocError> for MediaFault {
     }
 }
 
-// The file of a track.
-#[derive(Drop)]
-struct MediaFile {
-    file: File,
-    len: u64,
-    // All of it, where it is held in memory.
-    held: Option<Vec<u8>>,
-}
-
 // Where the units of a track are: in which file, and how long each is.
 #[derive(Clone, Copy)]
 struct Place {
@@ -49,56 +43,21 @@ struct Place {
 
 /// The media of all tracks. Tracks that name one file share it.
 #[derive(Drop)]
-pub struct Media {
-    files: Vec<MediaFile>,
+pub struct MediaOf<F: ReadAt> {
+    files: Vec<MediaFile<F>>,
     // The places of the tracks of each presentation, in the order of the configuration.
     places: Vec<Vec<Place>>,
 }
 
-impl MediaFile {
-    // Opens a file that has to have so many bytes.
-    fn open<R: Files<File = File>>(rt: &R, path: &str, len: u64) -> Result<MediaFile, MediaFault> {
-        let file = File::open(rt, path).map_err(|_| MediaFault::Unreadable)?;
-        let metadata = file.metadata().map_err(|_| MediaFault::Unreadable)?;
-        if metadata.len() != len {
-            return Err(MediaFault::WrongLength);
-        }
-        Ok(MediaFile {
-            file,
-            len,
-            held: None,
-        })
-    }
-
-    // Holds it in memory.
-    fn hold(&mut self, alloc: Global) -> Result<(), MediaFault> {
-        let len = usize::try_from(self.len).map_err(|_| MediaFault::OutOfMemory)?;
-        let mut bytes = Vec::from_elem(alloc, 0, len)?;
-        self.read(0, bytes.as_mut_slice())?;
-        self.held = Some(bytes);
-        Ok(())
-    }
-
-    fn read(&self, at: u64, out: &mut [u8]) -> Result<(), MediaFault> {
-        self.file
-            .read_exact_at(out, at)
-            .map_err(|_| MediaFault::Unreadable)
-    }
-
-    fn octets(&self, at: u64, out: &mut [u8]) -> Result<(), MediaFault> {
-        match &self.held {
-            Some(bytes) => copy_unit(bytes.as_slice(), at, out),
-            None => self.read(at, out),
-        }
-    }
-}
+/// The media of files of the system.
+pub type Media = MediaOf<File>;
 
 // How many bytes the file of a track has.
 fn len_of(presentation: &Presentation, track: &Track) -> u64 {
     u64::from(presentation.units()) * u64::from(track.octets())
 }
 
-impl Media {
+impl MediaOf<File> {
     /// Opens the files of all tracks, by the paths that the configuration has. Each has to have the
     /// bytes of all units of its track, and no more.
     pub fn open<R: Files<File = File>>(
@@ -106,7 +65,7 @@ impl Media {
         alloc: Global,
         table: &Table,
     ) -> Result<Media, MediaFault> {
-        let mut media = Media {
+        let mut media = MediaOf {
             files: Vec::new(alloc),
             places: Vec::new(alloc),
         };
@@ -148,7 +107,16 @@ impl Media {
         paths.push(path).map_err(AllocError::from)?;
         Ok(place)
     }
+}
 
+// The place of a track among those of its presentation.
+fn place_of(places: &[Place], track: usize) -> Option<Place>
+    ensures { result ≡ slice_get places.now track }
+{
+    places.get(track).copied()
+}
+
+impl<F: ReadAt> MediaOf<F> {
     // Holds all files in memory where they are small.
     fn hold_if_small(&mut self, alloc: Global) -> Result<(), MediaFault> {
         let mut total = 0u64;
@@ -163,6 +131,28 @@ impl Media {
         Ok(())
     }
 
+    // The places of a presentation's tracks.
+    fn places_of(&self, presentation: usize) -> Option<&Vec<Place>>
+        ensures { option_copied result ≡ slice_get self.now.places.items presentation }
+    {
+        self.places.get(presentation)
+    }
+
+    fn place(&self, presentation: usize, track: u16) -> Option<Place>
+        ensures { IfSome result (IsPlaceOf self.now.places.items presentation track) }
+    {
+        match self.places_of(presentation) {
+            Some(places) => place_of(places, usize::from(track)),
+            None => None,
+        }
+    }
+
+    fn file(&self, place: usize) -> Option<&MediaFile<F>>
+        ensures { option_copied result ≡ slice_get self.now.files.items place }
+    {
+        self.files.get(place)
+    }
+
     /// Fills `out` with the octets of a unit of a track. Presentation and track are named by their
     /// places in the configuration.
     pub fn octets(
@@ -171,12 +161,15 @@ impl Media {
         track: u16,
         unit: u32,
         out: &mut [u8],
-    ) -> Result<(), MediaFault> {
-        let places = self.places.get(presentation).ok_or(MediaFault::Unreadable)?;
-        let place = places
-            .get(usize::from(track))
-            .ok_or(MediaFault::Unreadable)?;
-        let file = self.files.get(place.file).ok_or(MediaFault::Unreadable)?;
+    ) -> Result<(), MediaFault>
+        ensures { OnOk result (StandInFile (λ file. F.text file.file) self.now.files.items self.now.places.items presentation track unit out.new) }
+    {
+        let Some(place) = self.place(presentation, track) else {
+            return Err(MediaFault::Unreadable);
+        };
+        let Some(file) = self.file(place.file) else {
+            return Err(MediaFault::Unreadable);
+        };
         file.octets(u64::from(unit) * u64::from(place.octets), out)
     }
 }

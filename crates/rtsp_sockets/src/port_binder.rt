@@ -1,9 +1,9 @@
 //! Binds ports by their sockets.
 
-ghost use Rattle.std.specs.Prelude.{◌≡◌};
+ghost use Rattle.std.specs.Prelude.{◌≡◌, ◌↔◌, IsOk, OnOk, OnErr, IsTrue};
+ghost use Rattle.rtsp_admit.specs.Binder.{raised};
 
 use crate::ports::PortTable;
-use crate::slots::Width;
 use rtsp_engine::{BindFault, Binder};
 use std::net::Net;
 use std::sync::Wait;
@@ -29,15 +29,14 @@ impl<'a, R> PortBinder<'a, R> {
     }
 }
 
-impl<R: Net + Wait> PortBinder<'_, R> {
-    ghost use Rattle.std.specs.Prelude.{OnOk, OnErr};
-    ghost use Rattle.rtsp_admit.specs.Binder.{raised};
-
-    fn bind_address(&mut self, admission: u64, width: Width, port: u16) -> Result<(), BindFault>
+impl<R> PortBinder<'_, R> {
+    // What a bind comes to. One that failed is counted.
+    fn counted(&mut self, is_bound: bool) -> Result<(), BindFault>
+        ensures is { IsOk result ↔ IsTrue is_bound }
         ensures ok { OnOk result (self.new.failed ≡ self.old.failed) }
         ensures err { OnErr result (self.new.failed ≡ raised self.old.failed) }
     {
-        if self.table.bind(self.rt, admission, width, port) {
+        if is_bound {
             return Ok(());
         }
         self.failed = self.failed.saturating_add(1);
@@ -53,18 +52,20 @@ impl<R: Net + Wait> Binder for PortBinder<'_, R> {
     ghost calls = { record { binds = λ b a p c. ⊤; fails = λ b a p c. ⊤; unbinds = λ b a p c. ⊤; failures = λ b. b.failed } };
 
     fn bind(&mut self, admission: u64, pair: u16) -> Result<(), BindFault> {
-        self.bind_address(admission, Width::Pair, pair)
+        let is_bound = self.table.bind_pair(self.rt, admission, pair);
+        self.counted(is_bound)
     }
 
     fn unbind(&mut self, admission: u64, pair: u16) {
-        self.table.unbind(self.rt, admission, Width::Pair, pair);
+        self.table.unbind_pair(self.rt, admission, pair);
     }
 
     fn bind_port(&mut self, admission: u64, port: u16) -> Result<(), BindFault> {
-        self.bind_address(admission, Width::Port, port)
+        let is_bound = self.table.bind_port(self.rt, admission, port);
+        self.counted(is_bound)
     }
 
     fn unbind_port(&mut self, admission: u64, port: u16) {
-        self.table.unbind(self.rt, admission, Width::Port, port);
+        self.table.unbind_port(self.rt, admission, port);
     }
 }

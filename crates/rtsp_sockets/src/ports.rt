@@ -1,18 +1,25 @@
 //! The sockets of the ports that are bound.
 
-ghost use Rattle.std.specs.Prelude.{◌≡◌, IfSome};
-ghost use Rattle.rtsp_sockets.specs.Sockets.{sockets_in, ports_of};
+ghost use Rattle.std.specs.Prelude.{◌≡◌, ◌⊎◌, ◌<◌, IfSome};
+ghost use Rattle.std.specs.Arc.{arc_value};
+ghost use Rattle.rtsp_sockets.specs.Slots.{IsOf};
+ghost use Rattle.rtsp_sockets.specs.Sockets.{sockets_in, IsOpenedFor};
 
+use crate::bound::Bound;
 use crate::options::drop_input;
-use crate::slots::{Bound, Slots, Width};
+use crate::slots::Slots;
 use std::alloc::{AllocError, Global};
 use std::net::{Ipv4Addr, Net, SocketAddrV4, UdpSocket};
 use std::os::fd::AsRawFd;
 use std::sync::{Arc, Mutex, Wait};
 
-/// The sockets of a pair of ports, or of the one port that RTP and RTCP share. None blocks.
+/// The sockets of a pair of ports, or of the one port that RTP and RTCP share, bound under an
+/// admission. None blocks.
 #[derive(Drop)]
 pub struct PortSockets {
+    pub(crate) admission: u64,
+    // The first of the ports.
+    pub(crate) port: u16,
     /// From which packets are sent: that of the even port of a pair, or of the one port.
     pub rtp: UdpSocket,
     /// That of a pair's odd port. It is bound, so that the port is the server's, and never read.
@@ -23,8 +30,8 @@ pub struct PortSockets {
 #[derive(Drop)]
 pub struct PortTable {
     alloc: Global,
-    pairs: Mutex<Slots>,
-    single: Mutex<Slots>,
+    pairs: Mutex<Slots<2>>,
+    single: Mutex<Slots<1>>,
 }
 
 impl PortTable {
@@ -33,28 +40,9 @@ impl PortTable {
         let pairs = usize::from(pairs);
         Ok(PortTable {
             alloc,
-            pairs: Mutex::new(Slots::open(alloc, first_port, Width::Pair, pairs)?),
-            single: Mutex::new(Slots::open(alloc, first_port, Width::Port, 2 * pairs)?),
+            pairs: Mutex::new(Slots::open(alloc, first_port, pairs)?),
+            single: Mutex::new(Slots::open(alloc, first_port, 2 * pairs)?),
         })
-    }
-
-    // The slots of addresses of a width.
-    fn slots(&self, width: Width) -> &Mutex<Slots> {
-        match width {
-            Width::Pair => &self.pairs,
-            Width::Port => &self.single,
-        }
-    }
-
-    fn sockets<R: Wait>(
-        &self,
-        rt: &R,
-        admission: u64,
-        width: Width,
-        port: u16,
-    ) -> Option<Arc<PortSockets>> {
-        let slots = self.slots(width).lock(rt);
-        Arc::try_clone(slots.get(admission, port)?).ok()
     }
 
     /// The sockets of a pair, named by its first port, that is bound under this admission. Whoever
@@ -64,8 +52,10 @@ impl PortTable {
         rt: &R,
         admission: u64,
         pair: u16,
-    ) -> Option<Arc<PortSockets>> {
-        self.sockets(rt, admission, Width::Pair, pair)
+    ) -> Option<Arc<PortSockets>>
+        ensures { IfSome result (λ s. IsOpenedFor (arc_value s) admission pair 2) }
+    {
+        sockets_of(rt, &self.pairs, admission, pair)
     }
 
     /// The socket of a port that is bound alone under this admission. Whoever has it keeps it open
@@ -75,37 +65,75 @@ impl PortTable {
         rt: &R,
         admission: u64,
         port: u16,
-    ) -> Option<Arc<PortSockets>> {
-        self.sockets(rt, admission, Width::Port, port)
+    ) -> Option<Arc<PortSockets>>
+        ensures { IfSome result (λ s. IsOpenedFor (arc_value s) admission port 1) }
+    {
+        sockets_of(rt, &self.single, admission, port)
     }
 
-    // Whether the address is now bound under the admission. The sockets are opened, and closed,
-    // while no one waits. Two addresses that share a port can't both be: the system refuses the
-    // second its socket.
-    pub(crate) fn bind<R: Net + Wait>(
-        &self,
-        rt: &R,
-        admission: u64,
-        width: Width,
-        port: u16,
-    ) -> bool {
-        let Some(sockets) = open_sockets(rt, width, port) else {
-            return false;
-        };
-        let Ok(sockets) = Arc::new(self.alloc, sockets) else {
-            return false;
-        };
-        let left = self
-            .slots(width)
-            .lock(rt)
-            .put(port, Bound { admission, sockets });
-        left.is_none()
+    // Whether the pair is now bound under the admission. The sockets are opened, and closed, while
+    // no one waits. Two addresses that share a port can't both be: the system refuses the second
+    // its socket.
+    pub(crate) fn bind_pair<R: Net + Wait>(&self, rt: &R, admission: u64, pair: u16) -> bool {
+        match open_address(rt, self.alloc, admission, pair) {
+            Some(bound) => put(rt, &self.pairs, bound),
+            None => false,
+        }
     }
 
-    pub(crate) fn unbind<R: Wait>(&self, rt: &R, admission: u64, width: Width, port: u16) {
-        let unbound = self.slots(width).lock(rt).take(admission, port);
-        drop(unbound);
+    // The same for a port alone.
+    pub(crate) fn bind_port<R: Net + Wait>(&self, rt: &R, admission: u64, port: u16) -> bool {
+        match open_address(rt, self.alloc, admission, port) {
+            Some(bound) => put(rt, &self.single, bound),
+            None => false,
+        }
     }
+
+    pub(crate) fn unbind_pair<R: Wait>(&self, rt: &R, admission: u64, pair: u16) {
+        drop(take(rt, &self.pairs, admission, pair));
+    }
+
+    pub(crate) fn unbind_port<R: Wait>(&self, rt: &R, admission: u64, port: u16) {
+        drop(take(rt, &self.single, admission, port));
+    }
+}
+
+fn sockets_of<R: Wait, const PORTS: usize>(
+    rt: &R,
+    slots: &Mutex<Slots<PORTS>>,
+    admission: u64,
+    port: u16,
+) -> Option<Arc<PortSockets>>
+    requires { 0 < PORTS }
+    ensures { IfSome result (λ s. IsOpenedFor (arc_value s) admission port PORTS) }
+{
+    let slots = slots.lock(rt);
+    Arc::try_clone(slots.get(admission, port)?).ok()
+}
+
+// Puts an address into the table. Whether its place was free.
+fn put<R: Wait, const PORTS: usize>(
+    rt: &R,
+    slots: &Mutex<Slots<PORTS>>,
+    bound: Bound<PORTS>,
+) -> bool
+    requires { 0 < PORTS }
+{
+    let left = slots.lock(rt).put(bound);
+    left.is_none()
+}
+
+// Takes an address out of the table, where it is bound under this admission.
+fn take<R: Wait, const PORTS: usize>(
+    rt: &R,
+    slots: &Mutex<Slots<PORTS>>,
+    admission: u64,
+    port: u16,
+) -> Option<Bound<PORTS>>
+    requires { 0 < PORTS }
+    ensures { IfSome result (λ b. IsOf b admission port) }
+{
+    slots.lock(rt).take(admission, port)
 }
 
 // A socket of this port, on all of the host's addresses. Reports of players come to it, and are
@@ -120,14 +148,28 @@ fn open_socket<R: Net>(rt: &R, port: u16) -> Option<UdpSocket> {
     }
 }
 
-// The sockets of an address, one of each of its ports.
-fn open_sockets<R: Net>(rt: &R, width: Width, port: u16) -> Option<PortSockets>
-    ensures { IfSome result (λ s. sockets_in s ≡ ports_of width) }
+// The sockets of an address, one of each of its ports: of a pair, or of one port.
+fn open_address<R: Net, const PORTS: usize>(
+    rt: &R,
+    alloc: Global,
+    admission: u64,
+    port: u16,
+) -> Option<Bound<PORTS>>
+    requires { (PORTS ≡ 1) ⊎ (PORTS ≡ 2) }
+    ensures { IfSome result (λ b. IsOf b admission port) }
 {
     let rtp = open_socket(rt, port)?;
-    let rtcp = match width {
-        Width::Pair => Some(open_socket(rt, port.saturating_add(1))?),
-        Width::Port => None,
+    let rtcp = if PORTS == 2 {
+        Some(open_socket(rt, port.saturating_add(1))?)
+    } else {
+        None
     };
-    Some(PortSockets { rtp, rtcp })
+    let sockets = PortSockets {
+        admission,
+        port,
+        rtp,
+        rtcp,
+    };
+    let sockets = Arc::new(alloc, sockets).ok()?;
+    Some(Bound { sockets })
 }

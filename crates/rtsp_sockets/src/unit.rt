@@ -7,6 +7,7 @@ use crate::media::MediaFault;
 // Copies the bytes of a file from a place on.
 pub(crate) fn copy_unit(bytes: &[u8], at: u64, out: &mut [u8]) -> Result<(), MediaFault>
     ensures ok { OnOk result (out.new ≡ slice_range bytes.now at (at + length out.old)) }
+    ensures within { OnOk result (at + length out.old ≤ length bytes.now) }
     ensures there { at + length out.old ≤ length bytes.now → IsOk result }
     ensures err { OnErr result (out.new ≡ out.old) }
 {

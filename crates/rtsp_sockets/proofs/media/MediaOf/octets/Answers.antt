@@ -1,0 +1,6 @@
+use Rattle.std.proofs.Common.{rules}
+use Rattle.rtsp_sockets.proofs.Reading.{found_stand}
+use Rattle.rtsp_sockets.proofs.media.MediaOf.octets.Goals as goal
+
+pub returns : goal.returns
+returns g c = found_stand (λ file. g.F.ReadAt.text file.file) c.octets.result _ _ _ _ _ _ c.in-Some.place c.in-Some-file.file.now (search rules) (search rules) (search rules)
