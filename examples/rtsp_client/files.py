@@ -1,4 +1,4 @@
-"""Files that are written while or after a play: they take the place of others only where there is something to write."""
+"""Files that are written while or after a play, and take the place of others only once there is something to write."""
 import os
 import queue
 import stat

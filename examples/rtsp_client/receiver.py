@@ -10,7 +10,7 @@ SOCKET_TABLES = "/proc/net/udp", "/proc/net/udp6"
 
 
 def description_for(text: str, host: str, streams: List[Stream]) -> str:
-    """A description (SDP) with only the tracks that were set up, and the host and the ports that their packets go to."""
+    """A description (SDP) of the tracks that were set up, with the host and the ports that their packets go to."""
     head, *parts = re.split(r"(?m)^(?=m=)", text)
     ports = {stream.track.uri.rpartition("/")[2]: stream.ports.port for stream in streams}
     whole = re.sub(r"(?m)^c=.*?(\r?)$", rf"c=IN IP4 {host}\1", head)
