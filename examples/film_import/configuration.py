@@ -67,6 +67,8 @@ class Configuration:
 
     def __init__(self, path: pathlib.Path) -> None:
         self.path = path
+        if not path.parent.is_dir():
+            raise Refused(f"{path.parent} is no folder, so {path} can't be there")
         self.is_new = not path.exists()
         self.text = NEW_CONFIGURATION if self.is_new else path.read_text()
         try:

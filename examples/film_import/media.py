@@ -11,6 +11,8 @@ from typing import List, NamedTuple, Optional
 from .configuration import Made, Refused
 
 MOST_UNITS, MOST_UNIT_MS = 10_000_000, 1000
+# What ffmpeg makes films of, and nobody else: a picture, and a text as on a terminal.
+NO_FILMS = re.compile(r"image2.*|.*_pipe|tty|gif")
 # A packet of a transport stream (ISO 13818-1), and one that stands for nothing.
 PACKET = 188
 NULL_PACKET = bytes([0x47, 0x1F, 0xFF, 0x10]) + b"\xff" * (PACKET - 4)
@@ -105,10 +107,11 @@ def probe(path: pathlib.Path) -> Optional[Source]:
     is_cover = lambda stream: stream.get("disposition", {}).get("attached_pic") == 1
     heights = [it.get("height") for it in streams if it.get("codec_type") == "video" and not is_cover(it)]
     has_sound = any(it.get("codec_type") == "audio" for it in streams)
-    length = found.get("format", {}).get("duration")
-    if length is None or not (heights or has_sound):
+    described = found.get("format", {})
+    if NO_FILMS.fullmatch(described.get("format_name", "")) or not (heights or has_sound):
         return None
-    return Source(path, float(length), heights[0] if heights else None, has_sound)
+    length = float(described["duration"]) if "duration" in described else None
+    return Source(path, length, heights[0] if heights else None, has_sound)
 
 
 def ffmpeg(source: Source, name: str, words: List[str], out: pathlib.Path) -> str:
