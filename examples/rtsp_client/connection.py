@@ -65,6 +65,23 @@ class UdpPair:
         return f'dest_addr=":{self.port}"/":{self.port + 1}"'
 
 
+class LentPair:
+    """An even port and the next that are free, for another program that takes the packets."""
+
+    def __init__(self, host: str) -> None:
+        pair = UdpPair(host)
+        self.port = pair.port
+        pair.close()
+
+    def close(self) -> None:
+        pass
+
+    @property
+    def address(self) -> str:
+        """What a Transport header says of it."""
+        return f'dest_addr=":{self.port}"/":{self.port + 1}"'
+
+
 class UdpPort:
     """One socket, for RTP and RTCP both (RFC 5761)."""
 

@@ -4,7 +4,7 @@ import re
 import time
 from typing import Callable, List, NamedTuple, Optional, Tuple, Union
 
-from .connection import Connection, Refused, UdpPair, UdpPort, address_of
+from .connection import Connection, LentPair, Refused, UdpPair, UdpPort, address_of
 from .messages import Message
 from .rtp import Reception
 
@@ -16,6 +16,8 @@ RANGE = re.compile(r"npt=(\d+\.?\d*)-(\d+\.?\d*)")
 # After the end of a play packets may still be under way, in seconds.
 TAIL = 0.2
 TIMEOUT = 60
+
+Ports = Union[UdpPair, UdpPort, LentPair]
 
 
 class Track(NamedTuple):
@@ -49,18 +51,20 @@ class Way(enum.Enum):
     UDP = "UDP"
     ONE_PORT = "one UDP port"
     TCP = "TCP"
+    # Another program takes the packets.
+    LENT = "UDP to a receiver"
 
-    def open(self, host: str) -> Optional[Union[UdpPair, UdpPort]]:
-        """The sockets that a stream needs beside the connection."""
-        return {Way.UDP: UdpPair, Way.ONE_PORT: UdpPort, Way.TCP: lambda host: None}[self](host)
+    def open(self, host: str) -> Optional[Ports]:
+        """The ports that a stream needs beside the connection."""
+        if self is Way.TCP:
+            return None
+        return {Way.UDP: UdpPair, Way.ONE_PORT: UdpPort, Way.LENT: LentPair}[self](host)
 
 
 class Stream:
     """A track that was set up."""
 
-    def __init__(
-        self, track: Track, transport: str, channel: Optional[int], ports: Optional[Union[UdpPair, UdpPort]]
-    ) -> None:
+    def __init__(self, track: Track, transport: str, channel: Optional[int], ports: Optional[Ports]) -> None:
         found = re.search(r"ssrc=([0-9a-fA-F]{8})", transport)
         if not found:
             raise Refused(f"the server names no SSRC: {transport!r}")
@@ -84,6 +88,7 @@ class Player:
         self.is_playing = False
         # What is played, in seconds.
         self.range: Tuple[float, float] = (0.0, 0.0)
+        self.description = ""
 
     def ask(self, method: str, uri: Optional[str] = None, *headers: Tuple[str, str]) -> Message:
         """The answer to a request of this session, which has to be 200."""
@@ -96,7 +101,8 @@ class Player:
     def describe(self) -> List[Track]:
         answer = self.ask("DESCRIBE", None, ("Accept", "application/sdp"))
         base = answer.header("Content-Base") or self.uri.rstrip("/") + "/"
-        return read_description(answer.body.decode("utf-8", "replace"), base)
+        self.description = answer.body.decode("utf-8", "replace")
+        return read_description(self.description, base)
 
     def set_up(self, track: Track) -> Stream:
         """Sets up one track, in the session of the tracks before it."""
@@ -116,11 +122,11 @@ class Player:
         timeout = re.search(r"timeout=(\d+)", parameters)
         self.session, self.timeout = identity.strip(), int(timeout[1]) if timeout else self.timeout
         self.streams.append(stream)
-        if ports:
+        if isinstance(ports, (UdpPair, UdpPort)):
             self.connection.datagrams[ports.rtp] = stream.reception.take
-            if isinstance(ports, UdpPair):
-                self.connection.datagrams[ports.rtcp] = lambda datagram, at: None
-        else:
+        if isinstance(ports, UdpPair):
+            self.connection.datagrams[ports.rtcp] = lambda datagram, at: None
+        if not ports:
             self.connection.channels[stream.channel] = stream.reception.take
         return stream
 
@@ -154,6 +160,13 @@ class Player:
             if request.first_line.startswith("PLAY_NOTIFY ") and request.header("Session") == self.session:
                 return request
         return None
+
+    def hold(self, is_enough: Callable[[], bool]) -> None:
+        """Keeps the session alive until it is enough or the connection is closed."""
+        while not is_enough() and not self.connection.is_closed:
+            self.connection.wait(self.timeout / 2, is_enough)
+            if not is_enough() and not self.connection.is_closed:
+                self.ask("GET_PARAMETER")
 
     def listen(self, seconds: float, is_enough: Callable[[], bool] = lambda: False) -> bool:
         """Receives until the play ends, for so many seconds at most; true where it ended. Keeps the session alive."""

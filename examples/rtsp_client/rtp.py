@@ -1,6 +1,7 @@
 """RTP packets as they are received (RFC 3550): which came, which are missing, how late each was."""
+import array
 import statistics
-from typing import List, NamedTuple, Optional
+from typing import Callable, List, NamedTuple, Optional
 
 HEADER = 12
 SEQUENCE = 1 << 16
@@ -38,14 +39,18 @@ class Lateness(NamedTuple):
 class Reception:
     """The packets of one stream, in the order in which they came.
 
-    Places count from the first packet that the server told of (RTP-Info), so they don't wrap round.
+    Places count from the first packet that the server told of (RTP-Info), so they don't wrap round. With a taker each
+    payload goes to it with its place, and no packet is kept: a film would fill the memory.
     """
 
     def __init__(self, ssrc: int, clock: int) -> None:
         self.ssrc = ssrc
         self.clock = clock
         self.packets: List[Packet] = []
-        self.places: List[int] = []
+        self.places = array.array("q")
+        self.taker: Optional[Callable[[int, bytes], None]] = None
+        # The second at which each packet came, less its time in the play.
+        self._early = array.array("d")
         self.strangers = 0
         self.first_sequence: Optional[int] = None
         self.first_timestamp = 0
@@ -76,8 +81,12 @@ class Reception:
         self.starts(packet.sequence, packet.timestamp)
         place = self.place_of(packet.sequence)
         self._last = max(place, self._last)
-        self.packets.append(packet)
         self.places.append(place)
+        self._early.append(self._early_of(packet))
+        if self.taker:
+            self.taker(place, packet.payload)
+        else:
+            self.packets.append(packet)
 
     @property
     def repeats(self) -> int:
@@ -86,8 +95,11 @@ class Reception:
     @property
     def missing(self) -> List[int]:
         """The places of the packets that didn't come, up to the last that did or that the server told of."""
-        end = max([self.end or 0, *(place + 1 for place in self.places)])
-        return sorted(set(range(end)) - set(self.places))
+        came = bytearray(max(self.end or 0, max(self.places, default=-1) + 1))
+        for place in self.places:
+            if place >= 0:
+                came[place] = 1
+        return [place for place, has_come in enumerate(came) if not has_come]
 
     @property
     def gaps(self) -> int:
@@ -100,9 +112,12 @@ class Reception:
         offset = (packet.timestamp - self.first_timestamp) % TIMESTAMP
         return offset - TIMESTAMP if offset >= TIMESTAMP // 2 else offset
 
+    def _early_of(self, packet: Packet) -> float:
+        return packet.at - self.tick_of(packet) / self.clock
+
     def late(self, packets: Optional[List[Packet]] = None) -> List[float]:
         """Milliseconds that each packet of one play came too late, beside the earliest of them."""
-        early = [it.at - self.tick_of(it) / self.clock for it in (self.packets if packets is None else packets)]
+        early = self._early if packets is None else [self._early_of(it) for it in packets]
         base = min(early, default=0.0)
         return [(it - base) * 1000 for it in early]
 

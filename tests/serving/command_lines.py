@@ -11,6 +11,7 @@ from .server import HERE, TONE, TRIED, Server, configuration, lease
 BAD_WORDS, BAD_CONFIGURATION, FAILED = 1, 1, 4
 NO_WORDS, NO_CONFIGURATION = b"rtspd: bad command line\n", b"rtspd: bad configuration\n"
 NO_FILE = b"rtspd: read or write failed\n"
+NOT_THERE = b"No such file or directory (os error 2)\n"
 OVER_TCP = ("Transport", "RTP/AVP/TCP;unicast;interleaved=0-1")
 
 
@@ -54,7 +55,7 @@ def said(folder: pathlib.Path, *words: str) -> tuple:
 
 @serving_test(limit=30)
 def refused_starts(checks: Checks) -> None:
-    """A bad command line, a bad configuration, a file that isn't there, and a port that is taken, each by its line."""
+    """A bad command line, a bad configuration, a file that isn't there, and a port that is taken, each by its lines."""
     with Server(checks) as server:
         here = server.path
         config, listen = ("--config", "server.toml"), ("--listen", f"{HERE}:{server.port}")
@@ -73,16 +74,20 @@ def refused_starts(checks: Checks) -> None:
             (*config, "--help"),
         ):
             checks.same(f"serve {' '.join(words)}", (BAD_WORDS, b"", NO_WORDS), said(here, "serve", *words))
-        checks.same("a port that is taken", (FAILED, b"", NO_FILE), said(here, "serve", *config, *listen))
+        why = f"rtspd: {HERE}:{server.port}: Address already in use (os error 98)\n".encode()
+        checks.same("a port that is taken", (FAILED, b"", NO_FILE + why), said(here, "serve", *config, *listen))
         server.answers("the first server goes on")
         missing = said(here, "serve", "--config", "none.toml", *listen)
-        checks.same("no such configuration", (FAILED, b"", NO_FILE), missing)
+        checks.same("no such configuration", (FAILED, b"", NO_FILE + b"rtspd: none.toml: " + NOT_THERE), missing)
         (here / "bad.toml").write_text("[server]\n")
-        refused = BAD_CONFIGURATION, b"", NO_CONFIGURATION
-        checks.same("a bad configuration", refused, said(here, "serve", "--config", "bad.toml"))
+        why = b"rtspd: bad.toml: a key is missing; ./explain-configuration bad.toml says where\n"
+        came = said(here, "serve", "--config", "bad.toml")
+        checks.same("a bad configuration", (BAD_CONFIGURATION, b"", NO_CONFIGURATION + why), came)
         text = configuration(TONE, server.first_port)
         (here / "short.raw").write_bytes(b"\x7f" * 79_999)
-        for name, outcome in (("short", refused), ("none", (FAILED, b"", NO_FILE))):
+        why = b"rtspd: short.raw: it has 79999 bytes, and 500 units of 160 octets are 80000 (tone)\n"
+        short = BAD_CONFIGURATION, b"", NO_CONFIGURATION + why
+        for name, outcome in (("short", short), ("none", (FAILED, b"", NO_FILE + b"rtspd: none.raw: " + NOT_THERE))):
             (here / f"{name}.toml").write_text(text.replace("a.raw", f"{name}.raw"))
             came = said(here, "serve", "--config", f"{name}.toml", "--listen", f"{HERE}:1")
             checks.same(f"a track's file that is {name}", outcome, came)

@@ -28,6 +28,14 @@ number_in_or least most default (Some d) = as_number least most d
 abbrev pub number_at_or : List ℕ → ℕ → ℕ → ℕ → Members → Read ℕ
 number_at_or key least most default ms = number_in_or least most default (get_member key ms)
 
+-- a number that may be missing, and is none then
+abbrev pub optional_number_in : ℕ → ℕ → Option Data → Read (Option ℕ)
+optional_number_in least most None = Ok None
+optional_number_in least most (Some d) = as_number least most d >>= (λ n. Ok (Some n))
+
+abbrev pub optional_number_at : List ℕ → ℕ → ℕ → Members → Read (Option ℕ)
+optional_number_at key least most ms = optional_number_in least most (get_member key ms)
+
 -- a text of the form
 abbrev pub as_text : Form → Data → Read (List ℕ)
 as_text form (string text) = if has_form form text then Ok text else Err BadValue
@@ -39,6 +47,14 @@ text_in form (Some d) = as_text form d
 
 abbrev pub text_at : List ℕ → Form → Members → Read (List ℕ)
 text_at key form ms = text_in form (get_member key ms)
+
+-- a text that may be missing, and is none then
+abbrev pub optional_text_in : Form → Option Data → Read (Option (List ℕ))
+optional_text_in form None = Ok None
+optional_text_in form (Some d) = as_text form d >>= (λ text. Ok (Some text))
+
+abbrev pub optional_text_at : List ℕ → Form → Members → Read (Option (List ℕ))
+optional_text_at key form ms = optional_text_in form (get_member key ms)
 
 -- what toml's accessor gave, or a value of another type
 abbrev pub of_type : {T : Type 0} → Option T → Read T

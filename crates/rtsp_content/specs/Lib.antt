@@ -4,6 +4,7 @@ pub mod Form
 pub mod Keys
 pub mod Tables
 pub mod Server
+pub mod MediaPath
 pub mod Distinct
 pub mod TrackValue
 pub mod TrackView

@@ -66,3 +66,15 @@ max_name = 64
 
 abbrev pub max_encoding : ℕ
 max_encoding = 32
+
+-- bytes of an encoding's format parameters
+abbrev pub max_format_parameters : ℕ
+max_format_parameters = 1024
+
+-- channels of a track
+abbrev pub max_channels : ℕ
+max_channels = 8
+
+-- bytes of the path of the folder that the media is in
+abbrev pub max_folder : ℕ
+max_folder = 1024

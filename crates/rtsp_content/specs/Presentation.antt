@@ -1,5 +1,5 @@
 -- What a configuration says of presentations.
-use Rattle.std.specs.Prelude.{ℕ, Bool, not, List, [], codes, Ok, bytes_eq}
+use Rattle.std.specs.Prelude.{ℕ, Bool, not, List, [], codes, Option, Ok, bytes_eq}
 use Rattle.std.specs.List.{list_any}
 use Rattle.toml.specs.Data.{Data, Items, Members, get_member, as_table}
 use Rattle.rtsp_content.specs.declared.fault.TableFault.TheVariants.{Duplicate}
@@ -13,28 +13,28 @@ use Rattle.rtsp_content.specs.Tables.{each_from}
 use Rattle.rtsp_content.specs.Track.{as_track}
 use Rattle.rtsp_content.specs.PresentationValue.{PresentationValue}
 
--- the tracks that the tables of an array state, after those before
-abbrev pub tracks_from : List TrackValue → Items → Read (List TrackValue)
-tracks_from before items = each_from as_track before items
+-- the tracks that the tables of an array state, after those before, with their files in the folder of the media
+abbrev pub tracks_from : Option (List ℕ) → List TrackValue → Items → Read (List TrackValue)
+tracks_from folder before items = each_from (as_track folder) before items
 
 -- some presentation has the name
 abbrev pub has_presentation : List ℕ → List PresentationValue → Bool
 has_presentation name presentations = list_any (λ p. bytes_eq p.name name) presentations
 
 -- what a table `[[presentation]]` says with its tables `[[presentation.track]]`, beside the presentations before it
-abbrev pub presentation_of : List PresentationValue → Members → Read PresentationValue
-presentation_of before ms = do
+abbrev pub presentation_of : Option (List ℕ) → List PresentationValue → Members → Read PresentationValue
+presentation_of folder before ms = do
   name ← text_at (codes "name") Name ms
   fresh ← must (not (has_presentation name before)) Duplicate
   units ← number_at (codes "units") 1 max_units ms
   unit_ms ← number_at (codes "unit_ms") 1 max_unit_ms ms
   items ← list_in max_tracks (get_member (codes "track") ms)
-  tracks ← tracks_from [] items
+  tracks ← tracks_from folder [] items
   Ok (record { name = name; units = units; unit_ms = unit_ms; tracks = tracks })
 
-abbrev pub as_presentation : List PresentationValue → Data → Read PresentationValue
-as_presentation before d = of_type (as_table d) >>= presentation_of before
+abbrev pub as_presentation : Option (List ℕ) → List PresentationValue → Data → Read PresentationValue
+as_presentation folder before d = of_type (as_table d) >>= presentation_of folder before
 
 -- the presentations that the tables of an array state, after those before
-abbrev pub presentations_from : List PresentationValue → Items → Read (List PresentationValue)
-presentations_from before items = each_from as_presentation before items
+abbrev pub presentations_from : Option (List ℕ) → List PresentationValue → Items → Read (List PresentationValue)
+presentations_from folder before items = each_from (as_presentation folder) before items

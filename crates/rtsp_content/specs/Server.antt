@@ -1,12 +1,24 @@
 -- The numbers of the server.
-use Rattle.std.specs.Prelude.{◌≡◌, ◌==◌, ◌+◌, ◌-◌, ◌*◌, ◌%◌, ◌≤◌, ◌<◌, nat_le, codes, Ok}
-use Rattle.toml.specs.Data.{Members}
+use Rattle.std.specs.Prelude.{◌≡◌, ◌==◌, ◌+◌, ◌-◌, ◌*◌, ◌%◌, ◌≤◌, ◌<◌, nat_le, codes, Option, Some, None, Ok, Err, bytes_eq, if◌then◌else◌}
+use Rattle.toml.specs.Data.{Data, Members, string, get_member}
 use Rattle.rtsp_content.specs.declared.fault.TableFault.TheVariants.{BadValue}
+use Rattle.rtsp_content.specs.declared.server.Players.{Players}
+use Rattle.rtsp_content.specs.declared.server.Players.TheVariants.{Strict, Gstreamer}
 use Rattle.rtsp_content.specs.declared.server.Server.{Server}
 use Rattle.rtsp_content.specs.Fault.{Read, must}
 use Rattle.rtsp_text.specs.Results.{◌>>=◌}
 use Rattle.rtsp_content.specs.Limits.{least_port, greatest_port, max_pairs, max_uplink, max_sessions, max_timeout, max_journal, max_workers}
 use Rattle.rtsp_content.specs.Keys.{number_at, number_at_or}
+
+-- the players that a word names
+abbrev pub as_players : Data → Read Players
+as_players (string text) = if bytes_eq text (codes "strict") then Ok Strict else (if bytes_eq text (codes "gstreamer") then Ok Gstreamer else Err BadValue)
+as_players _ = Err BadValue
+
+-- those of RFC 7826 alone where nothing is said
+abbrev pub players_in : Option Data → Read Players
+players_in None = Ok Strict
+players_in (Some d) = as_players d
 
 -- what the table `[server]` says; all ports of all pairs are at most 65,535, and the step of renewals, in milliseconds,
 -- is below the timeout, in seconds
@@ -22,7 +34,8 @@ server_of ms = do
   renewal_step ← number_at_or (codes "renewal_step") 1 (timeout * 1000 - 1) 1 ms
   journal ← number_at_or (codes "journal") 1 max_journal max_journal ms
   workers ← number_at_or (codes "workers") 1 max_workers 4 ms
-  Ok (record { first_port = first_port; pairs = pairs; uplink = uplink; sessions = sessions; timeout = timeout; renewal_step = renewal_step; journal = journal; workers = workers })
+  players ← players_in (get_member (codes "players") ms)
+  Ok (record { first_port = first_port; pairs = pairs; uplink = uplink; sessions = sessions; timeout = timeout; renewal_step = renewal_step; journal = journal; workers = workers; players = players })
 
 -- the limits of these numbers
 pub record IsWithinLimits (server : Server) : Type 0 where

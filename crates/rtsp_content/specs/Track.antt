@@ -3,13 +3,14 @@ use Rattle.std.specs.Prelude.{ℕ, Bool, not, List, codes, Option, Some, None, O
 use Rattle.std.specs.List.{list_any}
 use Rattle.toml.specs.Data.{Data, Members, string, get_member, as_table}
 use Rattle.rtsp_content.specs.declared.fault.TableFault.TheVariants.{Missing, BadValue, Duplicate}
-use Rattle.rtsp_content.specs.declared.keys.Form.TheVariants.{Name, Encoding, Path}
+use Rattle.rtsp_content.specs.declared.keys.Form.TheVariants.{Name, Encoding, FormatParameters, Path}
 use Rattle.rtsp_content.specs.declared.track.Media.{Media}
 use Rattle.rtsp_content.specs.declared.track.Media.TheVariants.{Audio, Video}
 use Rattle.rtsp_content.specs.Fault.{Read, must}
 use Rattle.rtsp_text.specs.Results.{◌>>=◌}
-use Rattle.rtsp_content.specs.Limits.{max_payload_type, max_clock, max_octets, max_ticks}
-use Rattle.rtsp_content.specs.Keys.{number_at, text_at, of_type}
+use Rattle.rtsp_content.specs.Limits.{max_payload_type, max_clock, max_octets, max_ticks, max_channels}
+use Rattle.rtsp_content.specs.Keys.{number_at, optional_number_at, text_at, optional_text_at, of_type}
+use Rattle.rtsp_content.specs.MediaPath.{media_path}
 use Rattle.rtsp_content.specs.TrackValue.{TrackValue}
 
 -- the word for a medium, which the SDP has too
@@ -30,9 +31,9 @@ media_in (Some d) = as_media d
 abbrev pub has_track : List ℕ → List TrackValue → Bool
 has_track name tracks = list_any (λ t. bytes_eq t.name name) tracks
 
--- what a table `[[presentation.track]]` says, beside the tracks before it
-abbrev pub track_of : List TrackValue → Members → Read TrackValue
-track_of before ms = do
+-- what a table `[[presentation.track]]` says, beside the tracks before it; its file is in the folder of the media
+abbrev pub track_of : Option (List ℕ) → List TrackValue → Members → Read TrackValue
+track_of folder before ms = do
   name ← text_at (codes "name") Name ms
   fresh ← must (not (has_track name before)) Duplicate
   media ← media_in (get_member (codes "media") ms)
@@ -42,7 +43,20 @@ track_of before ms = do
   octets ← number_at (codes "octets") 1 max_octets ms
   ticks ← number_at (codes "ticks") 1 max_ticks ms
   file ← text_at (codes "file") Path ms
-  Ok (record { name = name; media = media; payload_type = payload_type; encoding = encoding; clock = clock; octets = octets; ticks = ticks; file = file })
+  format_parameters ← optional_text_at (codes "fmtp") FormatParameters ms
+  channels ← optional_number_at (codes "channels") 1 max_channels ms
+  Ok (record {
+    name = name;
+    media = media;
+    payload_type = payload_type;
+    encoding = encoding;
+    clock = clock;
+    octets = octets;
+    ticks = ticks;
+    file = media_path folder file;
+    format_parameters = format_parameters;
+    channels = channels;
+  })
 
-abbrev pub as_track : List TrackValue → Data → Read TrackValue
-as_track before d = of_type (as_table d) >>= track_of before
+abbrev pub as_track : Option (List ℕ) → List TrackValue → Data → Read TrackValue
+as_track folder before d = of_type (as_table d) >>= track_of folder before

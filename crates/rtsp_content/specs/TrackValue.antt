@@ -1,8 +1,8 @@
 -- A track as contracts see it.
-use Rattle.std.specs.Prelude.{◌≡◌, ℕ, ◌≤◌, true, List, map}
+use Rattle.std.specs.Prelude.{◌≡◌, ℕ, ◌≤◌, true, List, map, Option, IfSome}
 use Rattle.rtsp_content.specs.declared.track.Media.{Media}
-use Rattle.rtsp_content.specs.Limits.{max_payload_type, max_clock, max_octets, max_ticks}
-use Rattle.rtsp_content.specs.Form.{is_name, is_encoding}
+use Rattle.rtsp_content.specs.Limits.{max_payload_type, max_clock, max_octets, max_ticks, max_channels}
+use Rattle.rtsp_content.specs.Form.{is_name, is_encoding, is_format_parameters}
 
 pub record TrackValue : Type 0 where
   pub name : List ℕ
@@ -13,6 +13,8 @@ pub record TrackValue : Type 0 where
   pub octets : ℕ
   pub ticks : ℕ
   pub file : List ℕ
+  pub format_parameters : Option (List ℕ)
+  pub channels : Option ℕ
 
 -- the names of tracks
 abbrev pub track_names : List TrackValue → List (List ℕ)
@@ -29,3 +31,6 @@ pub record IsTrackWithin (track : TrackValue) : Type 0 where
   pub octets_most : track.octets ≤ max_octets
   pub ticks_least : 1 ≤ track.ticks
   pub ticks_most : track.ticks ≤ max_ticks
+  pub format_parameters : IfSome track.format_parameters (λ text. is_format_parameters text ≡ true)
+  pub channels_least : IfSome track.channels (λ n. 1 ≤ n)
+  pub channels_most : IfSome track.channels (λ n. n ≤ max_channels)

@@ -1,5 +1,5 @@
 -- A track, as its fields give it.
-use Rattle.std.specs.Prelude.{string_bytes}
+use Rattle.std.specs.Prelude.{string_bytes, option_map}
 use Rattle.rtsp_content.specs.declared.track.Track.TheInside.{Inside}
 use Rattle.rtsp_content.specs.TrackValue.{TrackValue}
 
@@ -13,4 +13,6 @@ track_value t = record {
   octets = t.octets;
   ticks = t.ticks;
   file = string_bytes t.file;
+  format_parameters = option_map (λ text. string_bytes text) t.format_parameters;
+  channels = t.channels;
 }

@@ -1,6 +1,6 @@
 //! The values at the keys of a TOML table.
 
-ghost use Rattle.std.specs.Prelude.{◌≡◌, ◌≤◌, true, Some, IfOk, string_bytes, option_map};
+ghost use Rattle.std.specs.Prelude.{◌≡◌, ◌≤◌, true, Some, IfOk, IfSome, string_bytes, option_map};
 ghost use Rattle.std.specs.List.{list_all};
 ghost use Rattle.toml.specs.Data.{get_member};
 ghost use Rattle.toml.specs.View.{view, table_view, array_view};
@@ -13,7 +13,7 @@ ghost use Rattle.rtsp_content.specs.Keys.{as_number, as_text, table_in, list_in}
 ghost use Rattle.rtsp_content.specs.Keys.{AreFew, few, item_count};
 
 use crate::fault::TableFault;
-use crate::limits::{MAX_ENCODING, MAX_NAME};
+use crate::limits::{MAX_ENCODING, MAX_FOLDER, MAX_FORMAT_PARAMETERS, MAX_NAME};
 use std::alloc::Global;
 use toml::value::Array;
 use toml::{Table, Value};
@@ -26,6 +26,12 @@ pub enum Form {
 
     /// 1 to 32 letters, digits and `-`.
     Encoding,
+
+    /// 1 to 1,024 printable characters of ASCII and spaces.
+    FormatParameters,
+
+    /// 1 to 1,024 bytes, none of them a control of ASCII.
+    Folder,
 
     /// Any text.
     Path,
@@ -55,12 +61,40 @@ fn has_encoding_bytes(text: &str) -> bool
     text.as_bytes().iter().all(|b| is_encoding_byte(*b))
 }
 
+fn is_parameter_byte(byte: u8) -> bool
+    ensures { result ≡ form.is_parameter_byte byte }
+{
+    (b' '..=b'~').contains(&byte)
+}
+
+fn is_folder_byte(byte: u8) -> bool
+    ensures { result ≡ form.is_folder_byte byte }
+{
+    b' ' <= byte && byte != 127
+}
+
+fn has_parameter_bytes(text: &str) -> bool
+    ensures { result ≡ list_all form.is_parameter_byte text.now }
+{
+    text.as_bytes().iter().all(|b| is_parameter_byte(*b))
+}
+
+fn has_folder_bytes(text: &str) -> bool
+    ensures { result ≡ list_all form.is_folder_byte text.now }
+{
+    text.as_bytes().iter().all(|b| is_folder_byte(*b))
+}
+
 fn has_form(text: &str, form: Form) -> bool
     ensures { result ≡ has_form form text.now }
 {
     match form {
         Form::Name => 1 <= text.len() && text.len() <= MAX_NAME && has_name_bytes(text),
         Form::Encoding => 1 <= text.len() && text.len() <= MAX_ENCODING && has_encoding_bytes(text),
+        Form::FormatParameters => {
+            1 <= text.len() && text.len() <= MAX_FORMAT_PARAMETERS && has_parameter_bytes(text)
+        }
+        Form::Folder => 1 <= text.len() && text.len() <= MAX_FOLDER && has_folder_bytes(text),
         Form::Path => true,
     }
 }
@@ -119,6 +153,22 @@ pub fn number_at_or(
     }
 }
 
+/// A number from `least` to `most`, if the key is there.
+pub fn optional_number_at(
+    table: &Table,
+    key: &str,
+    least: u64,
+    most: u64,
+) -> Result<Option<u64>, TableFault>
+    ensures value { result ≡ keys.optional_number_at key.now least most (table_view table.now) }
+    ensures range { IfOk result (λ o. IfSome o (λ n. (least ≤ n) × (n ≤ most))) }
+{
+    match value_at(table, key) {
+        Some(value) => Ok(Some(number(value, least, most)?)),
+        None => Ok(None),
+    }
+}
+
 fn text(alloc: Global, value: &Value, form: Form) -> Result<String, TableFault>
     ensures value { GivesBy OutOfMemory (λ s. string_bytes s) result
         (as_text form (view value.now)) }
@@ -142,6 +192,23 @@ pub fn text_at(alloc: Global, table: &Table, key: &str, form: Form) -> Result<St
     match value_at(table, key) {
         Some(value) => text(alloc, value, form),
         None => Err(TableFault::Missing),
+    }
+}
+
+/// A text of the form, if the key is there.
+pub fn optional_text_at(
+    alloc: Global,
+    table: &Table,
+    key: &str,
+    form: Form,
+) -> Result<Option<String>, TableFault>
+    ensures value { GivesBy OutOfMemory (λ o. option_map (λ s. string_bytes s) o) result
+        (keys.optional_text_at key.now form (table_view table.now)) }
+    ensures form { IfOk result (λ o. IfSome o (λ s. has_form form (string_bytes s) ≡ true)) }
+{
+    match value_at(table, key) {
+        Some(value) => Ok(Some(text(alloc, value, form)?)),
+        None => Ok(None),
     }
 }
 

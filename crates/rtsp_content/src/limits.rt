@@ -43,3 +43,9 @@ pub const MAX_TICKS: u64 = 1_000_000;
 pub const MAX_NAME: usize = 64;
 /// The most bytes of an encoding's name.
 pub const MAX_ENCODING: usize = 32;
+/// The most bytes of an encoding's format parameters.
+pub const MAX_FORMAT_PARAMETERS: usize = 1024;
+/// The most channels of a track.
+pub const MAX_CHANNELS: u64 = 8;
+/// The most bytes of the path of the folder that the media is in.
+pub const MAX_FOLDER: usize = 1024;

@@ -1,14 +1,16 @@
 //! Reading tracks and presentations from a configuration.
 
-ghost use Rattle.std.specs.Prelude.{◌≡◌, [], false, Some, length, IfOk};
+ghost use Rattle.std.specs.Prelude.{◌≡◌, ◌≤◌, [], false, Some, length, IfOk, IfSome};
 ghost use Rattle.toml.specs.Data.{get_member};
 ghost use Rattle.toml.specs.View.{view, table_view, array_view};
 ghost use Rattle.rtsp_content.specs.Distinct.{AreDistinct};
 ghost use Rattle.rtsp_content.specs.TrackValue.{track_names};
 ghost use Rattle.rtsp_content.specs.PresentationValue.{presentation_names};
 ghost use Rattle.rtsp_text.specs.Results.{Gives, GivesBy};
+ghost use Rattle.rtsp_text.specs.Slices.{held};
 ghost use Rattle.rtsp_content.specs.declared.fault.TableFault.TheVariants.{OutOfMemory};
-ghost use Rattle.rtsp_content.specs.Keys.{item_count};
+ghost use Rattle.rtsp_content.specs.Keys.{item_count, optional_number_at};
+ghost use Rattle.rtsp_content.specs.Limits.{max_channels};
 ghost use Rattle.rtsp_content.specs.Track as track;
 ghost use Rattle.rtsp_content.specs.Track.{as_media, media_in, track_of, as_track};
 ghost use Rattle.rtsp_content.specs.Presentation as presentation;
@@ -16,10 +18,14 @@ ghost use Rattle.rtsp_content.specs.Presentation.{tracks_from, presentation_of};
 ghost use Rattle.rtsp_content.specs.Presentation.{as_presentation, presentations_from};
 
 use crate::fault::{TableFault, must};
-use crate::keys::{Form, list_at, number_at, text_at, value_at};
-use crate::limits::{
-    MAX_CLOCK, MAX_OCTETS, MAX_PAYLOAD_TYPE, MAX_TICKS, MAX_TRACKS, MAX_UNIT_MS, MAX_UNITS,
+use crate::keys::{
+    Form, list_at, number_at, optional_number_at, optional_text_at, text_at, value_at,
 };
+use crate::limits::{
+    MAX_CHANNELS, MAX_CLOCK, MAX_OCTETS, MAX_PAYLOAD_TYPE, MAX_TICKS, MAX_TRACKS, MAX_UNIT_MS,
+    MAX_UNITS,
+};
+use crate::media_path::media_path;
 use crate::presentation::Presentation;
 use crate::sdp::sdp_of;
 use crate::track::{Media, Track};
@@ -58,8 +64,25 @@ fn has_track(name: &str, tracks: &[Track]) -> bool
     tracks.iter().any(|track| track.name() == name)
 }
 
-fn read_track(alloc: Global, table: &Table, before: &[Track]) -> Result<Track, TableFault>
-    ensures value { Gives OutOfMemory result (track_of before.now (table_view table.now)) }
+// The number of channels that a table of a track says, if it does.
+fn channels_at(table: &Table, key: &str) -> Result<Option<u8>, TableFault>
+    ensures value { result ≡ optional_number_at key.now 1 max_channels (table_view table.now) }
+    ensures range { IfOk result (λ o. IfSome o (λ n. (1 ≤ n) × (n ≤ max_channels))) }
+{
+    match optional_number_at(table, key, 1, MAX_CHANNELS)? {
+        Some(channels) => Ok(Some(channels as u8)),
+        None => Ok(None),
+    }
+}
+
+fn read_track(
+    alloc: Global,
+    table: &Table,
+    folder: Option<&str>,
+    before: &[Track],
+) -> Result<Track, TableFault>
+    ensures value { Gives OutOfMemory result
+        (track_of (held folder.entry) before.now (table_view table.now)) }
     ensures fresh { IfOk result (λ t. track.has_track t.name before.now ≡ false) }
 {
     let name = text_at(alloc, table, "name", Form::Name)?;
@@ -71,6 +94,9 @@ fn read_track(alloc: Global, table: &Table, before: &[Track]) -> Result<Track, T
     let octets = number_at(table, "octets", 1, MAX_OCTETS)?;
     let ticks = number_at(table, "ticks", 1, MAX_TICKS)?;
     let file = text_at(alloc, table, "file", Form::Path)?;
+    let format_parameters = optional_text_at(alloc, table, "fmtp", Form::FormatParameters)?;
+    let channels = channels_at(table, "channels")?;
+    let file = media_path(alloc, folder, file)?;
     Ok(Track {
         name,
         media,
@@ -80,28 +106,40 @@ fn read_track(alloc: Global, table: &Table, before: &[Track]) -> Result<Track, T
         octets: octets as u16,
         ticks: ticks as u32,
         file,
+        format_parameters,
+        channels,
     })
 }
 
-fn track_in(alloc: Global, value: &Value, before: &[Track]) -> Result<Track, TableFault>
-    ensures value { Gives OutOfMemory result (as_track before.now (view value.now)) }
+fn track_in(
+    alloc: Global,
+    value: &Value,
+    folder: Option<&str>,
+    before: &[Track],
+) -> Result<Track, TableFault>
+    ensures value { Gives OutOfMemory result
+        (as_track (held folder.entry) before.now (view value.now)) }
     ensures fresh { IfOk result (λ t. track.has_track t.name before.now ≡ false) }
 {
     match value.as_table() {
-        Some(table) => read_track(alloc, table, before),
+        Some(table) => read_track(alloc, table, folder, before),
         None => Err(TableFault::BadValue),
     }
 }
 
-fn read_tracks(alloc: Global, values: &Array) -> Result<Vec<Track>, TableFault>
+fn read_tracks(
+    alloc: Global,
+    values: &Array,
+    folder: Option<&str>,
+) -> Result<Vec<Track>, TableFault>
     ensures value { GivesBy OutOfMemory (λ v. v.items) result
-        (tracks_from [] (array_view values.now)) }
+        (tracks_from (held folder.entry) [] (array_view values.now)) }
     ensures distinct { IfOk result (λ v. AreDistinct (track_names v.items)) }
     ensures count { IfOk result (λ v. length v.items ≡ item_count (array_view values.now)) }
 {
     let mut tracks = Vec::new(alloc);
     for value in values {
-        let track = track_in(alloc, value, tracks.as_slice())?;
+        let track = track_in(alloc, value, folder, tracks.as_slice())?;
         tracks.push(track)?;
     }
     Ok(tracks)
@@ -118,9 +156,11 @@ fn has_presentation(name: &str, presentations: &[Presentation]) -> bool
 fn read_presentation(
     alloc: Global,
     table: &Table,
+    folder: Option<&str>,
     before: &[Presentation],
 ) -> Result<Presentation, TableFault>
-    ensures value { Gives OutOfMemory result (presentation_of before.now (table_view table.now)) }
+    ensures value { Gives OutOfMemory result
+        (presentation_of (held folder.entry) before.now (table_view table.now)) }
     ensures fresh { IfOk result (λ p. presentation.has_presentation p.name before.now ≡ false) }
 {
     let name = text_at(alloc, table, "name", Form::Name)?;
@@ -130,7 +170,7 @@ fn read_presentation(
     )?;
     let units = number_at(table, "units", 1, MAX_UNITS)? as u32;
     let unit_ms = UnitLength::new(number_at(table, "unit_ms", 1, MAX_UNIT_MS)? as u32);
-    let tracks = read_tracks(alloc, list_at(table, "track", MAX_TRACKS)?)?;
+    let tracks = read_tracks(alloc, list_at(table, "track", MAX_TRACKS)?, folder)?;
     let length_ms = u64::from(units) * u64::from(unit_ms.ms());
     let sdp = sdp_of(alloc, name.as_str(), length_ms, &tracks)?;
     Ok(Presentation {
@@ -145,30 +185,33 @@ fn read_presentation(
 fn presentation_in(
     alloc: Global,
     value: &Value,
+    folder: Option<&str>,
     before: &[Presentation],
 ) -> Result<Presentation, TableFault>
-    ensures value { Gives OutOfMemory result (as_presentation before.now (view value.now)) }
+    ensures value { Gives OutOfMemory result
+        (as_presentation (held folder.entry) before.now (view value.now)) }
     ensures fresh { IfOk result (λ p. presentation.has_presentation p.name before.now ≡ false) }
 {
     match value.as_table() {
-        Some(table) => read_presentation(alloc, table, before),
+        Some(table) => read_presentation(alloc, table, folder, before),
         None => Err(TableFault::BadValue),
     }
 }
 
-/// Reads the tables `[[presentation]]`.
+/// Reads the tables `[[presentation]]`, of which the files are in the folder of the media.
 pub(crate) fn read_presentations(
     alloc: Global,
     values: &Array,
+    folder: Option<&str>,
 ) -> Result<Vec<Presentation>, TableFault>
     ensures value { GivesBy OutOfMemory (λ v. v.items) result
-        (presentations_from [] (array_view values.now)) }
+        (presentations_from (held folder.entry) [] (array_view values.now)) }
     ensures distinct { IfOk result (λ v. AreDistinct (presentation_names v.items)) }
     ensures count { IfOk result (λ v. length v.items ≡ item_count (array_view values.now)) }
 {
     let mut presentations = Vec::new(alloc);
     for value in values {
-        let presentation = presentation_in(alloc, value, presentations.as_slice())?;
+        let presentation = presentation_in(alloc, value, folder, presentations.as_slice())?;
         presentations.push(presentation)?;
     }
     Ok(presentations)

@@ -1,17 +1,29 @@
 //! The numbers of the server.
 
 ghost use Rattle.std.specs.Prelude.{◌≡◌, IfOk};
-ghost use Rattle.toml.specs.View.{table_view};
-ghost use Rattle.rtsp_content.specs.Server.{server_of, IsWithinLimits};
+ghost use Rattle.toml.specs.Data.{get_member};
+ghost use Rattle.toml.specs.View.{view, table_view};
+ghost use Rattle.rtsp_content.specs.Server.{as_players, players_in, server_of, IsWithinLimits};
 
 use crate::fault::{TableFault, must};
-use crate::keys::{number_at, number_at_or};
+use crate::keys::{number_at, number_at_or, value_at};
 use crate::limits::{
     DEFAULT_RENEWAL_STEP, DEFAULT_TIMEOUT, DEFAULT_WORKERS, GREATEST_PORT, LEAST_PORT, MAX_JOURNAL,
     MAX_PAIRS, MAX_SESSIONS, MAX_TIMEOUT, MAX_UPLINK, MAX_WORKERS,
 };
+use toml::{Table, Value};
 
-/// The numbers of the server.
+/// The players that the server is to understand.
+#[derive(Clone, Copy, Debug, PartialEq, Eq)]
+pub enum Players {
+    /// Those that write what RFC 7826 says.
+    Strict,
+
+    /// GStreamer's too, as it is.
+    Gstreamer,
+}
+
+/// The numbers of the server, and its players.
 #[derive(Clone, Copy, Debug, PartialEq, Eq)]
 pub struct Server {
     /// The first of the UDP ports that are given out in pairs. It is even.
@@ -38,10 +50,37 @@ pub struct Server {
 
     /// How many threads serve connections.
     pub workers: u8,
+
+    /// Whose requests it understands.
+    pub players: Players,
+}
+
+fn players_named(value: &Value) -> Result<Players, TableFault>
+    ensures { result ≡ as_players (view value.now) }
+{
+    let Some(word) = value.as_str() else {
+        return Err(TableFault::BadValue);
+    };
+    if word == "strict" {
+        Ok(Players::Strict)
+    } else if word == "gstreamer" {
+        Ok(Players::Gstreamer)
+    } else {
+        Err(TableFault::BadValue)
+    }
+}
+
+fn players_at(table: &Table, key: &str) -> Result<Players, TableFault>
+    ensures { result ≡ players_in (get_member key.now (table_view table.now)) }
+{
+    match value_at(table, key) {
+        Some(value) => players_named(value),
+        None => Ok(Players::Strict),
+    }
 }
 
 /// Reads the table `[server]`.
-pub(crate) fn read_server(table: &toml::Table) -> Result<Server, TableFault>
+pub(crate) fn read_server(table: &Table) -> Result<Server, TableFault>
     ensures value { result ≡ server_of (table_view table.now) }
     ensures limits { IfOk result IsWithinLimits }
 {
@@ -59,6 +98,7 @@ pub(crate) fn read_server(table: &toml::Table) -> Result<Server, TableFault>
     let renewal_step = number_at_or(table, "renewal_step", 1, most_step, DEFAULT_RENEWAL_STEP)?;
     let journal = number_at_or(table, "journal", 1, MAX_JOURNAL, MAX_JOURNAL)?;
     let workers = number_at_or(table, "workers", 1, MAX_WORKERS, DEFAULT_WORKERS)?;
+    let players = players_at(table, "players")?;
     Ok(Server {
         first_port: first_port as u16,
         pairs: pairs as u16,
@@ -68,5 +108,6 @@ pub(crate) fn read_server(table: &toml::Table) -> Result<Server, TableFault>
         renewal_step: renewal_step as u32,
         journal: journal as u32,
         workers: workers as u8,
+        players,
     })
 }

@@ -1,6 +1,6 @@
 //! The table of what is served.
 
-ghost use Rattle.std.specs.Prelude.{◌≡◌, ◌≤◌, ◌⊎◌, Err, length, IsUtf8, option_copied, slice_get};
+ghost use Rattle.std.specs.Prelude.{◌≡◌, ◌≤◌, ◌⊎◌, [], Err, length, IsUtf8, option_copied, slice_get};
 ghost use Rattle.toml.specs.Parse.{parse_document};
 ghost use Rattle.toml.specs.View.{table_view};
 ghost use Rattle.rtsp_content.specs.Distinct.{AreDistinct};
@@ -14,8 +14,9 @@ ghost use Rattle.rtsp_content.specs.Table.{table_of, table_of_document};
 
 use crate::fault::TableFault;
 use crate::found::{Found, find_among};
-use crate::keys::{list_at, table_at};
+use crate::keys::{Form, list_at, optional_text_at, table_at};
 use crate::limits::MAX_PRESENTATIONS;
+use crate::media_path::media_folder;
 use crate::presentation::Presentation;
 use crate::reading::read_presentations;
 use crate::server::{Server, read_server};
@@ -41,14 +42,15 @@ impl Model for Table {
     ghost invariant = { λ t. IsTableWithin (table_value t) };
 }
 
-fn read_table(alloc: Global, table: &toml::Table) -> Result<Table, TableFault>
-    ensures { Gives OutOfMemory result (table_of (table_view table.now)) }
+fn read_table(alloc: Global, table: &toml::Table, path: &str) -> Result<Table, TableFault>
+    ensures { Gives OutOfMemory result (table_of path.now (table_view table.now)) }
 {
-    let server = read_server(table_at(table, "server")?)?;
-    let presentations = read_presentations(
-        alloc,
-        list_at(table, "presentation", MAX_PRESENTATIONS)?,
-    )?;
+    let numbers = table_at(table, "server")?;
+    let server = read_server(numbers)?;
+    let folder = optional_text_at(alloc, numbers, "media", Form::Folder)?;
+    let items = list_at(table, "presentation", MAX_PRESENTATIONS)?;
+    let folder = media_folder(alloc, path, folder)?;
+    let presentations = read_presentations(alloc, items, folder.as_deref())?;
     Ok(Table {
         server,
         presentations,
@@ -56,15 +58,27 @@ fn read_table(alloc: Global, table: &toml::Table) -> Result<Table, TableFault>
 }
 
 impl Table {
-    /// Reads a configuration from the bytes of a TOML document. Unknown keys are ignored.
+    /// Reads a configuration from the bytes of a TOML document. Unknown keys are ignored, and a
+    /// relative folder of the media is taken from where the program was started.
     pub fn read(alloc: Global, bytes: &[u8]) -> Result<Table, TableFault>
         ensures text { IsUtf8 bytes.now
-            → Gives OutOfMemory result (table_of_document (parse_document bytes.now)) }
+            → Gives OutOfMemory result (table_of_document [] (parse_document bytes.now)) }
+        ensures other { ¬ IsUtf8 bytes.now
+            → (result ≡ Err TableFault.NotToml) ⊎ (result ≡ Err TableFault.OutOfMemory) }
+    {
+        Table::read_at(alloc, bytes, "")
+    }
+
+    /// Reads a configuration from the bytes of a TOML document that stands at this path. Unknown
+    /// keys are ignored, and a relative folder of the media is taken from the document's folder.
+    pub fn read_at(alloc: Global, bytes: &[u8], path: &str) -> Result<Table, TableFault>
+        ensures text { IsUtf8 bytes.now
+            → Gives OutOfMemory result (table_of_document path.now (parse_document bytes.now)) }
         ensures other { ¬ IsUtf8 bytes.now
             → (result ≡ Err TableFault.NotToml) ⊎ (result ≡ Err TableFault.OutOfMemory) }
     {
         match toml::table_from_slice(alloc, bytes) {
-            Ok(table) => read_table(alloc, &table),
+            Ok(table) => read_table(alloc, &table, path),
             Err(error) => Err(if error.is_memory() {
                 TableFault::OutOfMemory
             } else {

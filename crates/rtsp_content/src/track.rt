@@ -1,8 +1,8 @@
 //! One media stream of a presentation.
 
-ghost use Rattle.std.specs.Prelude.{◌≡◌, ◌≤◌, ◌^◌, ◌<◌, true};
-ghost use Rattle.rtsp_content.specs.Form.{is_name, is_encoding};
-ghost use Rattle.rtsp_content.specs.Limits.{max_payload_type, max_clock, max_octets, max_ticks};
+ghost use Rattle.std.specs.Prelude.{◌≡◌, ◌≤◌, ◌^◌, ◌<◌, true, IfSome, option_map};
+ghost use Rattle.rtsp_content.specs.Form.{is_name, is_encoding, is_format_parameters};
+ghost use Rattle.rtsp_content.specs.Limits.{max_payload_type, max_clock, max_octets, max_ticks, max_channels};
 ghost use Rattle.rtsp_content.specs.Track.{media_text};
 
 use std::marker::Model;
@@ -38,6 +38,8 @@ pub struct Track {
     pub(crate) octets: u16,
     pub(crate) ticks: u32,
     pub(crate) file: String,
+    pub(crate) format_parameters: Option<String>,
+    pub(crate) channels: Option<u8>,
 }
 
 impl Model for Track {
@@ -118,10 +120,31 @@ impl Track {
         self.ticks
     }
 
-    /// The path of the file that has its units, as the configuration has it.
+    /// The path of the file that has its units: as the configuration has it, or taken from the
+    /// folder of the media where it names one.
     pub fn file(&self) -> &str
         ensures { result.now ≡ self.now.file }
     {
         self.file.as_str()
+    }
+
+    /// The format parameters of its encoding, for SDP, if it has them.
+    pub fn format_parameters(&self) -> Option<&str>
+        ensures value { option_map (λ text. text.now) result ≡ self.now.format_parameters }
+        ensures form { IfSome result (λ text. is_format_parameters text.now ≡ true) }
+    {
+        match &self.format_parameters {
+            Some(text) => Some(text.as_str()),
+            None => None,
+        }
+    }
+
+    /// How many channels it has, for SDP, if it says so.
+    pub fn channels(&self) -> Option<u8>
+        ensures value { result ≡ self.now.channels }
+        ensures least { IfSome result (λ n. 1 ≤ n) }
+        ensures most { IfSome result (λ n. n ≤ max_channels) }
+    {
+        self.channels
     }
 }

@@ -62,6 +62,7 @@ const SERVER: Server = Server {
     renewal_step: 1,
     journal: 1_000_000,
     workers: 4,
+    players: Players::Strict,
 };
 
 #[test]
@@ -70,6 +71,107 @@ fn reads_the_example(rt: HostRuntime) -> Result<(), Fail> {
     assert!(rt; table.server() == SERVER && table.presentations().len() == 1);
     assert!(rt; table.presentation(1).is_none());
     assert!(rt; matches!(table.presentation(0), Some(it) if shows_the_presentation(it)));
+    Ok(())
+}
+
+// A configuration of stereo sound, whose players are GStreamer and whose media has a folder.
+const STEREO: &str = "\
+[server]
+first_port = 5000
+pairs = 2
+uplink = 2000000
+sessions = 4
+players = \"gstreamer\"
+media = \"films\"
+[[presentation]]
+name = \"disc\"
+units = 1000
+unit_ms = 5
+[[presentation.track]]
+name = \"s\"
+media = \"audio\"
+pt = 96
+encoding = \"L16\"
+clock = 48000
+octets = 960
+ticks = 240
+file = \"disc.raw\"
+fmtp = \"emphasis=50-15\"
+channels = 2
+";
+
+const STEREO_SDP: &str = "\
+v=0\r
+o=- 1 1 IN IP4 127.0.0.1\r
+s=disc\r
+c=IN IP4 0.0.0.0\r
+t=0 0\r
+a=control:*\r
+a=range:npt=0.000-5.000\r
+m=audio 0 RTP/AVP 96\r
+a=rtpmap:96 L16/48000/2\r
+a=fmtp:96 emphasis=50-15\r
+a=control:s\r
+";
+
+#[test]
+fn reads_the_optional_keys(rt: HostRuntime) -> Result<(), Fail> {
+    let table = Table::read(rt.alloc(), STEREO.as_bytes())?;
+    assert!(rt; table.server().players == Players::Gstreamer);
+    let presentation = table.presentation(0);
+    assert!(rt; matches!(presentation, Some(it) if it.sdp() == STEREO_SDP.as_bytes()));
+    assert!(rt; matches!(first_track(&table), Some(it) if has_the_optional_keys(it)));
+    Ok(())
+}
+
+fn has_the_optional_keys(track: &Track) -> bool {
+    track.channels() == Some(2) && matches!(track.format_parameters(), Some("emphasis=50-15"))
+}
+
+fn first_track(table: &Table) -> Option<&Track> {
+    table.presentation(0)?.track(0)
+}
+
+// Where the configuration is, its folder of the media, the file of its track, and where that is.
+const PLACES: [(&str, &str, &str, &str); 8] = [
+    ("", "films", "disc.raw", "films/disc.raw"),
+    ("rtspd.toml", "films", "disc.raw", "films/disc.raw"),
+    ("etc/rtspd.toml", "films", "disc.raw", "etc/films/disc.raw"),
+    (
+        "/etc/rtspd.toml",
+        "films/",
+        "disc.raw",
+        "/etc/films/disc.raw",
+    ),
+    ("/rtspd.toml", "films", "disc.raw", "/films/disc.raw"),
+    ("./rtspd.toml", ".", "a/disc.raw", "././a/disc.raw"),
+    (
+        "etc/rtspd.toml",
+        "/srv/films",
+        "disc.raw",
+        "/srv/films/disc.raw",
+    ),
+    ("etc/rtspd.toml", "films", "/srv/disc.raw", "/srv/disc.raw"),
+];
+
+#[test]
+fn finds_the_media(rt: HostRuntime) -> Result<(), Fail> {
+    for (config, folder, file, path) in PLACES {
+        let text = STEREO.replacen(
+            rt.alloc(),
+            "\"films\"",
+            &format!(in rt.alloc(); "\"{folder}\"")?,
+            1,
+        )?;
+        let text = text.as_str().replacen(rt.alloc(), "disc.raw", file, 1)?;
+        let table = Table::read_at(rt.alloc(), text.as_bytes(), config)?;
+        assert!(rt;
+            matches!(first_track(&table), Some(it) if it.file() == path),
+            "{path}"
+        );
+    }
+    let table = Table::read_at(rt.alloc(), EXAMPLE.as_bytes(), "/etc/rtspd.toml")?;
+    assert!(rt; matches!(first_track(&table), Some(it) if it.file() == "tone-a.raw"));
     Ok(())
 }
 
@@ -108,6 +210,8 @@ fn has_the_texts(track: &Track) -> bool {
         && track.media().as_str() == "audio"
         && track.encoding() == "PCMA"
         && track.file() == "tone-b.raw"
+        && track.format_parameters().is_none()
+        && track.channels().is_none()
 }
 
 const PATHS: [(&str, Found); 13] = [
@@ -207,7 +311,7 @@ fn names_the_fault(rt: HostRuntime) -> Result<(), AllocError> {
     Ok(())
 }
 
-const LIMITS: [(&str, &str, &str); 38] = [
+const LIMITS: [(&str, &str, &str); 50] = [
     (
         "first_port = 5000",
         "first_port = 1024",
@@ -251,6 +355,46 @@ const LIMITS: [(&str, &str, &str); 38] = [
     ("timeout = 60", "workers = 1", "workers = 0"),
     ("timeout = 60", "workers = 64", "workers = 65"),
     ("timeout = 60", "colour = \"red\"", "timeout = \"60\""),
+    (
+        "timeout = 60",
+        "players = \"strict\"",
+        "players = \"Strict\"",
+    ),
+    ("timeout = 60", "players = \"gstreamer\"", "players = \"\""),
+    ("timeout = 60", "media = \"films\"", "media = \"\""),
+    ("timeout = 60", "media = \"/srv/ä ö\"", "media = 1"),
+    ("timeout = 60", "media = \".. /~\"", "media = \"a\\u007Fb\""),
+    ("timeout = 60", "media = \"a\"", "media = \"a\\nb\""),
+    (
+        "ticks = 160",
+        "ticks = 1\nchannels = 1",
+        "ticks = 1\nchannels = 0",
+    ),
+    (
+        "ticks = 160",
+        "ticks = 1\nchannels = 8",
+        "ticks = 1\nchannels = 9",
+    ),
+    (
+        "ticks = 160",
+        "ticks = 1\nfmtp = \" a=~\"",
+        "ticks = 1\nfmtp = \"\"",
+    ),
+    (
+        "ticks = 160",
+        "ticks = 1\nfmtp = \"mode=20\"",
+        "ticks = 1\nfmtp = \"mode\\r\\n=20\"",
+    ),
+    (
+        "ticks = 160",
+        "ticks = 1\nfmtp = \"x\"",
+        "ticks = 1\nfmtp = \"\\u007F\"",
+    ),
+    (
+        "ticks = 160",
+        "ticks = 1\nfmtp = \"x\"",
+        "ticks = 1\nfmtp = \"\\u00E4\"",
+    ),
     ("units = 500", "units = 1", "units = 0"),
     ("units = 500", "units = 10000000", "units = 10000001"),
     ("unit_ms = 20", "unit_ms = 1", "unit_ms = 0"),

@@ -2,16 +2,19 @@
 //! the server of a socket.
 //!
 //! `running` runs a command line of rtsp_command_line; `one_connection` is the server behind
-//! standard input and output, over the devices of rtsp_devices; `serving` is that of a socket.
+//! standard input and output, over the devices of rtsp_devices; `serving` is that of a socket, and
+//! `reasons` tells why there is none.
 
 #![tactic(auto)]
 
 mod example;
 mod one_connection;
+mod reasons;
 mod running;
 mod serving;
 
 pub use example::EXAMPLE;
+pub use reasons::tell_reasons;
 pub use rtsp_command_line::{CommandLine, Exit, read_words};
 pub use rtsp_devices::{CountedWords, NoPlays, PortSet, StandingClock};
 pub use running::{run_program, run_words};

@@ -135,7 +135,7 @@ pub(crate) fn read_table<R: Files + AllocGlobal>(
 ) -> Result<Table, Exit> {
     let read = match config {
         Some(path) => match fs::read(rt, path) {
-            Ok(text) => Table::read(rt.alloc(), &text),
+            Ok(text) => Table::read_at(rt.alloc(), &text, path),
             Err(error) => return Err(file_fault(&error)),
         },
         None => Table::read(rt.alloc(), EXAMPLE.as_bytes()),

@@ -17,7 +17,7 @@ use std::thread::Threads;
 const PORT: u16 = 8_554;
 
 // The address to listen on.
-fn address_of(listen: Option<&str>) -> Result<SocketAddr, Exit> {
+pub(crate) fn address_of(listen: Option<&str>) -> Result<SocketAddr, Exit> {
     let Some(text) = listen else {
         return Ok(SocketAddr::V4(SocketAddrV4::new(Ipv4Addr::LOCALHOST, PORT)));
     };

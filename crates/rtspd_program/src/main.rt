@@ -2,9 +2,9 @@
 
 #![tactic(auto)]
 
-use rtspd::{Exit, run_program};
+use rtspd::{Exit, run_program, tell_reasons};
 use std::fs::File;
-use std::io::{ErrorKind, Read, Write};
+use std::io::{Eprint, ErrorKind, Read, Write};
 use std::net::{Net, TcpListener, TcpStream};
 use std::process::ExitCode;
 use std::rt::{Clock, Env, Files};
@@ -29,8 +29,9 @@ fn words_fault(error: &io::Error) -> Exit {
     }
 }
 
+// Runs the words of the command line, and tells what went wrong.
 fn run<
-    R: Env + Files<File = File> + AllocGlobal + Threads + Wait + Clock + Sync,
+    R: Env + Files<File = File> + AllocGlobal + Threads + Wait + Clock + Eprint + Sync,
     I: Read + Drop,
     O: Write + Drop,
 >(rt: &R, reader: I, writer: O) -> io::Result<Exit>
@@ -42,16 +43,26 @@ where
     for word in &words {
         texts.push(word.as_str())?;
     }
-    Ok(run_program(rt, &texts, reader, writer))
+    let exit = run_program(rt, &texts, reader, writer);
+    tell(rt, exit);
+    tell_reasons(rt, &texts, exit);
+    Ok(exit)
+}
+
+fn tell<R: Eprint>(rt: &R, exit: Exit) {
+    if exit != Exit::Done {
+        let _ = eprintln!(rt; "{exit}");
+    }
 }
 
 fn main(rt: HostRuntime) -> ExitCode {
     let exit = match run(&rt, rt.stdin(), rt.stdout()) {
         Ok(exit) => exit,
-        Err(error) => words_fault(&error),
+        Err(error) => {
+            let exit = words_fault(&error);
+            tell(&rt, exit);
+            exit
+        }
     };
-    if exit != Exit::Done {
-        let _ = eprintln!(rt; "{exit}");
-    }
     ExitCode::from(exit.status())
 }

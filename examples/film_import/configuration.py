@@ -1,0 +1,132 @@
+"""The configuration that presentations are added to."""
+import json
+import os
+import pathlib
+import re
+import subprocess
+import sys
+import tempfile
+import tomllib
+from typing import Any, Dict, List, NamedTuple
+
+EXPLAIN = pathlib.Path(__file__).resolve().parent.parent.parent / "explain-configuration"
+NAME = re.compile(r"[a-z0-9_-]{1,64}")
+MOST_PRESENTATIONS = 256
+# IP, UDP and RTP, as the server counts them into a stream's rate.
+HEADERS = 40
+NEW_CONFIGURATION = """\
+# Made by examples/import. docs/REFERENCE.md says what the keys mean.
+[server]
+first_port = 5000
+pairs = 1024
+uplink = 1000000000
+sessions = 512
+players = "gstreamer"
+media = "media"
+"""
+
+
+class Refused(Exception):
+    """Why it doesn't go on, in one line."""
+
+
+class Made(NamedTuple):
+    """What was made of a file: a presentation of one track."""
+
+    name: str
+    track: str
+    media: str
+    pt: int
+    encoding: str
+    clock: int
+    octets: int
+    unit_ms: int
+    units: int
+    channels: int = 1
+
+    @property
+    def rate(self) -> int:
+        """Bits a second of the uplink."""
+        return -(-(self.octets + HEADERS) * 8000 // self.unit_ms)
+
+    @property
+    def seconds(self) -> float:
+        return self.units * self.unit_ms / 1000
+
+    def table(self, file: str) -> str:
+        lines = ["", "[[presentation]]", f'name = "{self.name}"', f"units = {self.units}", f"unit_ms = {self.unit_ms}"]
+        lines += ["[[presentation.track]]", f'name = "{self.track}"', f'media = "{self.media}"', f"pt = {self.pt}"]
+        lines += [f'encoding = "{self.encoding}"', f"clock = {self.clock}", f"octets = {self.octets}"]
+        lines += [f"ticks = {self.clock * self.unit_ms // 1000}", f"file = {json.dumps(file)}"]
+        lines += [f"channels = {self.channels}"] if self.channels > 1 else []
+        return "".join(f"{line}\n" for line in lines)
+
+
+class Configuration:
+    """The configuration that presentations are added to."""
+
+    def __init__(self, path: pathlib.Path) -> None:
+        self.path = path
+        if not path.parent.is_dir():
+            raise Refused(f"{path.parent} is no folder, so {path} can't be there")
+        self.is_new = not path.exists()
+        self.text = NEW_CONFIGURATION if self.is_new else path.read_text()
+        try:
+            self.document: Dict[str, Any] = tomllib.loads(self.text)
+        except tomllib.TOMLDecodeError as why:
+            raise Refused(f"{path} is no TOML: {why}") from None
+        if not self.is_new:
+            self.check(path)
+
+    def check(self, path: pathlib.Path) -> None:
+        """The program has to take it."""
+        done = subprocess.run([sys.executable, EXPLAIN, path], capture_output=True, text=True)
+        if done.returncode:
+            faults = [line for line in (done.stdout or done.stderr).splitlines() if not line.startswith("note: ")]
+            raise Refused(f"the program refuses {faults[0] if faults else path}")
+
+    @property
+    def names(self) -> List[str]:
+        return [table["name"] for table in self.document.get("presentation", [])]
+
+    @property
+    def folder(self) -> pathlib.Path:
+        """Where its media is found."""
+        return self.path.parent / self.document["server"].get("media", ".")
+
+    def file_named(self, name: str) -> str:
+        """How a track names a file of that folder."""
+        return name if "media" in self.document["server"] else str((self.folder / name).resolve())
+
+    def refuse(self, name: str) -> None:
+        """Refuses a name that a presentation can't be added by."""
+        if not NAME.fullmatch(name):
+            raise Refused(f"{name!r} is no name of a presentation: it has to be 1 to 64 of a to z, digits, - and _")
+        if name in self.names:
+            raise Refused(f"{self.path} has a presentation {name} already")
+        if len(self.names) >= MOST_PRESENTATIONS:
+            raise Refused(f"{self.path} has {MOST_PRESENTATIONS} presentations, the most that there may be")
+
+    def add(self, made: Made, file: str, unfinished_media: pathlib.Path) -> None:
+        """Adds a presentation at the end, and gives its media the name; both files are whole at all times."""
+        text = self.text + ("" if self.text.endswith("\n") else "\n") + made.table(self.file_named(file))
+        with tempfile.NamedTemporaryFile("w", dir=self.path.parent, suffix=".toml", delete=False) as out:
+            out.write(text)
+        unfinished = pathlib.Path(out.name)
+        try:
+            document = tomllib.loads(text)
+            self.check(unfinished)
+            os.chmod(unfinished, 0o644 if self.is_new else self.path.stat().st_mode & 0o777)
+            os.replace(unfinished_media, self.folder / file)
+            os.replace(unfinished, self.path)
+        finally:
+            unfinished.unlink(missing_ok=True)
+        self.text, self.document, self.is_new = text, document, False
+
+    def players(self, made: Made) -> str:
+        """How many players of a presentation there may be at once, and why no more."""
+        server = self.document["server"]
+        carried = server["uplink"] // made.rate
+        said = f"{made.rate / 1e6:.3f} Mbit/s with the headers; the uplink of {self.path} carries {carried:,} players"
+        less = [f"{key} = {server[key]}" for key in ("sessions", "pairs") if server[key] < carried]
+        return said + (f", but it has {' and '.join(less)}" if less else "")

@@ -1,0 +1,213 @@
+"""Media in units, made of films and sound by ffmpeg."""
+import json
+import pathlib
+import re
+import subprocess
+import sys
+import tempfile
+import time
+from typing import List, NamedTuple, Optional
+
+from .configuration import Made, Refused
+
+MOST_UNITS, MOST_UNIT_MS = 10_000_000, 1000
+# What ffmpeg makes films of, and nobody else: a picture, and a text as on a terminal.
+NO_FILMS = re.compile(r"image2.*|.*_pipe|tty|gif")
+# A packet of a transport stream (ISO 13818-1), and one that stands for nothing.
+PACKET = 188
+NULL_PACKET = bytes([0x47, 0x1F, 0xFF, 0x10]) + b"\xff" * (PACKET - 4)
+# A unit of a film: seven packets, as usual over RTP (RFC 2250).
+UNIT = 7 * PACKET
+# The rate of units of one millisecond, in bits a second.
+FASTEST = UNIT * 8000
+# Milliseconds of a unit by the height of a picture, up to so many lines; more lines have 1.
+BY_HEIGHT = (480, 7), (720, 4), (1080, 2)
+WITHOUT_PICTURES = 32
+# What a rate that was asked for may differ from one that fits.
+TOLERANCE = 0.02
+SOUND_RATE, SOUND_LAYER = 192_000, "mp2"
+# The part of a transport stream that is for pictures and sound; packets, tables and padding take the others.
+USED = 0.85
+
+
+class Sound(NamedTuple):
+    """An encoding of sound: one unit is a packet."""
+
+    encoding: str
+    pt: int
+    clock: int
+    channels: int
+    octets: int
+    unit_ms: int
+    ffmpeg: str
+    silence: bytes
+
+
+SOUNDS = {
+    "l16": Sound("L16", 96, 48_000, 2, 960, 5, "s16be", b"\0"),
+    "pcmu": Sound("PCMU", 0, 8_000, 1, 160, 20, "mulaw", b"\xff"),
+    "pcma": Sound("PCMA", 8, 8_000, 1, 160, 20, "alaw", b"\xd5"),
+}
+
+
+def mbit(unit_ms: int) -> str:
+    return f"{FASTEST / unit_ms / 1e6:.3f}"
+
+
+def unit_for(megabits: float) -> int:
+    """The milliseconds of a unit at which a film has this rate."""
+    near = min(max(round(FASTEST / 1e6 / megabits), 1), MOST_UNIT_MS)
+    if abs(FASTEST / near / 1e6 / megabits - 1) <= TOLERANCE:
+        return near
+    if megabits * 1e6 > FASTEST:
+        raise Refused(f"--mbit {megabits:g} doesn't fit: a track carries at most {mbit(1)}")
+    if megabits * 1e6 * MOST_UNIT_MS < FASTEST:
+        raise Refused(f"--mbit {megabits:g} doesn't fit: {mbit(MOST_UNIT_MS)} is the least that does")
+    above = int(FASTEST / 1e6 / megabits)
+    raise Refused(f"--mbit {megabits:g} doesn't fit: {mbit(above + 1)} would, and {mbit(above)}")
+
+
+class Progress:
+    """A line that tells how far it is."""
+
+    def __init__(self, name: str, seconds: Optional[float]) -> None:
+        self.name = name
+        self.seconds = seconds
+        self.told = time.monotonic()
+        self.is_terminal = sys.stderr.isatty()
+
+    def at(self, seconds: float) -> None:
+        if time.monotonic() - self.told < (0.2 if self.is_terminal else 10.0):
+            return
+        self.told = time.monotonic()
+        part = f"{min(seconds / self.seconds, 1):4.0%}" if self.seconds else f"{seconds:,.0f} s"
+        before, after = ("\r", "") if self.is_terminal else ("", "\n")
+        print(f"{before}{self.name}: {part}", end=after, file=sys.stderr, flush=True)
+
+    def end(self) -> None:
+        if self.is_terminal:
+            print("\r\x1b[K", end="", file=sys.stderr, flush=True)
+
+
+class Source(NamedTuple):
+    """What ffmpeg finds in a file."""
+
+    path: pathlib.Path
+    seconds: Optional[float]
+    height: Optional[int]
+    has_sound: bool
+
+
+def probe(path: pathlib.Path) -> Optional[Source]:
+    """What is in a file; None where ffmpeg reads neither pictures nor sound in it."""
+    command = ["ffprobe", "-v", "error", "-show_streams", "-show_format", "-of", "json", str(path.resolve())]
+    done = subprocess.run(command, capture_output=True, stdin=subprocess.DEVNULL)
+    found = json.loads(done.stdout or b"{}") if done.returncode == 0 else {}
+    streams = found.get("streams", [])
+    is_cover = lambda stream: stream.get("disposition", {}).get("attached_pic") == 1
+    heights = [it.get("height") for it in streams if it.get("codec_type") == "video" and not is_cover(it)]
+    has_sound = any(it.get("codec_type") == "audio" for it in streams)
+    described = found.get("format", {})
+    if NO_FILMS.fullmatch(described.get("format_name", "")) or not (heights or has_sound):
+        return None
+    length = float(described["duration"]) if "duration" in described else None
+    return Source(path, length, heights[0] if heights else None, has_sound)
+
+
+def ffmpeg(source: Source, name: str, words: List[str], out: pathlib.Path) -> str:
+    """Runs ffmpeg, with its progress, and returns what it complained of."""
+    command = ["ffmpeg", "-hide_banner", "-nostdin", "-v", "warning", "-nostats", "-progress", "pipe:1"]
+    command += ["-i", str(source.path.resolve()), "-sn", "-dn", "-map_metadata", "-1", *words, "-y", str(out)]
+    progress = Progress(name, source.seconds)
+    with tempfile.TemporaryFile("w+", errors="replace") as complaints:
+        pipes = {"stdin": subprocess.DEVNULL, "stdout": subprocess.PIPE, "stderr": complaints, "text": True}
+        with subprocess.Popen(command, **pipes) as running:
+            try:
+                for line in running.stdout:
+                    at = re.fullmatch(r"out_time_us=(\d+)", line.strip())
+                    if at:
+                        progress.at(int(at[1]) / 1e6)
+            except BaseException:
+                running.kill()
+                raise
+            finally:
+                progress.end()
+        complaints.seek(0)
+        said = complaints.read()
+    if running.returncode:
+        lines = [line.strip() for line in said.splitlines() if line.strip()]
+        why = lines[-1] if lines else f"status {running.returncode}"
+        raise Refused(f"ffmpeg makes nothing of {source.path}: {why}")
+    return said
+
+
+def pictures_by() -> List[str]:
+    """How pictures are encoded: by H.264 where this ffmpeg can, else by MPEG-2."""
+    done = subprocess.run(["ffmpeg", "-hide_banner", "-v", "quiet", "-encoders"], capture_output=True, text=True)
+    if " libx264 " in done.stdout:
+        return ["-c:v", "libx264", "-preset", "veryfast", "-profile:v", "main"]
+    return ["-c:v", "mpeg2video"]
+
+
+def film_words(source: Source, unit_ms: int) -> List[str]:
+    """What makes a transport stream of one rate."""
+    whole = FASTEST // unit_ms
+    sound = min(SOUND_RATE, whole // 8 // 32_000 * 32_000 or 32_000) if source.has_sound else 0
+    picture = int(whole * USED - sound * 1.1)
+    words = ["-map", "0:v:0"] if source.height else []
+    words += ["-map", "0:a:0"] if source.has_sound else []
+    if source.height:
+        if picture < 50_000:
+            raise Refused(f"{mbit(unit_ms)} Mbit/s is too little for pictures")
+        words += [*pictures_by(), "-pix_fmt", "yuv420p", "-force_key_frames", "expr:gte(t,n_forced)"]
+        words += ["-b:v", str(picture), "-maxrate", str(picture), "-bufsize", str(picture // 2)]
+    if source.has_sound:
+        words += ["-c:a", SOUND_LAYER, "-b:a", str(sound), "-ar", "48000", "-ac", "2" if sound >= 64_000 else "1"]
+    return [*words, "-f", "mpegts", "-muxrate", str(whole), "-pcr_period", "20"]
+
+
+def unit_of(source: Source, megabits: Optional[float]) -> int:
+    if megabits is not None:
+        return unit_for(megabits)
+    if source.height is None:
+        return WITHOUT_PICTURES
+    return next((unit_ms for height, unit_ms in BY_HEIGHT if source.height <= height), 1)
+
+
+def length_fits(source: Source, kind: str, unit_ms: int) -> None:
+    """Refuses what has more units than a presentation may have."""
+    if not source.seconds or source.seconds * 1000 / unit_ms <= MOST_UNITS:
+        return
+    least = -(-int(source.seconds * 1000) // MOST_UNITS)
+    rather = f"--mbit {mbit(least)}" if kind == "ts" else "--as ts"
+    raise Refused(f"{source.path} is too long for units of {unit_ms} ms; {rather} would do")
+
+
+def make_film(source: Source, name: str, unit_ms: int, out: pathlib.Path) -> Made:
+    said = ffmpeg(source, name, film_words(source, unit_ms), out)
+    length = out.stat().st_size
+    if "dts < pcr" in said:
+        # So much it takes, or a tenth more than it was given.
+        needed = max(length * 8 / (source.seconds or 1), FASTEST / unit_ms * 1.1)
+        rather = f"--mbit {mbit(int(FASTEST / needed))} would" if needed <= FASTEST else "no rate of a track would"
+        raise Refused(f"{source.path} doesn't fit into {mbit(unit_ms)} Mbit/s; {rather}")
+    with out.open("ab") as padded:
+        padded.write(NULL_PACKET * (-(-length // UNIT) * UNIT // PACKET - length // PACKET))
+    units = out.stat().st_size // UNIT
+    if not units or out.stat().st_size % UNIT:
+        raise Refused(f"ffmpeg made {length:,} octets of {source.path}, which are no packets")
+    return Made(name, "ts", "video", 33, "MP2T", 90_000, UNIT, unit_ms, units)
+
+
+def make_sound(source: Source, name: str, kind: str, out: pathlib.Path) -> Made:
+    sound = SOUNDS[kind]
+    words = ["-map", "0:a:0", "-vn", "-f", sound.ffmpeg, "-ar", str(sound.clock), "-ac", str(sound.channels)]
+    ffmpeg(source, name, words, out)
+    length = out.stat().st_size
+    if not length:
+        raise Refused(f"ffmpeg made no sound of {source.path}")
+    with out.open("ab") as padded:
+        padded.write(sound.silence * (-length % sound.octets))
+    units = -(-length // sound.octets)
+    fixed = sound.encoding, sound.clock, sound.octets, sound.unit_ms, units, sound.channels
+    return Made(name, "sound", "audio", sound.pt, *fixed)
