@@ -59,11 +59,11 @@ used_by w v u seats n e all drawn o is =
     elim (cases_eq o.seat seats.first) [
       | inl same ↦ o.actor ∙ ap (λ (y : View). y.actor) (some-injective x v (sym o.at ∙ (ap (get_elem? seats.state.views) same ∙ seats.at_first)))
       | inr other ↦
-        let apart = g.common.apart seats.first o.seat v x seats.at_first o.at (λ q. other (sym q)) in
-        let none : uses n x.mine ≡ [] = not_some (uses n x.mine) (λ some. apart.drawn n drawn (all o.seat x o.at n some)) in
-        let left : filter (λ (d : Entry). d.actor == x.actor) (uses n h) ≡ [] =
-        filters (λ (d : Entry). d.actor == x.actor) (λ (d : Entry). is_use_of n d.change) h ∙ (ap (uses n) (sym (g.shared.knows o.seat x o.at).mine) ∙ none) in
-        absurd (both_ways (e.actor == x.actor) (none_pass (λ (d : Entry). d.actor == x.actor) (uses n h) e left is) (eq-eqb e.actor x.actor o.actor))
+          let apart = g.common.apart seats.first o.seat v x seats.at_first o.at (λ q. other (sym q)) in
+          let none : uses n x.mine ≡ [] = not_some (uses n x.mine) (λ some. apart.drawn n drawn (all o.seat x o.at n some)) in
+          let left : filter (λ (d : Entry). d.actor == x.actor) (uses n h) ≡ [] =
+          filters (λ (d : Entry). d.actor == x.actor) (λ (d : Entry). is_use_of n d.change) h ∙ (ap (uses n) (sym (g.shared.knows o.seat x o.at).mine) ∙ none) in
+          absurd (both_ways (e.actor == x.actor) (none_pass (λ (d : Entry). d.actor == x.actor) (uses n h) e left is) (eq-eqb e.actor x.actor o.actor))
     ]
 
 -- each entry that passes is a seat's

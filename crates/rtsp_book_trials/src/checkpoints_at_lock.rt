@@ -225,7 +225,9 @@ fn a_checkpoint_stands_between_each_two_steps_that_are_refused(
     has_text(&rt, rt.alloc(), &kept, expected)?;
     // Whoever holds or adds under the admission is its own seat, and nothing of it is left.
     let journal = kept.journal();
-    assert!(rt; uses_by(0, 5, journal) == 1 && uses_by(3, 5, journal) + uses_by(5, 5, journal) == 0);
+    assert!(rt;
+        uses_by(0, 5, journal) == 1 && uses_by(3, 5, journal) + uses_by(5, 5, journal) == 0
+    );
     assert!(rt; kept.book().get(4).is_none());
     same_without(&rt, rt.alloc(), &kept, 5)?;
     kept.checkpoint();

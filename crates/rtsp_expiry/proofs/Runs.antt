@@ -52,11 +52,11 @@ module _ {B : Type 0} (calls : Calls B) (step : Step) (test : ℕ × Session →
       elim swept.more as (λ more. Stops calls step limit swept.ended more run.last t → EndsOnly test records swept.ended s.view t.view) [
         | true ↦ λ stops. subst (λ (u : State B). EndsOnly test records swept.ended s.view u.view) (sym stops.1) so
         | false ↦ λ stops. record {
-            sessions = so.sessions;
-            each = so.each;
-            due = so.due;
-            grown = subst (Grown s.view t.view) (append-nil (flat_map records so.sessions)) (grown_then s.view run.last.view t.view (flat_map records so.sessions) [] so.grown (grown_acted run.last.view t.view step (Err NothingDue) stops.refused));
-          }
+          sessions = so.sessions;
+          each = so.each;
+          due = so.due;
+          grown = subst (Grown s.view t.view) (append-nil (flat_map records so.sessions)) (grown_then s.view run.last.view t.view (flat_map records so.sessions) [] so.grown (grown_acted run.last.view t.view step (Err NothingDue) stops.refused));
+        }
       ] run.stops
 
   -- each refused step finds no row that passes
