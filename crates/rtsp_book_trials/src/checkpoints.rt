@@ -179,7 +179,7 @@ fn the_phase_and_the_binding_are_restated(rt: HostRuntime) -> Result<(), Fail> {
         1 hold 2 3 rate 80000\n\
         1 hold 2 3 port 5000\n\
         1 add 2 3 0 0 00000001 0 0 7f000001 8000 8001\n\
-        1 move 2 ready:0:0 playing:0:500:0:1000\n";
+        1 move 2 ready:0:0 playing:1000:0:500:0\n";
     assert!(rt; leaves(rt.alloc(), &mut kept, playing)?);
     kept.act(
         0,

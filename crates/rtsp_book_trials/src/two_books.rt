@@ -362,9 +362,9 @@ fn steps_at_random_leave_both_books_alike(rt: HostRuntime) -> Result<(), Fail> {
     for turn in 0..10_000u32 {
         let one = next(seed);
         seed = next(one);
-        let alike = match seed >> 28 {
-            0 => both.undo_alike()?,
-            1 => both.checkpoint_alike(rt.alloc())?,
+        let alike = match seed >> 24 {
+            0..=15 => both.undo_alike()?,
+            16 => both.checkpoint_alike(rt.alloc())?,
             _ => both.answer_alike(&step_of(one >> 26, drawn_from(one, seed))),
         };
         assert!(rt; alike && both.print_alike()?, "step {turn}");
