@@ -1,5 +1,7 @@
 -- The numbers under which a seat holds and adds. One that it drew itself is used by no other seat that keeps to its own.
 use Rattle.std.specs.Prelude.{◌≡◌, ◌≢◌, ℕ, true, List, [], Contains, Option, Some, None, Result, Err}
+use mathlib.Core.Option.{some}
+use lib.ListN.{get_elem?}
 use Rattle.rtsp_record.specs.declared.changes.Entry.{Entry}
 use Rattle.rtsp_record.specs.declared.changes.Record.{Record}
 use Rattle.rtsp_record.specs.declared.holdings.Whole.{Whole}
@@ -95,6 +97,16 @@ OthersUseDrawn w u n = (e : Entry) → Contains (uses n u.seen) e → e.actor �
 -- then there is none under a number that the seat drew itself
 abbrev pub DrawnUsedAlone : Type 0
 DrawnUsedAlone = (w : Whole) (u : View) (n : ℕ) → Has u.drawn n → OthersUseDrawn w u n → OnlyOf u.actor (uses n u.seen)
+
+-- all seats of a lock hold and add under numbers that they drew alone
+abbrev pub AllUseDrawn : List View → Type 0
+AllUseDrawn views = (k : ℕ) (v : View) → get_elem? views k ≡ some v → UsesDrawn v
+
+-- then each Hold and Add in their history under a number is of the seat that drew it
+abbrev pub HistoryUsedAlone : Type 0
+HistoryUsedAlone =
+    (w : Whole) (v u : View) (seats : TwoSeats w v u) (n : ℕ)
+    → AllUseDrawn seats.state.views → Has v.drawn n → OnlyOf v.actor (uses n seats.keeps.history)
 
 module _ {B : Type 0} (calls : Calls B) (ask : Ask) where
   -- so it is with each refused admission

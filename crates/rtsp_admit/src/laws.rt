@@ -4,7 +4,7 @@ ghost use Rattle.rtsp_admit.specs.Additions.{AdmissionsGrow};
 ghost use Rattle.rtsp_admit.specs.Refused.{RefusalsLeaveNothing};
 ghost use Rattle.rtsp_admit.specs.Addresses.{RefusalsKeepAddresses, AdmissionsGainAddress};
 ghost use Rattle.rtsp_admit.specs.Faults.{AdmissionsCountFaults};
-ghost use Rattle.rtsp_admit.specs.Numbers.{ActsUseDrawn, LooksUseDrawn, DrawsGiveUnused, DrawnUsedAlone, AdmissionsKeepDrawn, RefusalsLeaveNothingUnused};
+ghost use Rattle.rtsp_admit.specs.Numbers.{ActsUseDrawn, LooksUseDrawn, DrawsGiveUnused, DrawnUsedAlone, HistoryUsedAlone, AdmissionsKeepDrawn, RefusalsLeaveNothingUnused};
 ghost use Rattle.rtsp_admit.specs.Numbers.{OwnsAllLasts, AdmissionsKeepAll, RefusalsLeaveNothingAlone};
 
 use crate::binder::Binder;
@@ -62,6 +62,12 @@ pub fn law_drawn_is_unused()
 /// number that this one drew.
 pub fn law_drawn_used_alone()
     ensures { DrawnUsedAlone }
+{}
+
+/// Where all seats of a lock hold and add under numbers that they drew, each Hold and Add in their
+/// history is of the seat that drew its number, for ever. A checkpoint's entries aren't in it.
+pub fn law_history_used_alone()
+    ensures { HistoryUsedAlone }
 {}
 
 /// A seat whose Holds and Adds are all under numbers that it drew stays so over an admission under

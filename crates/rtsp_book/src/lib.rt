@@ -2,12 +2,13 @@
 //!
 //! A `Kept` is a book with the journal of its changes. A step is answered by `reply` from the book
 //! and the number of entries alone; what is accepted is recorded, and what is recorded can be
-//! undone, the last first. The book itself is whatever represents the table of living sessions, of
-//! which rtsp_sessions has the trait and the plain one.
+//! undone, the last first. A checkpoint makes the journal as short as what lives. The book itself
+//! is whatever represents the table of living sessions, of which rtsp_sessions has the trait and
+//! the plain one.
 //!
 //! The definitions of `specs/` read in this order: Sessions, Returns and Made (what a step
 //! records), Replies (when it is refused), Laws, Receipts, Cases (what a reply is made from), Owed,
-//! Kept, Answers (how a call answers).
+//! Kept, Answers (how a call answers), Checkpoints.
 
 #![tactic(auto)]
 

@@ -7,6 +7,10 @@ mod admissions;
 #[cfg(test)]
 mod books;
 #[cfg(test)]
+mod checkpoints;
+#[cfg(test)]
+mod checkpoints_at_lock;
+#[cfg(test)]
 mod forgetting;
 #[cfg(test)]
 mod journals;

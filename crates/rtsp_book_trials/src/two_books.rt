@@ -9,7 +9,7 @@ use rtsp_book::{
     BookRep, Chain, ChannelHold, Commit, Kept, Life, PlainBook, Play, Receipt, Startup, Step,
 };
 use rtsp_index::IndexedBook;
-use rtsp_record::{Entry, Id, Stream, Thing, Whole};
+use rtsp_record::{Entry, Id, Stream, Thing, Whole, write_journal};
 use rtsp_undo::{book_text, replay};
 use std::alloc::{AllocError, Global};
 use std::test::Fail;
@@ -72,6 +72,19 @@ impl TwoBooks {
         let one = self.plain.undo_last()?;
         let two = self.indexed.undo_last()?;
         Ok(one == two)
+    }
+
+    // Whether a checkpoint leaves both journals alike, and what both print as it was.
+    fn checkpoint_alike(&mut self, alloc: Global) -> Result<bool, AllocError> {
+        let printed = self.text.1.clone()?;
+        self.plain.checkpoint();
+        self.indexed.checkpoint();
+        let mut journals = (Vec::new(alloc), Vec::new(alloc));
+        write_journal(&mut journals.0, self.plain.journal())?;
+        write_journal(&mut journals.1, self.indexed.journal())?;
+        Ok(self.print_alike()?
+            && self.text.1.as_slice() == printed.as_slice()
+            && journals.0.as_slice() == journals.1.as_slice())
     }
 
     // Whether both print the same.
@@ -347,10 +360,10 @@ fn steps_at_random_leave_both_books_alike(rt: HostRuntime) -> Result<(), Fail> {
     for turn in 0..10_000u32 {
         let one = next(seed);
         seed = next(one);
-        let alike = if seed >> 28 == 0 {
-            both.undo_alike()?
-        } else {
-            both.answer_alike(&step_of(one >> 26, drawn_from(one, seed)))
+        let alike = match seed >> 28 {
+            0 => both.undo_alike()?,
+            1 => both.checkpoint_alike(rt.alloc())?,
+            _ => both.answer_alike(&step_of(one >> 26, drawn_from(one, seed))),
         };
         assert!(rt; alike && both.print_alike()?, "step {turn}");
         most = both.indexed.book().living().max(most);
@@ -359,5 +372,26 @@ fn steps_at_random_leave_both_books_alike(rt: HostRuntime) -> Result<(), Fail> {
     assert!(rt; most > 40 && longest > 200);
     let replayed = audited(rt.alloc(), both.indexed.journal())?;
     assert!(rt; replayed.as_slice() == both.text.1.as_slice());
+    Ok(())
+}
+
+// More sessions than one look for the next ones finds, opened from the last on: a table that isn't
+// in order.
+#[test]
+fn many_sessions_are_restated_in_order(rt: HostRuntime) -> Result<(), Fail> {
+    let many = Whole {
+        sessions: 1_000,
+        ..CROWDED
+    };
+    let mut both = TwoBooks::open(rt.alloc(), &many)?;
+    for turn in 0..200u64 {
+        let number = 1_000 - turn;
+        assert!(rt; both.answer_alike(&step(Asked::Open(number, u128::from(number)))));
+    }
+    for turn in 0..70u64 {
+        assert!(rt; both.answer_alike(&step(Asked::End(801 + 2 * turn))));
+    }
+    assert!(rt; both.print_alike()? && both.checkpoint_alike(rt.alloc())?);
+    assert!(rt; both.indexed.journal().len() == 130);
     Ok(())
 }

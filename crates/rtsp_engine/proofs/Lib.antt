@@ -5,3 +5,6 @@ pub mod Keeping
 pub mod Parts
 pub mod Replies
 pub mod Adding
+pub mod Numbering
+pub mod Strengthening
+pub mod Cleaning

@@ -10,4 +10,5 @@ pub mod Writing
 pub mod DeskAnswers
 pub mod Served
 pub mod Additions
+pub mod Numbers
 pub mod Causes

@@ -2,14 +2,29 @@
 
 ghost use Rattle.rtsp_engine.specs.Additions.{ServedGrows};
 ghost use Rattle.rtsp_engine.specs.Devices.{devices};
+ghost use Rattle.rtsp_engine.specs.Numbers.{ServedKeepsNumbers, ServedCleanly};
 
 use crate::clock::Clock;
 use crate::plays::Plays;
 use crate::words::Words;
 use rtsp_admit::Binder;
 
-/// Over a connection what its seat sees only comes later, and its entries grow by the records of
-/// the replies to its requests and by nothing else, in the order of the requests.
+/// Over a connection what its seat has seen of the history goes on by the records of the replies to
+/// its requests, in the order of the requests, among the entries of others; and its own entries grow
+/// by these records and by nothing else.
 pub fn law_served_grows<R, B: Binder, W: Words, C: Clock, P: Plays>()
     ensures { ServedGrows (devices B.calls W.calls C.tells P.calls) R }
+{}
+
+/// A connection's seat whose Holds and Adds are all under numbers that it drew stays so over each
+/// request, and over a whole connection.
+pub fn law_served_keeps_numbers<R, B: Binder, W: Words, C: Clock, P: Plays>()
+    ensures { ServedKeepsNumbers (devices B.calls W.calls C.tells P.calls) R }
+{}
+
+/// Over a connection whose seat is the only one of its lock nothing is left of a SETUP that is
+/// refused: nothing is held and no stream is under its number, and a session that it opened isn't
+/// alive. The book is that of the journal without it.
+pub fn law_served_cleanly<R, B: Binder, W: Words, C: Clock, P: Plays>()
+    ensures { ServedCleanly (devices B.calls W.calls C.tells P.calls) R }
 {}

@@ -7,8 +7,8 @@
 //! The definitions of `specs/` read in this order: Devices (what clocks, words and plays do), Desk
 //! (what is before and after a request), Renewing, Conducting, Conversing (how one item is
 //! answered), Writing (the same, in a room), Served (what a connection has written), DeskAnswers
-//! (the same from a desk), Additions (what it has recorded), Causes (faults are told where they
-//! were counted).
+//! (the same from a desk), Additions (what it has recorded), Numbers (under which numbers, and what
+//! a refused SETUP leaves), Causes (faults are told where they were counted).
 
 #![tactic(auto)]
 
@@ -32,9 +32,9 @@ pub use connection::{Answerer, Connection};
 pub use conversing::respond;
 pub use desk::{Asker, Desk};
 pub use fault_responses::fault_response;
-pub use laws::law_served_grows;
+pub use laws::{law_served_cleanly, law_served_grows, law_served_keeps_numbers};
 pub use plays::Plays;
-pub use rtsp_admit::{BindFault, Binder};
+pub use rtsp_admit::{BindFault, Binder, law_owns_all};
 pub use serving::{ServeEnd, TURNS, serve, serve_turns};
 pub use streams::{ByteIn, ByteOut, CountedReader, CountedWriter, StreamFault};
 pub use words::{Words, WordsFault};

@@ -7,12 +7,13 @@ ghost use Rattle.rtsp_engine.specs.Causes.{ReadFails, WriteFails, ClosesAtEnd, S
 ghost use Rattle.rtsp_engine.specs.Desk.{SameParts};
 ghost use Rattle.rtsp_engine.specs.DeskAnswers.{Takes, Faults, EndsAt};
 ghost use Rattle.rtsp_engine.specs.Devices.{devices};
+ghost use Rattle.rtsp_engine.specs.Numbers.{SeatOwnsAll, DeskKeepsNumbers, EndsCleanly};
 ghost use Rattle.rtsp_engine.specs.Served.{at, parts};
 
 use crate::clock::Clock;
 use crate::connection::Connection;
 use crate::desk::Desk;
-use crate::laws::law_served_grows;
+use crate::laws::{law_served_cleanly, law_served_grows, law_served_keeps_numbers};
 use crate::plays::Plays;
 use crate::serving::{ServeEnd, serve_turns};
 use crate::streams::{ByteIn, ByteOut};
@@ -39,8 +40,10 @@ impl<R: Wait, B: Binder, W: Words, C: Clock, P: Plays> Desk<'_, R, B, W, C, P> {
         ensures goes_on { OnOk result (Takes (devices B.calls W.calls C.tells P.calls) (connection.old ++ piece.now) connection.new (at room.old self.old) (at room.new self.new)) }
         ensures undecided { OnOk result (IsUndecided connection.new) }
         ensures ends { IfErr result (λ f. Faults (devices B.calls W.calls C.tells P.calls) (connection.old ++ piece.now) f (at room.old self.old) (at room.new self.new)) }
+        ensures numbers { DeskKeepsNumbers self.old self.new }
     {
         law_served_grows::<R, B, W, C, P>();
+        law_served_keeps_numbers::<R, B, W, C, P>();
         connection.push(alloc, self, piece, room)
     }
 
@@ -61,8 +64,13 @@ impl<R: Wait, B: Binder, W: Words, C: Clock, P: Plays> Desk<'_, R, B, W, C, P> {
         ensures write_fault { WriteFails result (O.failures writer.old) (O.failures writer.new) }
         ensures closed { ClosesAtEnd result (I.remaining reader.new) }
         ensures spent { SpendsTurns result turns (I.remaining reader.old) (I.remaining reader.new) }
+        ensures numbers { DeskKeepsNumbers self.old self.new }
+        ensures owns { SeatOwnsAll self.old → SeatOwnsAll self.new }
+        ensures cleanly { SeatOwnsAll self.old → EndsCleanly (devices B.calls W.calls C.tells P.calls) I.remaining O.contents result (parts reader.old writer.old self.old) (parts reader.new writer.new self.new) }
     {
         law_served_grows::<R, B, W, C, P>();
+        law_served_keeps_numbers::<R, B, W, C, P>();
+        law_served_cleanly::<R, B, W, C, P>();
         serve_turns(alloc, self, reader, writer, turns)
     }
 }

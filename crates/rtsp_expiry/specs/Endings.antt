@@ -1,13 +1,13 @@
 -- What a sweep ends, and what is there after it.
-use Rattle.std.specs.Prelude.{◌≡◌, ℕ, Bool, true, false, List, ◌++◌, All, length, flat_map, Some}
+use Rattle.std.specs.Prelude.{◌≡◌, ℕ, Bool, true, false, List, All, length, flat_map, Some}
 use Rattle.std.specs.FinMap.{get}
 use Rattle.rtsp_record.specs.declared.changes.Record.{Record}
 use Rattle.rtsp_record.specs.Books.{Session, Book, book_of}
 use Rattle.rtsp_sessions.specs.Searches.{is_expired, is_on}
-use Rattle.rtsp_book.specs.Kept.{entries_by}
 use Rattle.rtsp_book.specs.Made.{hanging_up}
 use Rattle.rtsp_book.specs.Returns.{ending}
 use Rattle.rtsp_lock.specs.declared.view.View.{View}
+use Rattle.rtsp_lock.specs.Laws.{Grown}
 
 -- the records of a hang-up for one session: its end where it holds channels of the connection, else the end of its startup number
 abbrev pub leaving : ℕ → ℕ × Session → List Record
@@ -17,12 +17,12 @@ leaving conn e = hanging_up conn (Some e)
 abbrev pub ended : ℕ × Session → List Record
 ended e = ending e.0 e.1
 
--- what the calls recorded is this of so many sessions, each of which passed the test, and nothing else
+-- what the calls recorded is this of so many sessions, each of which passed the test, and nothing else; so they leave the history and the seat
 pub record EndsOnly (test : ℕ × Session → Bool) (records : ℕ × Session → List Record) (count : ℕ) (v u : View) : Type 0 where
   pub sessions : List (ℕ × Session)
   pub each : length sessions ≡ count
   pub due : All (λ e. test e ≡ true) sessions
-  pub mine : u.mine ≡ v.mine ++ entries_by v.actor (flat_map records sessions)
+  pub grown : Grown v u (flat_map records sessions)
 
 -- no living session passes the test
 abbrev pub NoneLeft : (ℕ × Session → Bool) → Book → Type 0

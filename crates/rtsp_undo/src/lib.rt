@@ -17,9 +17,10 @@ mod strands;
 mod text;
 
 pub use laws::{
-    law_admission_fits, law_back, law_ended, law_ending_step, law_exchange, law_less_admission,
-    law_less_ended, law_less_gone, law_less_session, law_one_back, law_one_session, law_ports,
-    law_returning, law_session_fits, law_strands, law_whole,
+    law_admission_fits, law_back, law_checkpoint, law_ended, law_ending_step, law_exchange,
+    law_less_admission, law_less_ended, law_less_gone, law_less_session, law_nothing_restated,
+    law_one_back, law_one_session, law_ports, law_returning, law_session_fits, law_snapshot,
+    law_strands, law_whole,
 };
 pub use omissions::{without_admission, without_ended, without_session};
 pub use replays::{AuditFault, replay, replay_without_admission, replay_without_session};

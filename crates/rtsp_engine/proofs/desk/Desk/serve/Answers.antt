@@ -10,3 +10,12 @@ returns-clause-seat g c = (ended_same (devices g.B.Binder.calls g.W.Words.calls 
 
 pub returns-clause-grows : goal.returns-clause-grows
 returns-clause-grows g c = (_, c.law_served_grows.ensures.ended _ c.serve_turns.result _ _ c.serve_turns.ensures.served)
+
+pub returns-clause-numbers : goal.returns-clause-numbers
+returns-clause-numbers g c = c.law_served_keeps_numbers.ensures.ended _ c.serve_turns.result _ _ c.serve_turns.ensures.served
+
+pub returns-clause-owns : goal.returns-clause-owns
+returns-clause-owns g c own = (c.law_served_cleanly.ensures.ended _ c.serve_turns.result _ _ own c.serve_turns.ensures.served).1
+
+pub returns-clause-cleanly : goal.returns-clause-cleanly
+returns-clause-cleanly g c own = (c.law_served_cleanly.ensures.ended _ c.serve_turns.result _ _ own c.serve_turns.ensures.served).0

@@ -23,8 +23,8 @@ view_at-requires c =
     let t = c.args.self.now in
     row_is t.places.entries t.rows c.args.session c.args.place t.placed c.requires
 
-pub view_at-2-requires : goal.view_at-2-requires
-view_at-2-requires c =
+pub view_at-requires-in-Unsettled : goal.view_at-requires-in-Unsettled
+view_at-requires-in-Unsettled c =
     let t = c.args.self.now in
     row_is t.places.entries t.rows c.args.session c.args.place t.placed c.requires
 
@@ -50,5 +50,5 @@ returns-in-OnConn c f at =
 
 pub returns-in-Unsettled : goal.returns-in-Unsettled
 returns-in-Unsettled c f at =
-    let row = row_of c.args.self.now c.args.session c.args.place f c.view_at-2.result.now c.requires at c.view_at-2.ensures in
+    let row = row_of c.args.self.now c.args.session c.args.place f c.view_at-in-Unsettled.result.now c.requires at c.view_at-in-Unsettled.ensures in
     ap not (c.is_settled.ensures ∙ ap (λ (v : ℕ × Session). is_settled v.1) row) ∙ ap (λ s. passes s (c.args.session, f)) (sym c.in-Unsettled.is)
