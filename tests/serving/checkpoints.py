@@ -4,7 +4,6 @@ The journals of these servers are as short as docs/OPERATING.md says that they m
 """
 import contextlib
 import multiprocessing
-import select
 import socket
 import time
 from multiprocessing.sharedctypes import Synchronized
@@ -26,6 +25,8 @@ PLAYERS, FLOODED_FOR = 50, 10.0
 # Beside the players' two streams each there is room for those of the floods.
 SETTINGS = {"pairs": 160, "sessions": 96, "uplink": 200 * MINUTE.whole_rate}
 SESSIONS_OF_A_FLOOD = 8
+# So many requests of a flood are under way, more than a lane reads in one visit.
+UNDER_WAY = 1000
 
 
 def least_journal(workers: int, sessions: int, tracks: int) -> int:
@@ -34,10 +35,10 @@ def least_journal(workers: int, sessions: int, tracks: int) -> int:
 
 
 class Flood(NamedTuple):
-    """Requests that are sent without end over one connection, and how many sessions they name."""
+    """Requests that are sent without end over one connection: how many sessions they name in turn, and a request."""
 
     sessions: int
-    requests: Callable[[str, str], bytes]
+    request: Callable[[str, str], bytes]
 
 
 def play(uri: str, session: str) -> bytes:
@@ -60,21 +61,18 @@ FLOODS: Dict[str, Flood] = {
 }
 
 
-def pour(port: int, block: bytes, answered: Synchronized, refused: Synchronized) -> None:
-    """Sends a block of requests again and again, and counts the answers and those among them that aren't 200."""
+def pour(port: int, requests: List[bytes], under_way: int, answered: Synchronized, refused: Synchronized) -> None:
+    """Asks in turn without end, with so many requests under way; counts the answers, and those that aren't 200."""
     talk = socket.create_connection((HERE, port))
-    talk.setblocking(False)
-    data, at, held = memoryview(block), 0, b""
-    poll = select.poll()
-    poll.register(talk, select.POLLIN | select.POLLOUT)
+    asked = 0
+    held = b""
     while True:
-        for _, events in poll.poll():
-            if events & select.POLLIN:
-                *answers, held = (held + talk.recv(1 << 16)).split(END)
-                answered.value += len(answers)
-                refused.value += sum(not it.startswith(b"RTSP/2.0 200") for it in answers)
-            if events & select.POLLOUT:
-                at = (at + talk.send(data[at : at + (1 << 16)])) % len(data)
+        more = under_way - (asked - answered.value)
+        talk.sendall(b"".join(requests[(asked + it) % len(requests)] for it in range(more)))
+        asked += more
+        *answers, held = (held + talk.recv(1 << 16)).split(END)
+        refused.value += sum(not it.startswith(b"RTSP/2.0 200") for it in answers)
+        answered.value += len(answers)
 
 
 class Poured(NamedTuple):
@@ -93,10 +91,11 @@ def poured(server: Server, names: List[str]) -> Iterator[List[Poured]]:
     for name in names:
         flood = FLOODS[name]
         sessions = [lease(talk, f"{server.uri}/a").session for _ in range(flood.sessions)]
-        block = b"".join(flood.requests(server.uri, session) for session in sessions) * (400 // flood.sessions)
+        requests = [flood.request(server.uri, session) for session in sessions]
         counts = [multiprocessing.Value("Q", 0, lock=False) for _ in range(2)]
         told.append(Poured(name, *counts))
-        running.append(multiprocessing.Process(target=pour, args=(server.port, block, *counts), daemon=True))
+        words = (server.port, requests, UNDER_WAY, *counts)
+        running.append(multiprocessing.Process(target=pour, args=words, daemon=True))
     for process in running:
         process.start()
     try:
@@ -177,7 +176,7 @@ def a_session_outlives_its_journal(checks: Checks) -> None:
 
 
 # Connections that set up in one session at once, more than there are lanes.
-TOGETHER = 6
+TOGETHER, UNDER_WAY_TOGETHER = 6, 20
 
 
 @serving_test(limit=60, is_timed=True)
@@ -188,9 +187,9 @@ def a_session_that_is_always_set_up(checks: Checks) -> None:
     with Server(checks, MINUTE, workers=4, journal=journal, **settings) as server:
         talk = server.connect()
         _, session = set_up(talk, server.uri)
-        block = set_up_again(server.uri, session) * 400
         counts = [[multiprocessing.Value("Q", 0, lock=False) for _ in range(2)] for _ in range(TOGETHER)]
-        running = [multiprocessing.Process(target=pour, args=(server.port, block, *it), daemon=True) for it in counts]
+        words = (server.port, [set_up_again(server.uri, session)], UNDER_WAY_TOGETHER)
+        running = [multiprocessing.Process(target=pour, args=(*words, *it), daemon=True) for it in counts]
         for process in running:
             process.start()
         statuses = []
