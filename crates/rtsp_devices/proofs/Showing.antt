@@ -62,8 +62,8 @@ ports_apart : (f p q : ℕ) → IsOwnPort f p → IsOwnPort f q → q ≢ p → 
 ports_apart f p q h k apart e = apart (omega (arith, h, k, e))
 
 either : {P : Type 0} (b : Bool) → (b ≡ true → P) → (b ≡ false → P) → P
-either true yes no = yes refl
-either false yes no = no refl
+either true here there = here refl
+either false here there = there refl
 
 is_of_this : (o : Option (Option ℕ)) (n : ℕ) → is_of o n ≡ true → o ≡ Some (Some n)
 is_of_this (Some (Some a)) n h = ap (λ z. Some (Some z)) ((Decides-eqb a n).0 h)
