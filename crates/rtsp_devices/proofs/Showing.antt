@@ -1,5 +1,5 @@
 -- What a port set has shows in its calls.
-use Rattle.std.proofs.Common.{◌≡◌, ◌≢◌, ◌≤◌, ◌==◌, ℕ, ◌+◌, ◌-◌, ◌*◌, ◌/◌, ◌%◌, Bool, true, false, ◌&&◌, ◌||◌, not, leb, List, refl, sym, ◌∙◌, ap, subst, arith, inl, inr}
+use Rattle.std.proofs.Common.{◌≡◌, ◌≢◌, ◌≤◌, ◌==◌, ℕ, ◌-◌, ◌%◌, Bool, true, false, ◌&&◌, ◌||◌, not, List, refl, sym, ◌∙◌, ap, subst, arith, inl, inr}
 use Rattle.std.specs.Prelude.{Option, Some, None, slice_get}
 use Rattle.std.proofs.lemmas.Bool.{cases_eq, and_parts, and_from}
 use Rattle.std.proofs.lemmas.Bool.Decides.{Decides-eqb, nat_tests}
@@ -9,7 +9,7 @@ use Rattle.rtsp_record.specs.Rules.{is_same_thing}
 use Rattle.rtsp_record.proofs.SameWords.{same_thing}
 use Rattle.rtsp_admit.specs.Addresses.{is_address, ShowsAddresses}
 use Rattle.rtsp_devices.specs.declared.port_set.PortSet.{PortSet}
-use Rattle.rtsp_devices.specs.PortSet.{calls, IsOwnPair, IsOwnPort, IsOwn, pair_place, port_place, slot, IsBoundUnder, OnlyAt, KeepsOthers, Binds, Fails, Unbinds}
+use Rattle.rtsp_devices.specs.PortSet.{calls, IsOwnPair, IsOwnPort, pair_place, port_place, slot, IsBoundUnder, OnlyAt, Binds, Fails, Unbinds}
 use Rattle.rtsp_devices.specs.Has.{is_own, is_of, has}
 
 -- Tests.

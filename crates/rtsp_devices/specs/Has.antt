@@ -1,5 +1,5 @@
 -- What a port set has under each admission, before and after an admission.
-use Rattle.std.specs.Prelude.{◌≡◌, ◌==◌, ℕ, ◌-◌, ◌%◌, Bool, false, ◌&&◌, leb, Option, Some, None, Ok, Err}
+use Rattle.std.specs.Prelude.{◌≡◌, ◌==◌, ℕ, ◌-◌, ◌%◌, Bool, false, ◌&&◌, leb, Option, Some, Ok, Err}
 use Rattle.rtsp_record.specs.declared.holdings.Thing.{Thing}
 use Rattle.rtsp_record.specs.declared.holdings.Thing.TheVariants.{Pair, Port, Chan, Rate}
 use Rattle.rtsp_book.specs.declared.asks.Admitted.{Admitted}
