@@ -22,7 +22,7 @@ use Rattle.rtsp_admit.specs.declared.udp_ports.UdpPorts.TheVariants as udp
 use Rattle.rtsp_admit.specs.Binder.{Calls, raised, Released, UnboundAll}
 use Rattle.rtsp_admit.specs.Steps.{bound_address, open_step, rate_step, ports_from, ports_step, address_step, commit_step, opening_steps, refusal_of}
 use Rattle.rtsp_admit.specs.Runs.{State, with_view, Held, Opened, NotOpened, Rated, PortsRefused, Tried, PortsGranted, NoPortsGranted, Addressed, NotAddressed, Fails}
-use Rattle.rtsp_admit.specs.Faults.{Accepts, earlier_steps, IsFirstOffer, BreaksFirst, IsFirstRefusal, AdmissionsCountFaults}
+use Rattle.rtsp_admit.specs.Faults.{Accepts, earlier_steps, BreaksFirst, AdmissionsCountFaults}
 
 -- the greatest count
 abbrev most : ℕ
@@ -133,14 +133,14 @@ module _ {B : Type 0} (calls : Calls B) (ask : Ask) where
       break ask (opening_steps ask ask.opening) (rate_step ask) (address_step ask ask.wanted ∷ commit_step ask ∷ []) refusal s.view h.opened t.view refl (opens ask ask.opening s.view h.opened h.opens) h.refused
   breaks_first (failure.Address e) s t h below same =
       break ask (earlier_steps ask) (address_step ask ask.wanted) (commit_step ask ∷ []) e.refusal s.view h.rated t.view (sym append_assoc_here) (rates ask s.view h.rated h.rates)
-          (first_address ask.wanted e (with_view h.rated s) t h.addresses below same)
+      (first_address ask.wanted e (with_view h.rated s) t h.addresses below same)
     where
       append_assoc_here : earlier_steps ask ++ (address_step ask ask.wanted ∷ commit_step ask ∷ []) ≡ opening_steps ask ask.opening ++ rest ask
       append_assoc_here = append_assoc (opening_steps ask ask.opening) (rate_step ask ∷ []) (address_step ask ask.wanted ∷ commit_step ask ∷ [])
   breaks_first (failure.Commit refusal x) s t h below same =
       let held = first_offer ask.wanted x (with_view h.rated s) (with_view h.held t) h.addresses below same in
       break ask (earlier_steps ask ++ address_step ask ask.wanted ∷ []) (commit_step ask) [] refusal s.view h.held t.view (sym append_assoc_here)
-          (accepts_then (earlier_steps ask) (address_step ask ask.wanted ∷ []) s.view h.rated h.held (rates ask s.view h.rated h.rates) (accepts_held ask (address_step ask ask.wanted) x h.rated h.held held)) h.refused
+      (accepts_then (earlier_steps ask) (address_step ask ask.wanted ∷ []) s.view h.rated h.held (rates ask s.view h.rated h.rates) (accepts_held ask (address_step ask ask.wanted) x h.rated h.held held)) h.refused
     where
       append_assoc_here : (earlier_steps ask ++ address_step ask ask.wanted ∷ []) ++ (commit_step ask ∷ []) ≡ opening_steps ask ask.opening ++ rest ask
       append_assoc_here = append_assoc (earlier_steps ask) (address_step ask ask.wanted ∷ []) (commit_step ask ∷ []) ∙ append_assoc (opening_steps ask ask.opening) (rate_step ask ∷ []) (address_step ask ask.wanted ∷ commit_step ask ∷ [])

@@ -1,5 +1,5 @@
 -- What a port set has shows in its calls.
-use Rattle.std.proofs.Common.{◌≡◌, ◌≢◌, ◌≤◌, ◌==◌, ℕ, ◌+◌, ◌-◌, ◌*◌, ◌/◌, ◌%◌, Bool, true, false, ◌&&◌, ◌||◌, not, leb, List, refl, sym, ◌∙◌, ap, subst, arith, inl, inr}
+use Rattle.std.proofs.Common.{◌≡◌, ◌≢◌, ◌≤◌, ◌==◌, ℕ, ◌-◌, ◌%◌, Bool, true, false, ◌&&◌, ◌||◌, not, List, refl, sym, ◌∙◌, ap, subst, arith, inl, inr}
 use Rattle.std.specs.Prelude.{Option, Some, None, slice_get}
 use Rattle.std.proofs.lemmas.Bool.{cases_eq, and_parts, and_from}
 use Rattle.std.proofs.lemmas.Bool.Decides.{Decides-eqb, nat_tests}
@@ -9,7 +9,7 @@ use Rattle.rtsp_record.specs.Rules.{is_same_thing}
 use Rattle.rtsp_record.proofs.SameWords.{same_thing}
 use Rattle.rtsp_admit.specs.Addresses.{is_address, ShowsAddresses}
 use Rattle.rtsp_devices.specs.declared.port_set.PortSet.{PortSet}
-use Rattle.rtsp_devices.specs.PortSet.{calls, IsOwnPair, IsOwnPort, IsOwn, pair_place, port_place, slot, IsBoundUnder, OnlyAt, KeepsOthers, Binds, Fails, Unbinds}
+use Rattle.rtsp_devices.specs.PortSet.{calls, IsOwnPair, IsOwnPort, pair_place, port_place, slot, IsBoundUnder, OnlyAt, Binds, Fails, Unbinds}
 use Rattle.rtsp_devices.specs.Has.{is_own, is_of, has}
 
 -- Tests.
@@ -62,8 +62,8 @@ ports_apart : (f p q : ℕ) → IsOwnPort f p → IsOwnPort f q → q ≢ p → 
 ports_apart f p q h k apart e = apart (omega (arith, h, k, e))
 
 either : {P : Type 0} (b : Bool) → (b ≡ true → P) → (b ≡ false → P) → P
-either true yes no = yes refl
-either false yes no = no refl
+either true here there = here refl
+either false here there = there refl
 
 is_of_this : (o : Option (Option ℕ)) (n : ℕ) → is_of o n ≡ true → o ≡ Some (Some n)
 is_of_this (Some (Some a)) n h = ap (λ z. Some (Some z)) ((Decides-eqb a n).0 h)

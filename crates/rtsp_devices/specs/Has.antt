@@ -1,5 +1,5 @@
 -- What a port set has under each admission, before and after an admission.
-use Rattle.std.specs.Prelude.{◌≡◌, ◌==◌, ℕ, ◌-◌, ◌%◌, Bool, false, ◌&&◌, leb, Option, Some, None, Ok, Err}
+use Rattle.std.specs.Prelude.{◌≡◌, ◌==◌, ℕ, ◌-◌, ◌%◌, Bool, false, ◌&&◌, leb, Option, Some, Ok, Err}
 use Rattle.rtsp_record.specs.declared.holdings.Thing.{Thing}
 use Rattle.rtsp_record.specs.declared.holdings.Thing.TheVariants.{Pair, Port, Chan, Rate}
 use Rattle.rtsp_book.specs.declared.asks.Admitted.{Admitted}
@@ -33,9 +33,9 @@ HasSame b c = (n : ℕ) (y : Thing) → has c n y ≡ has b n y
 
 -- the set has what it had and the granted ports, less those that the Commit freed, which are not its own
 pub record Gains (ask : Ask) (granted : Admitted) (s t : State PortSet) : Type 0 where
-  pub commit : Committed ask t.view
+  pub commit : Committed calls ask t.view
   pub others : (y : Thing) → is_among (freed_addresses commit.made) ask.admission y ≡ false
-  pub addresses : (n : ℕ) (y : Thing) → has t.binder n y ≡ has_after has s.binder ask.admission granted.address commit.made n y
+  pub addresses : (n : ℕ) (y : Thing) → has t.binder n y ≡ has_after calls has s.binder ask.admission granted.address commit.made n y
 
 -- after a refused admission it has what it had
 abbrev pub RefusalsKeepPorts : Ask → Type 0

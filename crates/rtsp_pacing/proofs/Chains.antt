@@ -1,5 +1,5 @@
 -- Plays that are linked one behind another.
-use Rattle.std.proofs.Common.{◌≡◌, ◌≢◌, ◌≤◌, ◌<◌, ℕ, ◌+◌, suc, List, [], ◌∷◌, ◌⊎◌, inl, inr, length, Option, Some, None, IsSome, refl, sym, ◌∙◌, ap, subst, arith}
+use Rattle.std.proofs.Common.{◌≡◌, ◌≢◌, ◌≤◌, ℕ, ◌+◌, suc, List, [], ◌∷◌, ◌⊎◌, inl, inr, length, Option, Some, None, IsSome, refl, sym, ◌∙◌, ap, subst, arith}
 use Rattle.std.proofs.lemmas.Bool.{cases_eq}
 use Rattle.slab.specs.Slab.{get, with_value, ContainsKey}
 use Rattle.slab.proofs.SlabLemmas.{Updates-with_value}
@@ -72,10 +72,10 @@ pub chain_once : (p : PacerPlays) (key : ℕ) (keys : List ℕ) → IsChain p (S
 chain_once p key keys c = elim (chain_from p key c.1.before keys c.3) [
   | inl none ↦ none
   | inr more ↦
-    let same = chain_same p (Some key) (key ∷ keys) more.0 c more.1 in
-    let size : suc (length keys) ≡ length more.0 = ap length same in
-    let short : length more.0 ≤ length keys = more.2 in
-    absurd (omega (arith, size, short))
+      let same = chain_same p (Some key) (key ∷ keys) more.0 c more.1 in
+      let size : suc (length keys) ≡ length more.0 = ap length same in
+      let short : length more.0 ≤ length keys = more.2 in
+      absurd (omega (arith, size, short))
 ]
 
 -- a play behind which a chain is linked

@@ -1,6 +1,6 @@
 -- The plays of a pacer: how many more need no memory, and which are linked to one slot.
 use Rattle.std.specs.Prelude.{◌≡◌, ◌≢◌, ℕ, ◌≤◌, List, [], ◌∷◌, Option, Some, None}
-use Rattle.slab.specs.Slab.{Slab, HasRoomFor, get}
+use Rattle.slab.specs.Slab.{HasRoomFor, get}
 use Rattle.indexmap.specs.IndexMap.{spare}
 use Rattle.rtsp_pacing.specs.declared.plays.Linked.{Linked}
 use Rattle.rtsp_pacing.specs.declared.plays.PacerPlays.{PacerPlays}

@@ -9,6 +9,7 @@ use crate::play::{Next, PacedPlay};
 use indexmap::IndexMap;
 use slab::Slab;
 use std::alloc::{AllocError, Global};
+use std::rt::Clock;
 use std::sync::Wait;
 
 // A play in the wheel, and the key of the play that was linked to its slot before it.
@@ -58,7 +59,7 @@ impl PacerPlays {
     }
 
     // Takes the turn of the play of a key: which one is linked before it, and when its next turn is.
-    pub(crate) fn turn<R: Wait>(
+    pub(crate) fn turn<R: Wait + Clock>(
         &mut self,
         alloc: Global,
         desk: &mut PacerDesk<'_, R>,

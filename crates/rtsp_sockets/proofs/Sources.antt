@@ -1,6 +1,6 @@
 -- What is drawn of a pool and of its source.
-use Rattle.std.proofs.Common.{◌≡◌, ◌≤◌, ℕ, ◌+◌, List, [], ◌++◌, Option, None, Some, Result, Ok, Err, sym, subst, ◌∙◌, ap, append_assoc, take, drop, take_all, length, arith}
-use Rattle.std.specs.Prelude.{slice_range, OnOk, OnErr}
+use Rattle.std.proofs.Common.{◌≤◌, ℕ, ◌+◌, List, [], ◌++◌, Option, None, Some, Result, Ok, Err, sym, subst, ◌∙◌, ap, append_assoc, take, drop, take_all, length, arith}
+use Rattle.std.specs.Prelude.{slice_range}
 use Rattle.std.proofs.lemmas.List.{drop_all}
 use Rattle.std.proofs.lemmas.List.Folds.{drop_split}
 use Rattle.std.proofs.KnownBytes.{Consumes-nil, Consumes-trans}
@@ -36,8 +36,10 @@ loses_anew (Some xs) (Some ys) left pool h = (left, ap (λ l. left ++ l) h)
 pub loses_left : (a b : Option (List ℕ)) (left pool : List ℕ) (n : ℕ) → length pool ≤ n → Loses a b → Loses (prepend_known left a) (prepend_known (drop n pool) b)
 loses_left None b left pool n spent h = ([], tt)
 loses_left (Some xs) None left pool n spent h = absurd h.1
-loses_left (Some xs) (Some ys) left pool n spent h = (left ++ h.0,
-    ap (λ l. left ++ l) h.1 ∙ sym (append_assoc left h.0 ys) ∙ ap (λ l. (left ++ h.0) ++ (l ++ ys)) (sym (drop_all n pool spent)))
+loses_left (Some xs) (Some ys) left pool n spent h = (
+  left ++ h.0,
+  ap (λ l. left ++ l) h.1 ∙ sym (append_assoc left h.0 ys) ∙ ap (λ l. (left ++ h.0) ++ (l ++ ys)) (sym (drop_all n pool spent)),
+)
 
 pub loses_none : (a : Option (List ℕ)) → Loses a a
 loses_none a = ([], Consumes-nil a)

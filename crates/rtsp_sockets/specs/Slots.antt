@@ -1,5 +1,5 @@
 -- Which ports are bound, each pair or single one under an admission.
-use Rattle.std.specs.Prelude.{◌≡◌, ◌≢◌, ℕ, ◌-◌, ◌/◌, List, Option, Some, None, slice_get, slice_set}
+use Rattle.std.specs.Prelude.{◌≡◌, ℕ, ◌-◌, ◌/◌, List, Option, Some, None, slice_get, slice_set}
 use Rattle.std.specs.Arc.{arc_value}
 use Rattle.rtsp_sockets.specs.declared.bound.Bound.{Bound}
 use Rattle.rtsp_sockets.specs.declared.slots.Slots.{Slots}

@@ -3,7 +3,7 @@
 ghost use Rattle.std.specs.Prelude.{◌≡◌, ◌⊎◌, ◌<◌, IfSome};
 ghost use Rattle.std.specs.Arc.{arc_value};
 ghost use Rattle.rtsp_sockets.specs.Slots.{IsOf};
-ghost use Rattle.rtsp_sockets.specs.Sockets.{sockets_in, IsOpenedFor};
+ghost use Rattle.rtsp_sockets.specs.Sockets.{IsOpenedFor};
 
 use crate::bound::Bound;
 use crate::options::drop_input;

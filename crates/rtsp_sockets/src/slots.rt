@@ -1,8 +1,7 @@
 //! Which ports are bound, each pair or single one under an admission.
 
-ghost use Rattle.std.specs.Prelude.{◌≡◌, ◌≢◌, ◌↔◌, ◌<◌, Some, None, IfOk, IfSome, IfNone, IsTrue, option_copied, replicate};
-ghost use Rattle.std.specs.Arc.{arc_value};
-ghost use Rattle.rtsp_sockets.specs.Slots.{place_of, slot, port_in, IsOf, IsBoundUnder, IsNotUnder, Puts, Takes, Stays};
+ghost use Rattle.std.specs.Prelude.{◌≡◌, ◌≢◌, ◌<◌, Some, None, IfOk, IfSome, IfNone, option_copied, replicate};
+ghost use Rattle.rtsp_sockets.specs.Slots.{place_of, slot, port_in, IsBoundUnder, IsNotUnder, Puts, Takes, Stays};
 
 use crate::bound::Bound;
 use crate::ports::PortSockets;
@@ -74,9 +73,7 @@ impl<const PORTS: usize> Slots<PORTS> {
         ensures none { IfNone result (IsNotUnder self.old admission port) }
         ensures stays { IfNone result (Stays self.old self.new) }
     {
-        let slot = self
-            .slots
-            .get_mut(place_of(self.first_port, PORTS, port))?;
+        let slot = self.slots.get_mut(place_of(self.first_port, PORTS, port))?;
         match slot {
             Some(bound) if bound.is_of(admission, port) => slot.take(),
             _ => None,

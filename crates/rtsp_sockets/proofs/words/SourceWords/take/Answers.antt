@@ -10,4 +10,4 @@ returns-clause-drawn g c =
     let pool = c.ready.new.self.pool in
     let used = c.ready.new.self.used in
     draws_after _ (prepend_known (drop used pool) source) _ _ c.ready.ensures.lost
-        (subst (λ bytes. Draws (prepend_known (drop used pool) source) bytes (prepend_known (drop (used + g.row.N) pool) source)) (sym c.copy_from_slice.ensures.after) (draws_next source pool used g.row.N))
+    (subst (λ bytes. Draws (prepend_known (drop used pool) source) bytes (prepend_known (drop (used + g.row.N) pool) source)) (sym c.copy_from_slice.ensures.after) (draws_next source pool used g.row.N))
