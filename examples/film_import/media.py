@@ -159,7 +159,9 @@ def film_words(source: Source, unit_ms: int) -> List[str]:
     if source.height:
         if picture < 50_000:
             raise Refused(f"{mbit(unit_ms)} Mbit/s is too little for pictures")
-        words += [*pictures_by(), "-pix_fmt", "yuv420p", "-force_key_frames", "expr:gte(t,n_forced)"]
+        # Pictures of this form have an even width and height.
+        words += ["-vf", "scale=trunc(iw/2)*2:trunc(ih/2)*2", "-pix_fmt", "yuv420p"]
+        words += [*pictures_by(), "-force_key_frames", "expr:gte(t,n_forced)"]
         words += ["-b:v", str(picture), "-maxrate", str(picture), "-bufsize", str(picture // 2)]
     if source.has_sound:
         words += ["-c:a", SOUND_LAYER, "-b:a", str(sound), "-ar", "48000", "-ac", "2" if sound >= 64_000 else "1"]

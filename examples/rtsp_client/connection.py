@@ -11,6 +11,8 @@ from .messages import BadMessage, Frame, Message, Reader, written
 VERSION = "RTSP/2.0"
 DEFAULT_PORT = 554
 PIECE = 65536
+# What a socket is asked to keep of the packets that come while nobody takes them, in bytes.
+UDP_ROOM = 1 << 20
 # Who waits for an answer waits so many seconds.
 PATIENCE = 10.0
 # Whether it is enough is asked so often, in seconds.
@@ -43,6 +45,7 @@ class UdpPair:
             rtp = socket.socket(socket.AF_INET, socket.SOCK_DGRAM)
             rtcp = socket.socket(socket.AF_INET, socket.SOCK_DGRAM)
             try:
+                rtp.setsockopt(socket.SOL_SOCKET, socket.SO_RCVBUF, UDP_ROOM)
                 rtp.bind((host, 0))
                 port = rtp.getsockname()[1]
                 if port % 2 == 0:
@@ -87,6 +90,7 @@ class UdpPort:
 
     def __init__(self, host: str) -> None:
         self.rtp = socket.socket(socket.AF_INET, socket.SOCK_DGRAM)
+        self.rtp.setsockopt(socket.SOL_SOCKET, socket.SO_RCVBUF, UDP_ROOM)
         self.rtp.bind((host, 0))
         self.port = self.rtp.getsockname()[1]
 
