@@ -1,4 +1,4 @@
-use Rattle.std.proofs.Common.{◌≡◌, ◌≤◌, ◌<◌, sym, subst, ap, ◌∙◌, arith, length, insert, take, List, ℕ}
+use Rattle.std.proofs.Common.{◌≡◌, ◌<◌, sym, subst, ap, ◌∙◌, arith, length, insert, take, List, ℕ}
 use Rattle.std.specs.List.Sorted.{IsNonDecreasing}
 use Rattle.rtsp_sessions.proofs.NumberLemmas.{Placed, placed_first, placed_rises, insert_first, take_short}
 use Rattle.rtsp_sessions.proofs.numbers.SessionNumbers.insert_at.Goals as goal

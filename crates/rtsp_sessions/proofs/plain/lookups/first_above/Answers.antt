@@ -1,10 +1,7 @@
-use Rattle.std.proofs.Common.{◌≡◌, ◌+◌, ◌-◌, ◌≤◌, suc, sym, subst, ap, ◌∙◌, arith, length, take, drop, List, ℕ}
-use Rattle.std.specs.FinMap.{is_sorted}
-use Rattle.std.specs.Ordering.{nat_cmp}
-use Rattle.rtsp_record.specs.Books.{Session}
+use Rattle.std.proofs.Common.{◌≡◌, ◌+◌, ◌-◌, ◌≤◌, suc, sym, ap, ◌∙◌, arith, length, take, drop, ℕ}
 use Rattle.rtsp_sessions.specs.Lookups.{numbers_above}
 use Rattle.rtsp_sessions.proofs.SortedRows.{holds}
-use Rattle.rtsp_sessions.proofs.NumberLemmas.{first_more, first_skipped, sorted_drop}
+use Rattle.rtsp_sessions.proofs.NumberLemmas.{first_more, sorted_drop}
 use Rattle.rtsp_sessions.proofs.plain.lookups.first_above.Goals as goal
 
 pub loop-left-preserved-then-is_above : goal.loop-left-preserved-then-is_above
