@@ -5,3 +5,5 @@ pub mod Keeping
 pub mod Parts
 pub mod Replies
 pub mod Adding
+pub mod Along
+pub mod Batches

@@ -11,3 +11,5 @@ pub mod DeskAnswers
 pub mod Served
 pub mod Additions
 pub mod Causes
+pub mod Serving
+pub mod Visiting
