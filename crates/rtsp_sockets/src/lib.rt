@@ -19,6 +19,7 @@ mod port_binder;
 mod ports;
 mod put;
 mod slots;
+mod try_write;
 mod unit;
 mod words;
 
