@@ -8,3 +8,5 @@ pub mod Adding
 pub mod Numbering
 pub mod Strengthening
 pub mod Cleaning
+pub mod Along
+pub mod Batches

@@ -12,3 +12,5 @@ pub mod Served
 pub mod Additions
 pub mod Numbers
 pub mod Causes
+pub mod Serving
+pub mod Visiting

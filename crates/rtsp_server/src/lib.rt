@@ -8,12 +8,12 @@
 #![tactic(auto)]
 
 mod acceptor;
+mod activity;
 mod answering;
 mod client;
 mod gate;
 mod leaving;
 mod limits;
-mod reading;
 mod relieving;
 mod server;
 mod service;
@@ -22,6 +22,7 @@ mod socket_lane;
 mod stop_bell;
 mod sweeper;
 mod tools;
+mod writing;
 
 pub use limits::{
     ACCEPT_RETRY, ACCEPTS, ANSWERS, CONNECTIONS, MESSAGE_LIMIT, PAUSE, PIECE, PIECES,

@@ -6,7 +6,3 @@ pub appends_kept_none : (a b : Option (List ℕ)) → Keeps a b → Appends a b 
 appends_kept_none None b q = tt
 appends_kept_none (Some u) None q = absurd q
 appends_kept_none (Some u) (Some v) q = q ∙ sym (append-nil u)
-
-pub appends_none : (a : Option (List ℕ)) → Appends a a []
-appends_none None = tt
-appends_none (Some u) = sym (append-nil u)

@@ -22,6 +22,7 @@ mod ports;
 mod put;
 mod read_at;
 mod slots;
+mod try_write;
 mod unit;
 mod words;
 

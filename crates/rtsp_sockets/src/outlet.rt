@@ -70,7 +70,9 @@ impl Outlet {
 
     /// Writes a message whole, or keeps what is left of it, or drops it whole. At a response that
     /// has no room, or no memory, the connection is closed.
-    pub fn put<R: Wait>(&self, rt: &R, now: u64, kind: Message, bytes: &[u8]) -> Put {
+    pub fn put<R: Wait>(&self, rt: &R, now: u64, kind: Message, bytes: &[u8]) -> Put
+        ensures { result ≡ Put.Dropped → kind ≡ Message.Frame }
+    {
         let mut pending = self.pending.lock(rt);
         let was_closed = pending.is_closed();
         let put = pending.put(&mut &self.stream, now, kind, bytes);

@@ -1,16 +1,16 @@
 //! The bytes of a connection that wait to be written.
 
-ghost use Rattle.std.specs.Prelude.{◌≡◌, ◌≤◌, ◌<◌, ◌+◌, ◌++◌, ◌↔◌, [], take, length, IsTrue, IfSome, IfNone};
-ghost use Rattle.std.specs.Io.KnownBytes.{Appends};
-ghost use Rattle.rtsp_sockets.specs.Rooms.{all_room, room_of};
-ghost use Rattle.rtsp_sockets.specs.Passing.{Puts, Flushed, IsClosed, IsStalled, Keeps};
+ghost use Rattle.std.specs.Prelude.{◌≡◌, ◌≢◌, ◌≤◌, ◌<◌, ◌++◌, ◌↔◌, true, [], drop, length, IsTrue, IfSome, IfNone};
+ghost use Rattle.std.specs.Bool.{OnTrue, OnFalse};
+ghost use Rattle.rtsp_sockets.specs.Rooms.{all_room};
+ghost use Rattle.rtsp_sockets.specs.Passing.{Puts, Flushed, Ends, IsClosed, IsShut, IsStalled, IsAlike, Holds, LacksRoom, takes};
 
 use crate::message::Message;
 use crate::outlet::STALL_LIMIT;
 use crate::put::Put;
+use crate::try_write::TryWrite;
 use bytes::{Buf, BytesMut};
 use std::alloc::Global;
-use std::io::{ErrorKind, Write};
 use std::marker::Model;
 
 // What a connection takes.
@@ -21,6 +21,22 @@ pub(crate) enum Condition {
     Draining,
     // Nothing more.
     Closed,
+}
+
+impl Condition {
+    // Whether it takes such a message.
+    fn takes(self, kind: Message) -> bool
+        ensures { result ≡ takes self kind }
+    {
+        match self {
+            Condition::Open => true,
+            Condition::Draining => match kind {
+                Message::Response => true,
+                Message::Frame => false,
+            },
+            Condition::Closed => false,
+        }
+    }
 }
 
 // The bytes of a connection that wait to be written, the oldest first.
@@ -34,36 +50,24 @@ pub(crate) struct Pending {
 }
 
 impl Model for Pending {
-    ghost use Rattle.std.specs.Prelude.{◌≤◌, length};
+    ghost use Rattle.std.specs.Prelude.{◌≡◌, ◌≤◌, [], length};
     ghost use Rattle.rtsp_sockets.specs.Rooms.{all_room};
     ghost use Rattle.rtsp_sockets.specs.Passing.{Waiting};
+    ghost use Rattle.rtsp_sockets.specs.declared.pending.Condition.TheVariants.{Closed};
 
     ghost Value = { Waiting };
 
-    ghost view = { λ p. record { bytes = p.bytes.items; condition = p.condition; since = p.since } };
+    ghost view = { λ p. record { bytes = p.bytes.items; spare = p.bytes.spare; condition = p.condition; since = p.since } };
 
-    ghost invariant = { λ p. length p.bytes.items ≤ all_room };
-}
-
-// Writes some of the bytes, which may be none. `None` where the connection is broken.
-#[tactic(auto, using(crate::proofs::Known::appends_kept_none))]
-fn write_some<W: Write>(to: &mut W, bytes: &[u8]) -> Option<usize>
-    ensures within { IfSome result (λ n. n ≤ length bytes.now) }
-    ensures some { IfSome result (λ n. Appends (W.contents to.old) (W.contents to.new) (take n bytes.now)) }
-{
-    match to.write(bytes) {
-        Ok(n) => Some(n),
-        Err(e) => match e.kind() {
-            ErrorKind::WouldBlock | ErrorKind::Interrupted => Some(0),
-            _ => None,
-        },
-    }
+    ghost invariant = { λ p. (length p.bytes.items ≤ all_room) × (p.condition ≡ Closed → p.bytes.items ≡ []) };
 }
 
 impl Pending {
     // Nothing waits.
     pub(crate) fn new(alloc: Global) -> Pending
-        ensures { result ≡ record { bytes = []; condition = Condition.Open; since = 0 } }
+        ensures bytes { result.bytes ≡ [] }
+        ensures condition { result.condition ≡ Condition.Open }
+        ensures since { result.since ≡ 0 }
     {
         Pending {
             alloc,
@@ -89,41 +93,58 @@ impl Pending {
 
     // Takes nothing more, and forgets what waits.
     pub(crate) fn close(&mut self)
-        ensures closed { IsClosed self.new }
-        ensures none { self.new.bytes ≡ [] }
+        ensures shut { IsShut self.new }
         ensures since { self.new.since ≡ self.old.since }
     {
         self.condition = Condition::Closed;
         self.bytes = BytesMut::new(self.alloc);
     }
 
+    // Puts some bytes behind those that wait, where there is room for so many in all. Whether
+    // there was.
+    fn extend(&mut self, most: usize, bytes: &[u8]) -> bool
+        requires open_still { ¬ IsClosed self.old }
+        requires most { most ≤ all_room }
+        ensures held { OnTrue result (self.new.bytes ≡ self.old.bytes ++ bytes.now) }
+        ensures most { OnTrue result (length self.new.bytes ≤ most) }
+        ensures same { OnFalse result (self.new.bytes ≡ self.old.bytes) }
+        ensures lacks { OnFalse result (LacksRoom most self.old (length (self.old.bytes ++ bytes.now))) }
+        ensures alike { IsAlike self.old self.new }
+        ensures since { self.new.since ≡ self.old.since }
+    {
+        self.bytes.len().saturating_add(bytes.len()) <= most
+            && self.bytes.extend_from_slice(bytes).is_ok()
+    }
+
     // Keeps a message, or what of it isn't written yet. A frame that has no room is dropped; at
     // a response that has none the connection is closed.
     fn keep(&mut self, kind: Message, bytes: &[u8]) -> Put
-        ensures kept { Keeps self.old kind bytes.now self.new result }
-        ensures room { result ≡ Put.Kept → length self.old.bytes + length bytes.now ≤ room_of kind }
+        requires { ¬ IsClosed self.old }
+        ensures held { Holds self.old kind bytes.now self.new result }
         ensures since { self.new.since ≡ self.old.since }
     {
-        let wanted = self.bytes.len().saturating_add(bytes.len());
-        if wanted <= kind.room() && self.bytes.extend_from_slice(bytes).is_ok() {
+        if self.extend(kind.room(), bytes) {
             return Put::Kept;
         }
-        if kind == Message::Frame {
-            return Put::Dropped;
+        match kind {
+            Message::Frame => Put::Dropped,
+            Message::Response => {
+                self.close();
+                Put::Closed
+            }
         }
-        self.close();
-        Put::Closed
     }
 
     // Writes a message where nothing waits, as far as it goes at once, and keeps the rest. A frame
     // of which a part is written has as much room as a response, since the rest has to follow.
-    #[tactic(auto, using(crate::proofs::Passing::sent_puts, crate::proofs::Passing::none_puts, crate::proofs::Passing::rest_puts))]
-    fn write<W: Write>(&mut self, to: &mut W, now: u64, kind: Message, bytes: &[u8]) -> Put
-        requires { self.old.bytes ≡ [] }
-        ensures puts { Puts (W.contents to.old) (W.contents to.new) self.old bytes.now self.new result }
+    #[tactic(auto, using(crate::proofs::Passing::broken_puts, crate::proofs::Passing::sent_puts, crate::proofs::Passing::none_puts, crate::proofs::Passing::rest_puts))]
+    fn write<W: TryWrite>(&mut self, to: &mut W, now: u64, kind: Message, bytes: &[u8]) -> Put
+        requires none { self.old.bytes ≡ [] }
+        requires takes { takes self.old.condition kind ≡ true }
+        ensures puts { Puts W.tries to.old to.new self.old kind bytes.now self.new result }
         ensures since { result ≡ Put.Kept → self.new.since ≡ now }
     {
-        let Some(n) = write_some(to, bytes) else {
+        let Some(n) = to.try_write(bytes) else {
             self.close();
             return Put::Closed;
         };
@@ -138,17 +159,24 @@ impl Pending {
     }
 
     // Puts a message: it is written as far as it goes at once, unless something waits already.
-    #[tactic(auto, using(crate::proofs::Passing::dropped_puts, crate::proofs::Passing::keeps_puts_same))]
-    pub(crate) fn put<W: Write>(&mut self, to: &mut W, now: u64, kind: Message, bytes: &[u8]) -> Put
-        ensures puts { Puts (W.contents to.old) (W.contents to.new) self.old bytes.now self.new result }
+    #[tactic(auto, using(crate::proofs::Passing::closed_puts, crate::proofs::Passing::dropped_puts, crate::proofs::Passing::behind_puts))]
+    pub(crate) fn put<W: TryWrite>(
+        &mut self,
+        to: &mut W,
+        now: u64,
+        kind: Message,
+        bytes: &[u8],
+    ) -> Put
+        ensures puts { Puts W.tries to.old to.new self.old kind bytes.now self.new result }
         ensures draining { self.old.condition ≡ Condition.Draining → kind ≡ Message.Frame → result ≡ Put.Dropped }
         ensures closed { IsClosed self.old → result ≡ Put.Closed }
+        ensures begins { result ≡ Put.Kept → self.old.bytes ≡ [] → self.new.since ≡ now }
+        ensures since { self.old.bytes ≢ [] → self.new.since ≡ self.old.since }
     {
         if self.condition == Condition::Closed {
-            self.close();
             return Put::Closed;
         }
-        if self.condition == Condition::Draining && kind == Message::Frame {
+        if !self.condition.takes(kind) {
             return Put::Dropped;
         }
         if self.bytes.is_empty() {
@@ -157,12 +185,29 @@ impl Pending {
         self.keep(kind, bytes)
     }
 
+    // So many of the bytes that waited were written. Where nothing waits, no memory is held.
+    fn advance(&mut self, now: u64, n: usize)
+        requires { n ≤ length self.old.bytes }
+        ensures bytes { self.new.bytes ≡ drop n self.old.bytes }
+        ensures alike { IsAlike self.old self.new }
+        ensures progress { 0 < n → self.new.since ≡ now }
+        ensures none { n ≡ 0 → self.new.since ≡ self.old.since }
+    {
+        self.bytes.advance(n);
+        if n > 0 {
+            self.since = now;
+        }
+        if self.bytes.is_empty() {
+            self.bytes = BytesMut::new(self.alloc);
+        }
+    }
+
     // Writes what waits, as far as it goes at once: how much is left, or `None` where the
     // connection is closed.
-    #[tactic(auto, using(crate::proofs::Passing::nothing_flushed, crate::proofs::Passing::is_flushed))]
-    pub(crate) fn flush<W: Write>(&mut self, to: &mut W, now: u64) -> Option<usize>
-        ensures some { IfSome result (λ n. Flushed (W.contents to.old) (W.contents to.new) self.old self.new n) }
-        ensures none { IfNone result (IsClosed self.new) }
+    #[tactic(auto, using(crate::proofs::Passing::nothing_flushed, crate::proofs::Passing::is_flushed, crate::proofs::Passing::broken_flush))]
+    pub(crate) fn flush<W: TryWrite>(&mut self, to: &mut W, now: u64) -> Option<usize>
+        ensures some { IfSome result (λ n. Flushed W.tries to.old to.new self.old self.new now n) }
+        ensures none { IfNone result (IsShut self.new × Ends W.tries to.old to.new self.old) }
         ensures most { IfSome result (λ n. n ≤ all_room) }
     {
         if self.condition == Condition::Closed {
@@ -171,17 +216,11 @@ impl Pending {
         if self.bytes.is_empty() {
             return Some(0);
         }
-        let Some(n) = write_some(to, self.bytes.as_slice()) else {
+        let Some(n) = to.try_write(self.bytes.as_slice()) else {
             self.close();
             return None;
         };
-        self.bytes.advance(n);
-        if n > 0 {
-            self.since = now;
-        }
-        if self.bytes.is_empty() {
-            self.bytes = BytesMut::new(self.alloc);
-        }
+        self.advance(now, n);
         Some(self.bytes.len())
     }
 
