@@ -21,7 +21,6 @@ first_port = 5000
 pairs = 1024
 uplink = 1000000000
 sessions = 512
-players = "gstreamer"
 media = "media"
 """
 
