@@ -1,13 +1,12 @@
 //! A server of one connection.
 
-ghost use Rattle.rtsp_lock.specs.Calls.{IsSeatOf, seat_view};
-ghost use Rattle.rtsp_admit.specs.Numbers.{OwnsAll};
+ghost use Rattle.rtsp_lock.specs.Calls.{IsSeatOf};
 
 use rtsp_book::Kept;
 use rtsp_command_line::Exit;
 use rtsp_content::Table;
 use rtsp_devices::{CountedWords, NoPlays, PortSet, StandingClock};
-use rtsp_engine::{Asker, ByteIn, ByteOut, Desk, ServeEnd, law_owns_all};
+use rtsp_engine::{Asker, ByteIn, ByteOut, Desk, ServeEnd};
 use rtsp_lock::{BookLock, BookSeat, LockBook, open};
 use rtsp_server::whole_of;
 use std::alloc::Global;
@@ -16,8 +15,7 @@ use std::sync::Wait;
 // The address of the player at standard input: 127.0.0.1.
 const PEER: u32 = 0x7f00_0001;
 
-/// A server of one connection: its book has one seat, and no time passes. So nobody else acts, and
-/// all entries that stand are the connection's own.
+/// A server of one connection: its book has one seat, and no time passes.
 #[derive(Drop)]
 pub(crate) struct OneConnection {
     lock: BookLock,
@@ -27,20 +25,15 @@ pub(crate) struct OneConnection {
     table: Table,
     asker: Asker,
     ghost ours: { IsSeatOf seat lock },
-    ghost owns: { OwnsAll (seat_view seat) },
 }
 
 impl OneConnection {
-    // Not at the head of the file: the struct imports what stands there.
-    ghost use Rattle.rtspd.specs.Served.{ServesCleanly};
-
     /// One of which nothing was asked yet. Its connection has the first number.
     pub(crate) fn open<R: Wait>(
         rt: &R,
         alloc: Global,
         table: Table,
     ) -> Result<OneConnection, Exit> {
-        law_owns_all();
         let whole = whole_of(&table);
         let Ok((lock, mut seat)) = open(alloc, &whole) else {
             return Err(Exit::OutOfMemory);
@@ -61,7 +54,7 @@ impl OneConnection {
         })
     }
 
-    /// Serves the connection, with at most this many reads. A SETUP that is refused leaves nothing.
+    /// Serves the connection, with at most this many reads.
     pub(crate) fn serve<R: Wait, I: ByteIn, O: ByteOut>(
         &mut self,
         rt: &R,
@@ -69,9 +62,7 @@ impl OneConnection {
         reader: &mut I,
         writer: &mut O,
         turns: u64,
-    ) -> ServeEnd
-        ensures { ServesCleanly R I.remaining O.contents result reader.old reader.new writer.old writer.new (seat_view self.old.seat) (seat_view self.new.seat) }
-    {
+    ) -> ServeEnd {
         let mut clock = StandingClock;
         let mut plays = NoPlays;
         let mut desk = Desk {
