@@ -26,7 +26,7 @@ use std::sync::{Arc, Wait};
 /// What answers the pieces of a connection: its handle of the book, and what its lane lends it.
 #[derive(Drop)]
 pub(crate) struct Front<'a, R> {
-    pub(crate) service: Service<'a, R>,
+    pub(crate) service: &'a Service<'a, R>,
     pub(crate) handle: &'a mut BookHandle,
     /// The lane's own handle, for the room of the journal.
     pub(crate) lane: &'a mut BookHandle,
@@ -50,9 +50,9 @@ fn answer_piece<R: Wait + Net + rt::Clock, W: Words, P: Plays>(
     piece: &[u8],
     room: &mut Room,
 ) -> Result<(), MessageFault>
-    ensures goes_on { OnOk result (Answered (AnswersFrom (devices ⟦<PortBinder<R> as Binder>⟧.calls W.calls ⟦<PieceClock<R> as Clock>⟧.tells P.calls)) (GivesUpFrom (devices ⟦<PortBinder<R> as Binder>⟧.calls W.calls ⟦<PieceClock<R> as Clock>⟧.tells P.calls)) (input.old ++ piece.now) input.new (gathers room.old.text (serving_of service.now.table.now asker handle.old.seat)) (gathers room.new.text (serving_of service.now.table.now asker handle.new.seat))) }
+    ensures goes_on { OnOk result (Answered (AnswersFrom (devices ⟦<PortBinder<'static, R> as Binder>⟧.calls W.calls ⟦<PieceClock<'static, R> as Clock>⟧.tells P.calls)) (GivesUpFrom (devices ⟦<PortBinder<'static, R> as Binder>⟧.calls W.calls ⟦<PieceClock<'static, R> as Clock>⟧.tells P.calls)) (input.old ++ piece.now) input.new (gathers room.old.text (serving_of service.now.table.now asker handle.old.seat)) (gathers room.new.text (serving_of service.now.table.now asker handle.new.seat))) }
     ensures undecided { OnOk result (IsUndecided input.new) }
-    ensures ends { IfErr result (λ f. FaultedAfter (AnswersFrom (devices ⟦<PortBinder<R> as Binder>⟧.calls W.calls ⟦<PieceClock<R> as Clock>⟧.tells P.calls)) (GivesUpFrom (devices ⟦<PortBinder<R> as Binder>⟧.calls W.calls ⟦<PieceClock<R> as Clock>⟧.tells P.calls)) (input.old ++ piece.now) f (gathers room.old.text (serving_of service.now.table.now asker handle.old.seat)) (gathers room.new.text (serving_of service.now.table.now asker handle.new.seat))) }
+    ensures ends { IfErr result (λ f. FaultedAfter (AnswersFrom (devices ⟦<PortBinder<'static, R> as Binder>⟧.calls W.calls ⟦<PieceClock<'static, R> as Clock>⟧.tells P.calls)) (GivesUpFrom (devices ⟦<PortBinder<'static, R> as Binder>⟧.calls W.calls ⟦<PieceClock<'static, R> as Clock>⟧.tells P.calls)) (input.old ++ piece.now) f (gathers room.old.text (serving_of service.now.table.now asker handle.old.seat)) (gathers room.new.text (serving_of service.now.table.now asker handle.new.seat))) }
 {
     let mut binder = PortBinder::new(service.rt, &service.shared.ports);
     let mut clock = PieceClock::new(service.rt, service.shared.begun);
@@ -74,11 +74,11 @@ fn answer_piece<R: Wait + Net + rt::Clock, W: Words, P: Plays>(
 }
 
 impl<R: Wait + Net + rt::Clock> PieceAnswerer for Front<'_, R> {
-    ghost serving = { λ f. serving_of f.service.table.now f.asker f.handle.now.seat };
+    ghost serving = { λ f. serving_of f.service.now.table.now f.asker f.handle.now.seat };
 
-    ghost answers = { AnswersFrom (devices ⟦<PortBinder<R> as Binder>⟧.calls ⟦<RandomWords as Words>⟧.calls ⟦<PieceClock<R> as Clock>⟧.tells ⟦<NotedPlays as Plays>⟧.calls) };
+    ghost answers = { AnswersFrom (devices ⟦<PortBinder<'static, R> as Binder>⟧.calls ⟦<RandomWords as Words>⟧.calls ⟦<PieceClock<'static, R> as Clock>⟧.tells ⟦<NotedPlays as Plays>⟧.calls) };
 
-    ghost gives_up = { GivesUpFrom (devices ⟦<PortBinder<R> as Binder>⟧.calls ⟦<RandomWords as Words>⟧.calls ⟦<PieceClock<R> as Clock>⟧.tells ⟦<NotedPlays as Plays>⟧.calls) };
+    ghost gives_up = { GivesUpFrom (devices ⟦<PortBinder<'static, R> as Binder>⟧.calls ⟦<RandomWords as Words>⟧.calls ⟦<PieceClock<'static, R> as Clock>⟧.tells ⟦<NotedPlays as Plays>⟧.calls) };
 
     fn push(
         &mut self,
@@ -87,11 +87,11 @@ impl<R: Wait + Net + rt::Clock> PieceAnswerer for Front<'_, R> {
         piece: &[u8],
         room: &mut Room,
     ) -> Result<(), MessageFault> {
-        make_room(&self.service, self.lane);
+        make_room(self.service, self.lane);
         let all = input.len().saturating_add(piece.len());
         let given = self.words.given();
         let pushed = answer_piece(
-            &self.service,
+            self.service,
             alloc,
             self.handle,
             self.asker,

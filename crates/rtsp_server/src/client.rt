@@ -175,7 +175,7 @@ impl Client {
         } = self;
         let outlet = &*outlet;
         let mut front = Front {
-            service: *service,
+            service,
             handle,
             lane,
             asker: *asker,
