@@ -9,7 +9,6 @@ mod books;
 #[cfg(test)]
 mod checkpoints;
 #[cfg(test)]
-mod checkpoints_at_lock;
 #[cfg(test)]
 mod forgetting;
 #[cfg(test)]
