@@ -1,57 +1,50 @@
-//! Has a piece of a connection's input answered by the engine.
+//! Has the input of a connection answered by the engine, a piece at a time.
 
-ghost use Rattle.rtsp_lock.specs.Calls.{IsSeatOf, SameSeat};
+ghost use Rattle.std.specs.Prelude.{◌≡◌, ◌++◌, IfErr, OnOk};
+ghost use Rattle.rtsp_grammar.specs.Answer.{IsUndecided};
+ghost use Rattle.rtsp_lock.specs.Calls.{SameSeat};
+ghost use Rattle.rtsp_engine.specs.Devices.{devices};
+ghost use Rattle.rtsp_engine.specs.Served.{Answered, FaultedAfter};
+ghost use Rattle.rtsp_engine.specs.Serving.{AnswersFrom, GivesUpFrom, serving_of};
+ghost use Rattle.rtsp_engine.specs.Visiting.{gathers};
 
-use crate::service::Service;
+use crate::activity::Activity;
+use crate::limits::{ANSWERS, PAUSE};
+use crate::shared::Shared;
 use rtsp_content::Table;
-use rtsp_engine::{Asker, Binder, Clock, Connection, Desk, Plays, Words};
+use rtsp_engine::{Asker, Binder, Clock, Connection, PieceAnswerer, Plays, Words, push_lent};
 use rtsp_grammar::MessageFault;
 use rtsp_lanes::BookHandle;
-use rtsp_lock::{BookLock, BookSeat};
-use rtsp_sockets::{PieceClock, PortBinder};
+use rtsp_pacing::NotedPlays;
+use rtsp_sockets::{Outlet, PieceClock, PortBinder, RandomWords};
 use rtsp_state::Room;
 use std::alloc::Global;
 use std::net::Net;
 use std::rt;
-use std::sync::Wait;
+use std::sync::{Arc, Wait};
 
-// Lends all parts to a desk, and takes the piece.
-fn push_lent<'a, R: Wait, B: Binder, W: Words, C: Clock, P: Plays>(
-    rt: &'a R,
-    alloc: Global,
-    seat: &'a mut BookSeat,
-    lock: &'a BookLock,
-    binder: &'a mut B,
-    words: &'a mut W,
-    clock: &'a mut C,
-    plays: &'a mut P,
-    table: &'a Table,
-    asker: Asker,
-    input: &mut Connection,
-    piece: &[u8],
-    room: &mut Room,
-) -> Result<(), MessageFault>
-    requires { IsSeatOf seat.old lock.now }
-    ensures { SameSeat seat.old seat.new }
-{
-    let mut desk = Desk {
-        rt,
-        seat,
-        lock,
-        binder,
-        words,
-        clock,
-        plays,
-        table,
-        asker,
-    };
-    desk.push(alloc, input, piece, room)
+/// What answers the pieces of a connection: its handle of the book, and what its lane lends it.
+#[derive(Drop)]
+pub(crate) struct Front<'a, R> {
+    pub(crate) rt: &'a R,
+    pub(crate) shared: &'a Shared,
+    pub(crate) table: &'a Table,
+    pub(crate) now: u64,
+    pub(crate) handle: &'a mut BookHandle,
+    pub(crate) asker: Asker,
+    pub(crate) outlet: &'a Arc<Outlet>,
+    pub(crate) words: &'a mut RandomWords,
+    pub(crate) plays: &'a mut NotedPlays,
+    pub(crate) activity: &'a mut Activity,
 }
 
-/// Takes a piece of a connection's input, as `Desk::push` does, over the connection's handle of the
-/// book, the server's sockets and its clock, which is read once at most.
-pub(crate) fn answer_piece<R: Wait + Net + rt::Clock, W: Words, P: Plays>(
-    service: &Service<'_, R>,
+// Takes a piece of a connection's input over the connection's handle of the book, the server's
+// sockets and its clock, which is read once at most.
+fn answer_piece<R: Wait + Net + rt::Clock, W: Words, P: Plays>(
+    rt: &R,
+    alloc: Global,
+    shared: &Shared,
+    table: &Table,
     handle: &mut BookHandle,
     asker: Asker,
     words: &mut W,
@@ -59,22 +52,73 @@ pub(crate) fn answer_piece<R: Wait + Net + rt::Clock, W: Words, P: Plays>(
     input: &mut Connection,
     piece: &[u8],
     room: &mut Room,
-) -> Result<(), MessageFault> {
-    let mut binder = PortBinder::new(service.rt, &service.shared.ports);
-    let mut clock = PieceClock::new(service.rt, service.shared.begun);
+) -> Result<(), MessageFault>
+    ensures goes_on { OnOk result (Answered (AnswersFrom (devices ⟦<PortBinder<'static, R> as Binder>⟧.calls W.calls ⟦<PieceClock<'static, R> as Clock>⟧.tells P.calls)) (GivesUpFrom (devices ⟦<PortBinder<'static, R> as Binder>⟧.calls W.calls ⟦<PieceClock<'static, R> as Clock>⟧.tells P.calls)) (input.old ++ piece.now) input.new (gathers room.old.text (serving_of table.now asker handle.old.seat)) (gathers room.new.text (serving_of table.now asker handle.new.seat))) }
+    ensures undecided { OnOk result (IsUndecided input.new) }
+    ensures ends { IfErr result (λ f. FaultedAfter (AnswersFrom (devices ⟦<PortBinder<'static, R> as Binder>⟧.calls W.calls ⟦<PieceClock<'static, R> as Clock>⟧.tells P.calls)) (GivesUpFrom (devices ⟦<PortBinder<'static, R> as Binder>⟧.calls W.calls ⟦<PieceClock<'static, R> as Clock>⟧.tells P.calls)) (input.old ++ piece.now) f (gathers room.old.text (serving_of table.now asker handle.old.seat)) (gathers room.new.text (serving_of table.now asker handle.new.seat))) }
+{
+    let mut binder = PortBinder::new(rt, &shared.ports);
+    let mut clock = PieceClock::new(rt, shared.begun);
     push_lent(
-        service.rt,
-        service.alloc,
+        rt,
+        alloc,
         &mut handle.seat,
         &handle.lock,
         &mut binder,
         words,
         &mut clock,
         plays,
-        service.table,
+        table,
         asker,
         input,
         piece,
         room,
     )
+}
+
+impl<R: Wait + Net + rt::Clock> PieceAnswerer for Front<'_, R> {
+    ghost serving = { λ f. serving_of f.table.now f.asker f.handle.now.seat };
+
+    ghost answers = { AnswersFrom (devices ⟦<PortBinder<'static, R> as Binder>⟧.calls ⟦<RandomWords as Words>⟧.calls ⟦<PieceClock<'static, R> as Clock>⟧.tells ⟦<NotedPlays as Plays>⟧.calls) };
+
+    ghost gives_up = { GivesUpFrom (devices ⟦<PortBinder<'static, R> as Binder>⟧.calls ⟦<RandomWords as Words>⟧.calls ⟦<PieceClock<'static, R> as Clock>⟧.tells ⟦<NotedPlays as Plays>⟧.calls) };
+
+    fn push(
+        &mut self,
+        alloc: Global,
+        input: &mut Connection,
+        piece: &[u8],
+        room: &mut Room,
+    ) -> Result<(), MessageFault> {
+        let all = input.len().saturating_add(piece.len());
+        let given = self.words.given();
+        let pushed = answer_piece(
+            self.rt,
+            alloc,
+            self.shared,
+            self.table,
+            self.handle,
+            self.asker,
+            self.words,
+            self.plays,
+            input,
+            piece,
+            room,
+        );
+        let has_setup = self.words.given() != given;
+        self.activity.note(self.now, all, input, has_setup);
+        pushed
+    }
+
+    // Where a play is among the answers, it is handed over once they are written.
+    fn is_due(&self, gathered: usize) -> bool {
+        !self.plays.is_empty() || gathered >= ANSWERS
+    }
+
+    // A play is handed over after its answer is written, so that no packet comes before it.
+    fn has_written(&mut self) -> bool {
+        self.plays
+            .hand_over(self.rt, &self.shared.bells, self.outlet);
+        self.outlet.waiting(self.rt) <= PAUSE
+    }
 }

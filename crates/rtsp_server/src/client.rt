@@ -1,19 +1,22 @@
 //! A connection of a lane.
 
-use crate::answering::answer_piece;
+use crate::activity::Activity;
+use crate::answering::Front;
 use crate::leaving::take_leave;
-use crate::limits::{ANSWERS, MESSAGE_LIMIT, PAUSE, PIECE, PIECES, SILENCE_LIMIT};
-use crate::reading::{Reading, read_piece};
+use crate::limits::{PAUSE, PIECES};
 use crate::service::Service;
 use crate::shared::Shared;
 use crate::tools::Tools;
+use crate::writing::AnswerWriter;
 use mio::event::Event;
 use mio::net::TcpStream;
-use rtsp_engine::{Asker, Connection, fault_response};
-use rtsp_grammar::MessageFault;
+use rtsp_content::Table;
+use rtsp_engine::{Asker, Connection, PieceIn, PieceReader, Reading, VisitEnd, visit};
 use rtsp_lanes::BookHandle;
-use rtsp_sockets::{Message, Outlet, Put, prepare};
+use rtsp_pacing::NotedPlays;
+use rtsp_sockets::{Outlet, RandomWords, prepare};
 use rtsp_state::Room;
+use std::alloc::Global;
 use std::net::Net;
 use std::os::fd::{AsRawFd, RawFd};
 use std::rt;
@@ -40,21 +43,6 @@ enum Stage {
     Draining,
 }
 
-// What comes of reading once.
-#[derive(Clone, Copy, Debug, PartialEq, Eq)]
-enum Step {
-    // There may be more to read.
-    GoesOn,
-    // There is nothing more to read for now.
-    Waits,
-    // There may be more, but too much waits to be written.
-    Pauses,
-    // The input has ended, or it can't be understood.
-    Ends,
-    // The connection is broken.
-    Breaks,
-}
-
 /// A connection of a lane.
 #[derive(Drop)]
 pub(crate) struct Client {
@@ -70,11 +58,53 @@ pub(crate) struct Client {
     is_ending: bool,
     // Whether it is in its lane's queue.
     is_queued: bool,
-    // Whether a track was to be set up on it.
-    has_setup: bool,
-    // When it was last heard of, and since when it has owed the rest of a message.
-    heard: u64,
-    begun: Option<u64>,
+    activity: Activity,
+}
+
+// Lends all parts to a visit. How it ended, and whether some of what was put last waits.
+fn visit_lent<'a, R: Wait + Net + rt::Clock>(
+    rt: &'a R,
+    alloc: Global,
+    shared: &'a Shared,
+    table: &'a Table,
+    now: u64,
+    handle: &'a mut BookHandle,
+    asker: Asker,
+    outlet: &'a Arc<Outlet>,
+    words: &'a mut RandomWords,
+    plays: &'a mut NotedPlays,
+    activity: &'a mut Activity,
+    input: &mut Connection,
+    room: &mut Room,
+    piece: &mut [u8],
+    reads_all: bool,
+) -> (VisitEnd, bool) {
+    let mut front = Front {
+        rt,
+        shared,
+        table,
+        now,
+        handle,
+        asker,
+        outlet,
+        words,
+        plays,
+        activity,
+    };
+    let mut reader = PieceReader::new(outlet.stream());
+    let mut writer = AnswerWriter::new(rt, outlet, now);
+    let end = visit(
+        alloc,
+        &mut front,
+        input,
+        &mut reader,
+        &mut writer,
+        room,
+        piece,
+        PIECES,
+        reads_all,
+    );
+    (end, writer.is_kept())
 }
 
 impl Client {
@@ -102,9 +132,7 @@ impl Client {
             is_writable: false,
             is_ending: false,
             is_queued: false,
-            has_setup: false,
-            heard: service.now,
-            begun: None,
+            activity: Activity::new(service.now),
         })
     }
 
@@ -151,9 +179,11 @@ impl Client {
         if !self.is_readable || self.stage != Stage::Open {
             return Visit::Done;
         }
-        tools.room.clear();
-        let step = self.read_pieces(service, tools);
-        self.end_visit(service, tools, step)
+        let (end, is_kept) = self.read(service, tools);
+        if end == VisitEnd::WriteFault || matches!(&end, VisitEnd::Fault(_)) {
+            self.drop_rest(tools);
+        }
+        self.end_visit(service, end, is_kept)
     }
 
     // Writes what waits. Whether the connection goes on.
@@ -168,165 +198,78 @@ impl Client {
         self.stage != Stage::Draining || left > 0
     }
 
-    // Reads and answers some pieces.
-    fn read_pieces<R: Wait + Net + rt::Clock>(
+    // Reads what is there, has it answered, and puts the answers into the outlet. How that ended,
+    // and whether some of what was put last waits.
+    fn read<R: Wait + Net + rt::Clock>(
         &mut self,
         service: &Service<'_, R>,
         tools: &mut Tools,
-    ) -> Step {
-        for _ in 0..PIECES {
-            let step = match read_piece(self.outlet.stream(), tools.piece.as_mut_slice()) {
-                Reading::Bytes(n) => self.take(service, tools, n),
-                Reading::Nothing => Step::Waits,
-                Reading::End => Step::Ends,
-                Reading::Broken => Step::Breaks,
-            };
-            if step != Step::GoesOn {
-                return step;
-            }
-        }
-        Step::GoesOn
-    }
-
-    // Answers what was read.
-    fn take<R: Wait + Net + rt::Clock>(
-        &mut self,
-        service: &Service<'_, R>,
-        tools: &mut Tools,
-        n: usize,
-    ) -> Step {
-        self.heard = service.now;
-        let pushed = self.push(service, tools, n);
-        let step = match pushed {
-            Ok(()) => self.answer(service, tools),
-            Err(fault) => self.tell(service, tools, fault),
-        };
-        // Where less came than there was room for, nothing more is there, and more will be told of.
-        if step == Step::GoesOn && n < PIECE && !self.is_ending {
-            return Step::Waits;
-        }
-        step
-    }
-
-    fn push<R: Wait + Net + rt::Clock>(
-        &mut self,
-        service: &Service<'_, R>,
-        tools: &mut Tools,
-        n: usize,
-    ) -> Result<(), MessageFault> {
+    ) -> (VisitEnd, bool) {
         let Tools {
             words,
             plays,
             room,
             piece,
         } = tools;
-        let piece = piece.as_slice();
-        let piece = piece.split_at(n.min(piece.len())).0;
-        let asker = self.asker;
-        let all = self.input.len().saturating_add(piece.len());
-        let given = words.given();
-        let pushed = answer_piece(
-            service,
-            &mut self.handle,
+        let Client {
+            handle,
             asker,
+            outlet,
+            input,
+            is_ending,
+            activity,
+            ..
+        } = self;
+        visit_lent(
+            service.rt,
+            service.alloc,
+            service.shared,
+            service.table,
+            service.now,
+            handle,
+            *asker,
+            outlet,
             words,
             plays,
-            &mut self.input,
-            piece,
+            activity,
+            input,
             room,
-        );
-        self.has_setup = self.has_setup || words.given() != given;
-        // Where some of the bytes have gone, an item was finished, and what is left is another one.
-        if self.input.is_idle() {
-            self.begun = None;
-        } else if self.begun.is_none() || self.input.len() < all {
-            self.begun = Some(service.now);
-        }
-        pushed
+            piece.as_mut_slice(),
+            *is_ending,
+        )
     }
 
-    // Writes the answers, where there are many, or a play among them. A play is handed over after
-    // its answer is written, so that no packet comes before it.
-    fn answer<R: Wait>(&mut self, service: &Service<'_, R>, tools: &mut Tools) -> Step {
-        if tools.plays.is_empty() && tools.room.as_bytes().len() < ANSWERS {
-            return Step::GoesOn;
-        }
-        let put = self.put(service, &mut tools.room);
-        tools
-            .plays
-            .hand_over(service.rt, &service.shared.bells, &self.outlet);
-        match put {
-            Put::Closed => Step::Breaks,
-            Put::Kept if self.outlet.waiting(service.rt) > PAUSE => Step::Pauses,
-            Put::Kept | Put::Sent | Put::Dropped => Step::GoesOn,
-        }
-    }
-
-    // Writes the answers, and what is said of a fault. What has come behind it is dropped.
-    fn tell<R: Wait>(
-        &mut self,
-        service: &Service<'_, R>,
-        tools: &mut Tools,
-        fault: MessageFault,
-    ) -> Step {
-        let put = self.put(service, &mut tools.room);
-        tools
-            .plays
-            .hand_over(service.rt, &service.shared.bells, &self.outlet);
-        if put == Put::Closed {
-            return Step::Breaks;
-        }
-        self.outlet.put(
-            service.rt,
-            service.now,
-            Message::Response,
-            fault_response(fault),
-        );
+    // Drops what has come behind what can't be answered.
+    fn drop_rest(&self, tools: &mut Tools) {
+        let mut reader = PieceReader::new(self.outlet.stream());
         for _ in 0..PIECES {
-            match read_piece(self.outlet.stream(), tools.piece.as_mut_slice()) {
+            match reader.read_piece(tools.piece.as_mut_slice()) {
                 Reading::Bytes(_) => {}
                 Reading::Nothing | Reading::End | Reading::Broken => break,
             }
         }
-        Step::Ends
     }
 
-    // Writes the answers that are in the room, and leaves it empty.
-    fn put<R: Wait>(&self, service: &Service<'_, R>, room: &mut Room) -> Put {
-        if room.as_bytes().is_empty() {
-            return Put::Sent;
-        }
-        let put = self.outlet.put(service.rt, service.now, Message::Response, room.as_bytes());
-        room.clear();
-        put
-    }
-
-    // Writes the answers that are left, and does what follows from the last step.
+    // Does what follows from how a visit ended.
     fn end_visit<R: Wait>(
         &mut self,
         service: &Service<'_, R>,
-        tools: &mut Tools,
-        step: Step,
+        end: VisitEnd,
+        is_kept: bool,
     ) -> Visit {
-        let put = self.put(service, &mut tools.room);
-        if put == Put::Closed || step == Step::Breaks {
-            return Visit::Ended;
+        match end {
+            VisitEnd::ReadFault | VisitEnd::WriteFault => return Visit::Ended,
+            VisitEnd::Closed | VisitEnd::Fault(_) => return self.drain(service),
+            VisitEnd::Waits => self.is_readable = false,
+            VisitEnd::More => {}
         }
-        if step == Step::Ends {
-            return self.drain(service);
-        }
-        if step == Step::Waits {
-            self.is_readable = false;
-        }
-        let is_paused = step == Step::Pauses
-            || (put == Put::Kept && self.outlet.waiting(service.rt) > PAUSE);
-        if is_paused {
+        if is_kept && self.outlet.waiting(service.rt) > PAUSE {
             self.stage = Stage::Paused;
+            return Visit::Done;
         }
-        if step == Step::GoesOn && !is_paused {
-            Visit::More
-        } else {
-            Visit::Done
+        match end {
+            VisitEnd::More => Visit::More,
+            _ => Visit::Done,
         }
     }
 
@@ -347,22 +290,12 @@ impl Client {
     }
 
     /// Whether the player has been silent for too long, or has owed the rest of a message for too
-    /// long. Where it has asked for a track to be set up, a session may live that long without a
-    /// request.
+    /// long, where the connection is read.
     pub(crate) fn is_overdue(&self, now: u64, timeout: u64) -> bool {
         if self.stage != Stage::Open {
             return false;
         }
-        let most = if self.has_setup {
-            SILENCE_LIMIT.max(timeout)
-        } else {
-            SILENCE_LIMIT
-        };
-        let is_late = match self.begun {
-            Some(begun) => now.saturating_sub(begun) >= MESSAGE_LIMIT,
-            None => false,
-        };
-        is_late || now.saturating_sub(self.heard) >= most
+        self.activity.is_overdue(now, timeout)
     }
 
     /// Takes leave of the connection, and of its sessions.

@@ -8,12 +8,12 @@
 #![tactic(auto)]
 
 mod acceptor;
+mod activity;
 mod answering;
 mod client;
 mod gate;
 mod leaving;
 mod limits;
-mod reading;
 mod server;
 mod service;
 mod shared;
@@ -21,6 +21,7 @@ mod socket_lane;
 mod stop_bell;
 mod sweeper;
 mod tools;
+mod writing;
 
 pub use limits::{
     ACCEPT_RETRY, ACCEPTS, ANSWERS, CONNECTIONS, MESSAGE_LIMIT, PAUSE, PIECE, PIECES,
