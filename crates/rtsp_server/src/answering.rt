@@ -11,7 +11,8 @@ ghost use Rattle.rtsp_engine.specs.Visiting.{gathers};
 use crate::activity::Activity;
 use crate::limits::{ANSWERS, PAUSE};
 use crate::relieving::make_room;
-use crate::service::Service;
+use crate::shared::Shared;
+use rtsp_content::Table;
 use rtsp_engine::{Asker, Binder, Clock, Connection, PieceAnswerer, Plays, Words, push_lent};
 use rtsp_grammar::MessageFault;
 use rtsp_lanes::BookHandle;
@@ -26,7 +27,10 @@ use std::sync::{Arc, Wait};
 /// What answers the pieces of a connection: its handle of the book, and what its lane lends it.
 #[derive(Drop)]
 pub(crate) struct Front<'a, R> {
-    pub(crate) service: &'a Service<'a, R>,
+    pub(crate) rt: &'a R,
+    pub(crate) shared: &'a Shared,
+    pub(crate) table: &'a Table,
+    pub(crate) now: u64,
     pub(crate) handle: &'a mut BookHandle,
     /// The lane's own handle, for the room of the journal.
     pub(crate) lane: &'a mut BookHandle,
@@ -40,8 +44,10 @@ pub(crate) struct Front<'a, R> {
 // Takes a piece of a connection's input over the connection's handle of the book, the server's
 // sockets and its clock, which is read once at most.
 fn answer_piece<R: Wait + Net + rt::Clock, W: Words, P: Plays>(
-    service: &Service<'_, R>,
+    rt: &R,
     alloc: Global,
+    shared: &Shared,
+    table: &Table,
     handle: &mut BookHandle,
     asker: Asker,
     words: &mut W,
@@ -50,14 +56,14 @@ fn answer_piece<R: Wait + Net + rt::Clock, W: Words, P: Plays>(
     piece: &[u8],
     room: &mut Room,
 ) -> Result<(), MessageFault>
-    ensures goes_on { OnOk result (Answered (AnswersFrom (devices ⟦<PortBinder<'static, R> as Binder>⟧.calls W.calls ⟦<PieceClock<'static, R> as Clock>⟧.tells P.calls)) (GivesUpFrom (devices ⟦<PortBinder<'static, R> as Binder>⟧.calls W.calls ⟦<PieceClock<'static, R> as Clock>⟧.tells P.calls)) (input.old ++ piece.now) input.new (gathers room.old.text (serving_of service.now.table.now asker handle.old.seat)) (gathers room.new.text (serving_of service.now.table.now asker handle.new.seat))) }
+    ensures goes_on { OnOk result (Answered (AnswersFrom (devices ⟦<PortBinder<'static, R> as Binder>⟧.calls W.calls ⟦<PieceClock<'static, R> as Clock>⟧.tells P.calls)) (GivesUpFrom (devices ⟦<PortBinder<'static, R> as Binder>⟧.calls W.calls ⟦<PieceClock<'static, R> as Clock>⟧.tells P.calls)) (input.old ++ piece.now) input.new (gathers room.old.text (serving_of table.now asker handle.old.seat)) (gathers room.new.text (serving_of table.now asker handle.new.seat))) }
     ensures undecided { OnOk result (IsUndecided input.new) }
-    ensures ends { IfErr result (λ f. FaultedAfter (AnswersFrom (devices ⟦<PortBinder<'static, R> as Binder>⟧.calls W.calls ⟦<PieceClock<'static, R> as Clock>⟧.tells P.calls)) (GivesUpFrom (devices ⟦<PortBinder<'static, R> as Binder>⟧.calls W.calls ⟦<PieceClock<'static, R> as Clock>⟧.tells P.calls)) (input.old ++ piece.now) f (gathers room.old.text (serving_of service.now.table.now asker handle.old.seat)) (gathers room.new.text (serving_of service.now.table.now asker handle.new.seat))) }
+    ensures ends { IfErr result (λ f. FaultedAfter (AnswersFrom (devices ⟦<PortBinder<'static, R> as Binder>⟧.calls W.calls ⟦<PieceClock<'static, R> as Clock>⟧.tells P.calls)) (GivesUpFrom (devices ⟦<PortBinder<'static, R> as Binder>⟧.calls W.calls ⟦<PieceClock<'static, R> as Clock>⟧.tells P.calls)) (input.old ++ piece.now) f (gathers room.old.text (serving_of table.now asker handle.old.seat)) (gathers room.new.text (serving_of table.now asker handle.new.seat))) }
 {
-    let mut binder = PortBinder::new(service.rt, &service.shared.ports);
-    let mut clock = PieceClock::new(service.rt, service.shared.begun);
+    let mut binder = PortBinder::new(rt, &shared.ports);
+    let mut clock = PieceClock::new(rt, shared.begun);
     push_lent(
-        service.rt,
+        rt,
         alloc,
         &mut handle.seat,
         &handle.lock,
@@ -65,7 +71,7 @@ fn answer_piece<R: Wait + Net + rt::Clock, W: Words, P: Plays>(
         words,
         &mut clock,
         plays,
-        service.table,
+        table,
         asker,
         input,
         piece,
@@ -74,7 +80,7 @@ fn answer_piece<R: Wait + Net + rt::Clock, W: Words, P: Plays>(
 }
 
 impl<R: Wait + Net + rt::Clock> PieceAnswerer for Front<'_, R> {
-    ghost serving = { λ f. serving_of f.service.now.table.now f.asker f.handle.now.seat };
+    ghost serving = { λ f. serving_of f.table.now f.asker f.handle.now.seat };
 
     ghost answers = { AnswersFrom (devices ⟦<PortBinder<'static, R> as Binder>⟧.calls ⟦<RandomWords as Words>⟧.calls ⟦<PieceClock<'static, R> as Clock>⟧.tells ⟦<NotedPlays as Plays>⟧.calls) };
 
@@ -87,12 +93,14 @@ impl<R: Wait + Net + rt::Clock> PieceAnswerer for Front<'_, R> {
         piece: &[u8],
         room: &mut Room,
     ) -> Result<(), MessageFault> {
-        make_room(self.service, self.lane);
+        make_room(self.rt, self.table, self.lane);
         let all = input.len().saturating_add(piece.len());
         let given = self.words.given();
         let pushed = answer_piece(
-            self.service,
+            self.rt,
             alloc,
+            self.shared,
+            self.table,
             self.handle,
             self.asker,
             self.words,
@@ -102,7 +110,7 @@ impl<R: Wait + Net + rt::Clock> PieceAnswerer for Front<'_, R> {
             room,
         );
         let has_setup = self.words.given() != given;
-        self.activity.note(self.service.now, all, input, has_setup);
+        self.activity.note(self.now, all, input, has_setup);
         pushed
     }
 
@@ -114,7 +122,7 @@ impl<R: Wait + Net + rt::Clock> PieceAnswerer for Front<'_, R> {
     // A play is handed over after its answer is written, so that no packet comes before it.
     fn has_written(&mut self) -> bool {
         self.plays
-            .hand_over(self.service.rt, &self.service.shared.bells, self.outlet);
-        self.outlet.waiting(self.service.rt) <= PAUSE
+            .hand_over(self.rt, &self.shared.bells, self.outlet);
+        self.outlet.waiting(self.rt) <= PAUSE
     }
 }

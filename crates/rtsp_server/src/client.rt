@@ -10,9 +10,13 @@ use crate::tools::Tools;
 use crate::writing::AnswerWriter;
 use mio::event::Event;
 use mio::net::TcpStream;
+use rtsp_content::Table;
 use rtsp_engine::{Asker, Connection, PieceIn, PieceReader, Reading, VisitEnd, visit};
 use rtsp_lanes::BookHandle;
-use rtsp_sockets::{Outlet, prepare};
+use rtsp_pacing::NotedPlays;
+use rtsp_sockets::{Outlet, RandomWords, prepare};
+use rtsp_state::Room;
+use std::alloc::Global;
 use std::net::Net;
 use std::os::fd::{AsRawFd, RawFd};
 use std::rt;
@@ -55,6 +59,54 @@ pub(crate) struct Client {
     // Whether it is in its lane's queue.
     is_queued: bool,
     activity: Activity,
+}
+
+// Lends all parts to a visit. How it ended, and whether some of what was put last waits.
+fn visit_lent<'a, R: Wait + Net + rt::Clock>(
+    rt: &'a R,
+    alloc: Global,
+    shared: &'a Shared,
+    table: &'a Table,
+    now: u64,
+    handle: &'a mut BookHandle,
+    lane: &'a mut BookHandle,
+    asker: Asker,
+    outlet: &'a Arc<Outlet>,
+    words: &'a mut RandomWords,
+    plays: &'a mut NotedPlays,
+    activity: &'a mut Activity,
+    input: &mut Connection,
+    room: &mut Room,
+    piece: &mut [u8],
+    reads_all: bool,
+) -> (VisitEnd, bool) {
+    let mut front = Front {
+        rt,
+        shared,
+        table,
+        now,
+        handle,
+        lane,
+        asker,
+        outlet,
+        words,
+        plays,
+        activity,
+    };
+    let mut reader = PieceReader::new(outlet.stream());
+    let mut writer = AnswerWriter::new(rt, outlet, now);
+    let end = visit(
+        alloc,
+        &mut front,
+        input,
+        &mut reader,
+        &mut writer,
+        room,
+        piece,
+        PIECES,
+        reads_all,
+    );
+    (end, writer.is_kept())
 }
 
 impl Client {
@@ -173,31 +225,24 @@ impl Client {
             activity,
             ..
         } = self;
-        let outlet = &*outlet;
-        let mut front = Front {
-            service,
+        visit_lent(
+            service.rt,
+            service.alloc,
+            service.shared,
+            service.table,
+            service.now,
             handle,
             lane,
-            asker: *asker,
+            *asker,
             outlet,
             words,
             plays,
             activity,
-        };
-        let mut reader = PieceReader::new(outlet.stream());
-        let mut writer = AnswerWriter::new(service.rt, outlet, service.now);
-        let end = visit(
-            service.alloc,
-            &mut front,
             input,
-            &mut reader,
-            &mut writer,
             room,
             piece.as_mut_slice(),
-            PIECES,
             *is_ending,
-        );
-        (end, writer.is_kept())
+        )
     }
 
     // Drops what has come behind what can't be answered.

@@ -4,14 +4,14 @@ ghost use Rattle.std.specs.Prelude.{None};
 
 use rtsp_engine::{ByteOut, StreamFault};
 use rtsp_sockets::{Message, Outlet, Put};
-use std::sync::Wait;
+use std::sync::{Arc, Wait};
 
 /// The outlet of a connection, as its lane puts answers into it. What others put there, and what
 /// leaves it, is the outlet's to say, so no bytes of it are known; that it is closed is counted.
 #[derive(Drop)]
 pub(crate) struct AnswerWriter<'a, R> {
     rt: &'a R,
-    outlet: &'a Outlet,
+    outlet: &'a Arc<Outlet>,
     now: u64,
     // Whether some of what was put last waits.
     is_kept: bool,
@@ -20,7 +20,7 @@ pub(crate) struct AnswerWriter<'a, R> {
 
 impl<'a, R> AnswerWriter<'a, R> {
     /// A writer into this outlet, at this moment.
-    pub(crate) fn new(rt: &'a R, outlet: &'a Outlet, now: u64) -> AnswerWriter<'a, R> {
+    pub(crate) fn new(rt: &'a R, outlet: &'a Arc<Outlet>, now: u64) -> AnswerWriter<'a, R> {
         AnswerWriter {
             rt,
             outlet,
