@@ -1,0 +1,40 @@
+-- Texts that are written anew.
+use Rattle.std.proofs.Common.{◌≡◌, ℕ, Bool, true, false, List, [], ◌∷◌, ◌++◌, map, Option, Some, None, refl, sym, ap, ◌∙◌, append_assoc}
+use Rattle.std.specs.Prelude.{◌||◌, codes}
+use Rattle.std.specs.List.{join_with_byte}
+use Rattle.rtsp_transport.specs.Split.{split}
+use Rattle.rtsp_dialect.specs.ClientPort.{is_old, addresses_text}
+use Rattle.rtsp_dialect.specs.ClientPortText.{spec_in, are_old, is_old_text, repaired_part, repaired_parts, repaired_spec_text, has_old, repaired_transport}
+use Rattle.rtsp_dialect.specs.PartText.{behind}
+use Rattle.rtsp_dialect.proofs.LeftParts.{join_behind}
+
+pub old_text : (text first : List ℕ) (others : List (List ℕ)) → split false 59 text ≡ first ∷ others → is_old_text text ≡ is_old (spec_in first others)
+unfolding is_old_text
+old_text text first others e = ap are_old e
+
+pub plain_spec : (text : List ℕ) → is_old_text text ≡ false → repaired_spec_text text ≡ text
+unfolding repaired_spec_text
+plain_spec text e = rw e refl
+
+pub old_spec : (text first : List ℕ) (others : List (List ℕ)) → is_old_text text ≡ true → split false 59 text ≡ first ∷ others
+    → repaired_spec_text text ≡ first ++ behind 59 (map repaired_part others)
+unfolding repaired_spec_text
+old_spec text first others old e =
+    rw old (ap (λ (ps : List (List ℕ)). join_with_byte 59 (repaired_parts ps)) e ∙ join_behind 59 first (map repaired_part others))
+
+pub plain_transport : (value : List ℕ) → has_old value ≡ false → repaired_transport value ≡ value
+unfolding repaired_transport
+plain_transport value e = rw e refl
+
+pub old_transport : (value first : List ℕ) (others : List (List ℕ)) → has_old value ≡ true → split false 44 value ≡ first ∷ others
+    → repaired_transport value ≡ repaired_spec_text first ++ behind 44 (map repaired_spec_text others)
+unfolding repaired_transport
+old_transport value first others old e =
+    rw old (ap (λ (ps : List (List ℕ)). join_with_byte 44 (map repaired_spec_text ps)) e ∙ join_behind 44 (repaired_spec_text first) (map repaired_spec_text others))
+
+pub address_written : (out rtp rtcp : List ℕ) → ((((out ++ codes "dest_addr=\":") ++ rtp) ++ codes "\"/\":") ++ rtcp) ++ codes "\"" ≡ out ++ (codes "dest_addr=" ++ addresses_text (rtp, rtcp))
+address_written out rtp rtcp =
+    ap (λ (xs : List ℕ). ((xs ++ codes "\"/\":") ++ rtcp) ++ codes "\"") (append_assoc out (codes "dest_addr=\":") rtp)
+    ∙ ap (λ (xs : List ℕ). (xs ++ rtcp) ++ codes "\"") (append_assoc out (codes "dest_addr=\":" ++ rtp) (codes "\"/\":"))
+    ∙ ap (λ (xs : List ℕ). xs ++ codes "\"") (append_assoc out ((codes "dest_addr=\":" ++ rtp) ++ codes "\"/\":") rtcp)
+    ∙ append_assoc out (((codes "dest_addr=\":" ++ rtp) ++ codes "\"/\":") ++ rtcp) (codes "\"")

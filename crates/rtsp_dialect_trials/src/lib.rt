@@ -1,0 +1,6 @@
+//! Tests of the public names of rtsp_dialect, in modules by subject. The crate has nothing else.
+
+#![tactic(auto)]
+
+#[cfg(test)]
+mod repairs;
