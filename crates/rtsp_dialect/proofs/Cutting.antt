@@ -12,7 +12,7 @@ pub cut_here : (text : List ℕ) (i : ℕ) (inside : Bool) (separator : ℕ) →
     → Splits [] text 0 i inside separator → split false separator text ≡ take i text ∷ split false separator (take (length text - (i + 1)) (drop (i + 1) text))
 cut_here text i inside separator lt e s so_far =
     let rest : List ℕ = drop (i + 1) text in
-    let whole : take (length text - (i + 1)) (drop (i + 1) text) ≡ drop (i + 1) text = take_all (drop (i + 1) text) (length text - (i + 1)) (omega (arith, length-drop (i + 1) text)) in
+    let whole : take (length text - (i + 1)) (drop (i + 1) text) ≡ drop (i + 1) text = take_all (length text - (i + 1)) (drop (i + 1) text) (omega (arith, length-drop (i + 1) text)) in
     sym so_far
     ∙ ap (λ (r : List ℕ). onto_first (piece text 0 i) (split inside separator r)) (drop_more text i 0 lt)
     ∙ ap (onto_first (piece text 0 i)) (split_separator inside separator (get_or text i 0) (drop (i + 1) text) e s)
@@ -22,4 +22,4 @@ cut_here text i inside separator lt e s so_far =
 pub cut_nowhere : (text : List ℕ) (i : ℕ) (inside : Bool) (separator : ℕ) → i ≡ length text → Splits [] text 0 i inside separator → split false separator text ≡ text ∷ []
 cut_nowhere text i inside separator e so_far =
     sym (at_end [] (piece text 0 (length text) ∷ []) text 0 i inside separator e refl so_far)
-    ∙ ap (λ (p : List ℕ). p ∷ []) (piece_front text (length text) ∙ take_all text (length text) (omega arith))
+    ∙ ap (λ (p : List ℕ). p ∷ []) (piece_front text (length text) ∙ take_all (length text) text (omega arith))

@@ -38,7 +38,6 @@ fn has_ports_alone(parameters: Option<&[u8]>) -> bool
 }
 
 // Whether a specification names the client's ports as RTSP 1.0 does.
-#[tactic(auto, using(crate::proofs::Rewritten::old_text))]
 fn is_old_text(text: &[u8]) -> bool
     ensures { result ≡ is_old_text text.now }
 {
@@ -63,7 +62,6 @@ pub fn has_old(value: &[u8]) -> bool
 }
 
 // Writes the address that has these two ports.
-#[tactic(auto, using(crate::proofs::Rewritten::address_written))]
 fn write_address(out: &mut Vec<u8>, rtp: &[u8], rtcp: &[u8]) -> Result<(), AllocError>
     ensures { OnOk result (out.new.items ≡ out.old.items ++ (codes "dest_addr=" ++ addresses_text (rtp.now, rtcp.now))) }
 {
@@ -101,7 +99,7 @@ fn write_parameters(out: &mut Vec<u8>, parameters: Option<&[u8]>) -> Result<(), 
 }
 
 // Writes a specification in the terms of RTSP 2.0.
-#[tactic(auto, using(crate::proofs::Rewritten::plain_spec, crate::proofs::Rewritten::old_spec))]
+#[tactic(auto, using(crate::proofs::Rewritten::plain_spec))]
 fn write_spec(out: &mut Vec<u8>, text: &[u8]) -> Result<(), AllocError>
     ensures { OnOk result (out.new.items ≡ out.old.items ++ repaired_spec_text text.now) }
 {
