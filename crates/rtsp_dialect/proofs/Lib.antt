@@ -9,3 +9,4 @@ pub mod Reading
 pub mod Quoted
 pub mod Spoken
 pub mod Lawful
+pub mod SameDesk

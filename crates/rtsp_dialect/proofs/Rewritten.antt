@@ -1,6 +1,6 @@
 -- Texts that are written anew.
 use Rattle.std.proofs.Common.{◌≡◌, ℕ, Bool, true, false, List, [], ◌∷◌, ◌++◌, map, Option, Some, None, refl, sym, ap, ◌∙◌, append_assoc}
-use Rattle.std.specs.Prelude.{◌||◌, ◌&&◌, codes, Result, Ok, Err, OnOk}
+use Rattle.std.specs.Prelude.{◌||◌, ◌&&◌, codes, Result, Ok, Err, OnOk, is_ok, if◌then◌else◌}
 use Rattle.std.specs.List.{join_with_byte}
 use Rattle.rtsp_text.specs.Trim.{trimmed}
 use Rattle.rtsp_transport.specs.Names.{is_udp}
@@ -56,7 +56,7 @@ address_parts out rtp rtcp =
     ∙ append_assoc out (((codes "dest_addr=\":" ++ rtp) ++ codes "\"/\":") ++ rtcp) (codes "\"")
 
 pub address_written : {E : Type 0} (wrote : Result (Unit {0}) E) (out a b c d new rtp rtcp : List ℕ)
-    → a ≡ out ++ codes "dest_addr=\":" → b ≡ a ++ rtp → c ≡ b ++ codes "\"/\":" → d ≡ c ++ rtcp → OnOk wrote (new ≡ d ++ codes "\"")
+    → a ≡ out ++ codes "dest_addr=\":" → b ≡ a ++ rtp → c ≡ b ++ codes "\"/\":" → d ≡ c ++ rtcp → new ≡ (if is_ok wrote then d ++ codes "\"" else d)
     → OnOk wrote (new ≡ out ++ (codes "dest_addr=" ++ addresses_text (rtp, rtcp)))
 address_written (Ok done) out a b c d new rtp rtcp h i j k l =
     l ∙ ap (λ (xs : List ℕ). xs ++ codes "\"") (k ∙ ap (λ (xs : List ℕ). xs ++ rtcp) (j ∙ ap (λ (xs : List ℕ). xs ++ codes "\"/\":") (i ∙ ap (λ (xs : List ℕ). xs ++ rtp) h)))

@@ -7,3 +7,5 @@ pub mod PartParameter
 pub mod Within
 pub mod Laws
 pub mod Goodbye
+pub mod Repairing
+pub mod RepairedDesk
