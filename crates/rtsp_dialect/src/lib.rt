@@ -6,7 +6,8 @@
 //!
 //! The definitions of `specs/` read in this order: Startup (a number that is too long), ClientPort
 //! (ports in the terms of 1.0 and of 2.0), PartText and ClientPortText (the same in the text of a
-//! Transport header), Repair (a request).
+//! Transport header), Repair (a request), Within (what is within RFC 7826), Laws, Repairing (how
+//! repaired items are answered), RepairedDesk (the same from a desk), Goodbye.
 
 #![tactic(auto)]
 
