@@ -60,9 +60,9 @@ quoted separator [] ys h = refl
 quoted separator (b ∷ bytes) ys h =
     let s = and_parts (is_other 34 b) (list_all (is_other 34) bytes) h in
     go (eqb b 34) s.0 ∙ quoted separator bytes ys s.1 where
-  go : (x : Bool) → not x ≡ true → cond x (is_part false separator (bytes ++ ys)) (is_part true separator (bytes ++ ys)) ≡ is_part true separator (bytes ++ ys)
-  go true n = absurd cc
-  go false n = refl
+      go : (x : Bool) → not x ≡ true → cond x (is_part false separator (bytes ++ ys)) (is_part true separator (bytes ++ ys)) ≡ is_part true separator (bytes ++ ys)
+      go true n = absurd cc
+      go false n = refl
 
 regroup : (first second : List ℕ) → (((first ++ codes "\"/\":") ++ second) ++ codes "\"") ≡ first ++ (codes "\"/\":" ++ (second ++ codes "\""))
 regroup first second = append_assoc (first ++ codes "\"/\":") second (codes "\"") ∙ append_assoc first (codes "\"/\":") (second ++ codes "\"")

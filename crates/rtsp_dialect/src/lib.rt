@@ -22,9 +22,7 @@ mod startup;
 mod transport;
 mod visits;
 
-pub use laws::{
-    law_repaired_is_within, law_repairs_to_itself, law_rest_stays, law_says_the_same,
-};
+pub use laws::{law_repaired_is_within, law_repairs_to_itself, law_rest_stays, law_says_the_same};
 pub use repairing::Repairing;
 pub use request::repair;
 pub use rtcp::goodbye;

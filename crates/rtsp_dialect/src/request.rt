@@ -13,7 +13,6 @@ use itoa::Buffer;
 use rtsp_grammar::{Header, Headers, HeadersBuilder, Method, Request, Text, Version};
 use std::alloc::{AllocError, Global};
 
-
 // Whether a header is a number that is too long, or has a specification of RTSP 1.0.
 #[tactic(auto, unfolding(crate::specs::Repair::needs_repair))]
 fn needs_repair(header: &Header<'_>) -> bool

@@ -9,7 +9,5 @@ pub fn goodbye(ssrc: u32) -> [u8; 16]
     ensures { result ≡ goodbye_of ssrc }
 {
     let [a, b, c, d] = ssrc.to_be_bytes();
-    [
-        0x80, 0xc9, 0, 1, a, b, c, d, 0x81, 0xcb, 0, 1, a, b, c, d,
-    ]
+    [0x80, 0xc9, 0, 1, a, b, c, d, 0x81, 0xcb, 0, 1, a, b, c, d]
 }

@@ -76,7 +76,11 @@ fn spoken_requests_are_answered_as_repaired_ones(rt: HostRuntime) -> Result<(), 
     assert!(rt; answered(&rt, true, WITHIN)?.as_bytes() == strict.as_bytes());
     assert!(rt; answered(&rt, true, SPOKEN)?.as_bytes() == strict.as_bytes());
     let refused = answered(&rt, false, SPOKEN)?;
-    assert!(rt; refused.as_bytes().starts_with(b"RTSP/2.0 400 Bad Request\r\nCSeq: 1\r\n\r\n".as_slice()));
+    assert!(rt;
+        refused
+            .as_bytes()
+            .starts_with(b"RTSP/2.0 400 Bad Request\r\nCSeq: 1\r\n\r\n".as_slice())
+    );
     Ok(())
 }
 
@@ -104,8 +108,9 @@ const UNREPAIRED: [(&str, &str); 4] = [
 #[test]
 fn what_isn_t_repaired_is_answered_alike(rt: HostRuntime) -> Result<(), Fail> {
     for (lines, answer) in UNREPAIRED {
-        let text =
-            format!(in rt.alloc(); "SETUP rtsp://h/tone/a RTSP/2.0\r\nCSeq: 1\r\n{lines}\r\n\r\n")?;
+        let text = format!(in rt.alloc();
+            "SETUP rtsp://h/tone/a RTSP/2.0\r\nCSeq: 1\r\n{lines}\r\n\r\n"
+        )?;
         for repairs in [false, true] {
             let room = answered(&rt, repairs, &text)?;
             assert!(rt; room.as_bytes().starts_with(answer.as_bytes()));
