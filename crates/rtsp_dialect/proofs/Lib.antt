@@ -10,3 +10,4 @@ pub mod Quoted
 pub mod Spoken
 pub mod Lawful
 pub mod SameDesk
+pub mod NameLengths

@@ -1,6 +1,6 @@
 //! A request in the terms of RFC 7826.
 
-ghost use Rattle.std.specs.Prelude.{◌≡◌, ◌++◌, ◌∷◌, [], true, is_some, map, unwrap_or, IfOk, OnOk, OnErr};
+ghost use Rattle.std.specs.Prelude.{◌≡◌, ◌++◌, ◌∷◌, [], true, false, is_some, map, unwrap_or, IfOk, OnOk, OnErr};
 ghost use Rattle.std.specs.List.{list_any};
 ghost use Rattle.rtsp_grammar.specs.HeaderView.{shown};
 ghost use Rattle.rtsp_dialect.specs.Startup.{repaired_startup};
@@ -12,6 +12,15 @@ use crate::transport::{has_old, repaired_transport};
 use itoa::Buffer;
 use rtsp_grammar::{Header, Headers, HeadersBuilder, Method, Request, Text, Version};
 use std::alloc::{AllocError, Global};
+
+// Whether a header's name is as long as one of the two names: few are, and the test costs little.
+#[tactic(auto, using(crate::proofs::NameLengths::other_length))]
+fn is_as_long(header: &Header<'_>) -> bool
+    ensures { result ≡ false → needs_repair (shown header.now) ≡ false }
+{
+    let length = header.name.len();
+    length == 18 || length == 9
+}
 
 // Whether a header is a number that is too long, or has a specification of RTSP 1.0.
 #[tactic(auto, unfolding(crate::specs::Repair::needs_repair))]
@@ -29,7 +38,8 @@ fn any_needs_repair(headers: &Headers) -> bool
     ensures { result ≡ list_any needs_repair headers.now }
 {
     for index in 0..headers.len() {
-        if needs_repair(&headers.get(index)) {
+        let header = headers.get(index);
+        if is_as_long(&header) && needs_repair(&header) {
             return true;
         }
     }

@@ -2,8 +2,8 @@ use Rattle.std.proofs.Common.{arith, false, get_or, []}
 use Rattle.std.proofs.lemmas.Bool.{ne_eqb}
 use Rattle.rtsp_transport.proofs.SplitLemmas.{onto_nothing, on_quote, on_plain, separates, in_quotes, no_separator}
 use Rattle.rtsp_dialect.proofs.Cutting.{cut_here, cut_nowhere}
-use Rattle.rtsp_dialect.proofs.parts.first_part.Goals as goal
-use Rattle.rtsp_dialect.proofs.parts.first_part.Goals.{then-b-eq-QUOTE, else-b-eq-QUOTE+else-b-separator, else-b-separator-via-then-b-separator+else-not-inside, else-b-separator-via-else-b-separator}
+use Rattle.rtsp_dialect.proofs.parts.first_quoted_part.Goals as goal
+use Rattle.rtsp_dialect.proofs.parts.first_quoted_part.Goals.{then-b-eq-QUOTE, else-b-eq-QUOTE+else-b-separator, else-b-separator-via-then-b-separator+else-not-inside, else-b-separator-via-else-b-separator}
 
 pub loop-i-init : goal.loop-i-init
 loop-i-init c = onto_nothing false c.args.separator c.args.text.now
