@@ -1,6 +1,6 @@
 -- Ports that are named once: parameter by parameter.
 use Rattle.std.proofs.Common.{◌≡◌, ℕ, Bool, true, false, List, [], ◌∷◌, map, refl, sym, ap, ◌∙◌}
-use Rattle.std.specs.Prelude.{not, ◌&&◌, ◌||◌, filter}
+use Rattle.std.specs.Prelude.{not, ◌&&◌, filter}
 use Rattle.std.specs.List.{list_any}
 use Rattle.rtsp_transport.specs.declared.spec.Parameter.{Parameter}
 use Rattle.rtsp_dialect.specs.ClientPort.{has_ports, is_unclear, is_single, has_ports_alone}

@@ -1,6 +1,6 @@
 -- Where the first part of a text ends.
-use Rattle.std.proofs.Common.{◌≡◌, ℕ, ◌+◌, ◌-◌, ◌<◌, ◌≤◌, Bool, true, false, eqb, List, [], ◌∷◌, ◌++◌, length, get_or, take, drop, refl, sym, ap, subst, ◌∙◌, arith}
-use Rattle.std.specs.Prelude.{not, ◌&&◌, cond, Option, Some, None}
+use Rattle.std.proofs.Common.{◌≡◌, ℕ, ◌+◌, ◌-◌, ◌<◌, Bool, true, false, eqb, List, [], ◌∷◌, ◌++◌, length, get_or, take, drop, refl, sym, ap, subst, ◌∙◌, arith}
+use Rattle.std.specs.Prelude.{not, ◌&&◌, Option, Some, None}
 use Rattle.std.specs.List.{list_all}
 use Rattle.std.proofs.lemmas.Bool.{and_parts}
 use Rattle.std.proofs.lemmas.List.{append-nil, drop_more, take_all, length-drop, length-append}
@@ -45,9 +45,9 @@ whole inside separator [] h = nil_split inside separator
 whole inside separator (b ∷ bytes) h =
     let s = and_parts (is_other separator b) (list_all (is_other separator) bytes) h in
     go (eqb b 34) refl (not_so (eqb b separator) s.0) (λ i. whole i separator bytes s.1) where
-  go : (x : Bool) → eqb b 34 ≡ x → eqb b separator ≡ false → ((i : Bool) → split i separator bytes ≡ bytes ∷ []) → split inside separator (b ∷ bytes) ≡ (b ∷ bytes) ∷ []
-  go true q n again = split_quote inside separator b bytes q ∙ ap (onto_first (b ∷ [])) (again (not inside))
-  go false q n again = split_plain inside separator b bytes q (ap (λ (x : Bool). x && not inside) n) ∙ ap (onto_first (b ∷ [])) (again inside)
+      go : (x : Bool) → eqb b 34 ≡ x → eqb b separator ≡ false → ((i : Bool) → split i separator bytes ≡ bytes ∷ []) → split inside separator (b ∷ bytes) ≡ (b ∷ bytes) ∷ []
+      go true q n again = split_quote inside separator b bytes q ∙ ap (onto_first (b ∷ [])) (again (not inside))
+      go false q n again = split_plain inside separator b bytes q (ap (λ (x : Bool). x && not inside) n) ∙ ap (onto_first (b ∷ [])) (again inside)
 
 plainly : (separator : ℕ) (front rest : List ℕ) → eqb separator 34 ≡ false → list_all (is_other separator) front ≡ true → list_all (is_other 34) front ≡ true
     → split false separator (front ++ separator ∷ rest) ≡ front ∷ split false separator rest

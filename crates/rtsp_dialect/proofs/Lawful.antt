@@ -1,20 +1,18 @@
 -- The laws over repairs.
-use Rattle.std.proofs.Common.{◌≡◌, ◌⊎◌, ℕ, ◌+◌, ◌*◌, ◌<◌, ◌≤◌, ◌^◌, ◌%◌, Bool, true, false, cond, List, [], ◌∷◌, length, map, nat_lt, Option, Some, None, refl, sym, ap, subst, ◌∙◌, arith, lit<, inl, inr}
+use Rattle.std.proofs.Common.{◌≡◌, ◌⊎◌, ℕ, ◌<◌, ◌^◌, ◌%◌, Bool, true, false, cond, List, [], ◌∷◌, length, map, nat_lt, Option, Some, None, refl, sym, ap, subst, ◌∙◌, arith, inl, inr}
 use Rattle.std.specs.Prelude.{not, ◌&&◌, ◌||◌, filter, is_some, decimal}
 use Rattle.std.specs.List.{list_any, AllByRecursion}
 use Rattle.std.proofs.lemmas.Bool.{le-ltb, lt-ltb, ltb-true, ltb-false}
 use Rattle.std.proofs.lemmas.Fmt.{decimal_is_IsNumeral, length-decimal-le}
-use Rattle.rtsp_text.specs.Decimal.{SpellsNumber, number_of}
+use Rattle.rtsp_text.specs.Decimal.{SpellsNumber}
 use Rattle.rtsp_text.proofs.DecimalLemmas.{numbers}
 use Rattle.rtsp_grammar.specs.Header.{HeaderText}
-use Rattle.rtsp_grammar.specs.declared.message.Request.{Request}
-use Rattle.rtsp_transport.specs.Transport.{SpellsTransport}
 use Rattle.rtsp_transport.specs.declared.spec.Spec.{Spec}
 use Rattle.rtsp_dialect.specs.Startup.{long_startup, startup_or, repaired_startup}
 use Rattle.rtsp_dialect.specs.ClientPort.{is_old, repaired_spec}
 use Rattle.rtsp_dialect.specs.ClientPortText.{has_old, repaired_transport}
-use Rattle.rtsp_dialect.specs.Repair.{is_startup, is_transport, needs_repair, repaired_value, repaired_header, repaired}
-use Rattle.rtsp_dialect.specs.Within.{IsStartup, IsTransport, IsValue, IsHeader, HasNoClientPort, IsWithin, IsSpoken}
+use Rattle.rtsp_dialect.specs.Repair.{is_startup, is_transport, needs_repair, repaired_value, repaired_header}
+use Rattle.rtsp_dialect.specs.Within.{IsStartup, IsTransport, IsValue, IsHeader, HasNoClientPort}
 use Rattle.rtsp_dialect.specs.Laws.{RepairsToItself, RepairedIsWithin, RestStays, SaysTheSame, is_other}
 use Rattle.rtsp_dialect.proofs.Ports.{pair_some, says_ports}
 use Rattle.rtsp_dialect.proofs.Reading.{value_has_old}

@@ -1,21 +1,21 @@
 -- Two ports, and the addresses in their place.
-use Rattle.std.proofs.Common.{◌≡◌, ℕ, ◌<◌, ◌≤◌, Bool, true, false, cond, eqb, List, [], ◌∷◌, ◌++◌, length, Option, Some, None, refl, sym, ap, subst, ◌∙◌, append_assoc, arith}
-use Rattle.std.specs.Prelude.{◌&&◌, ◌||◌, not, nat_le, codes}
+use Rattle.std.proofs.Common.{◌≡◌, ℕ, ◌<◌, ◌≤◌, Bool, true, false, cond, List, [], ◌∷◌, ◌++◌, Option, Some, None, refl, ap, subst, append_assoc}
+use Rattle.std.specs.Prelude.{◌&&◌, nat_le, codes}
 use Rattle.std.specs.Char.{is_ascii_digit}
 use Rattle.std.specs.List.{list_all}
-use Rattle.std.proofs.lemmas.Bool.{leb-true, le-leb, and_parts}
+use Rattle.std.proofs.lemmas.Bool.{leb-true, le-leb}
 use Rattle.rtsp_text.specs.Bytes.{is_other}
 use Rattle.rtsp_text.specs.Options.{◌>>=◌}
 use Rattle.rtsp_text.specs.SplitOnce.{split_once}
 use Rattle.rtsp_text.specs.Decimal.{SpellsNumber, number_of}
-use Rattle.rtsp_text.proofs.ByteLemmas.{all_other, all_joined}
+use Rattle.rtsp_text.proofs.ByteLemmas.{all_other}
 use Rattle.rtsp_text.proofs.DecimalLemmas.{numbers, digit_bytes}
 use Rattle.rtsp_text.proofs.FindsLemmas.{chain_found, sound_at}
 use Rattle.rtsp_text.proofs.SplitLemmas.{split_parts, split_found}
-use Rattle.rtsp_transport.specs.Address.{Place, Places, SpellsPlace, SpellsPlaces, port_in, port_of}
-use Rattle.rtsp_dialect.specs.ClientPort.{port_pair, addresses_text}
+use Rattle.rtsp_transport.specs.Address.{SpellsPlace, port_in, port_of}
+use Rattle.rtsp_dialect.specs.ClientPort.{port_pair}
 use Rattle.rtsp_dialect.specs.Within.{SpellsPorts}
-use Rattle.rtsp_dialect.specs.Laws.{SaysPorts, ports_only}
+use Rattle.rtsp_dialect.specs.Laws.{SaysPorts}
 
 -- digits of a port from 1 to 65,535
 pub record IsPort (digits : List ℕ) (n : ℕ) : Type 0 where

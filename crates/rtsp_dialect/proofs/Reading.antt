@@ -1,15 +1,13 @@
 -- What the parts of a Transport header spell.
-use Rattle.std.proofs.Common.{◌≡◌, ℕ, Bool, true, false, List, [], ◌∷◌, ◌++◌, map, Option, Some, None, refl, sym, ap, ◌∙◌}
+use Rattle.std.proofs.Common.{◌≡◌, ℕ, Bool, false, List, [], ◌∷◌, ◌++◌, map, Option, Some, None, refl, ap, ◌∙◌}
 use Rattle.std.specs.Prelude.{◌||◌}
 use Rattle.std.specs.List.{list_any}
 use Rattle.rtsp_text.specs.Trim.{trimmed}
-use Rattle.rtsp_text.specs.SplitOnce.{split_once}
 use Rattle.rtsp_text.proofs.PaddingLemmas.{padded_only}
 use Rattle.rtsp_text.proofs.SplitLemmas.{split_found, split_missed}
 use Rattle.rtsp_transport.specs.Paired.{Paired}
 use Rattle.rtsp_transport.specs.Split.{split}
 use Rattle.rtsp_transport.specs.Transport.{SpellsParameter, SpellsSpec, SpellsTransport}
-use Rattle.rtsp_transport.specs.TransportReading.{named}
 use Rattle.rtsp_transport.specs.declared.spec.Parameter.{Parameter}
 use Rattle.rtsp_transport.specs.declared.spec.Spec.{Spec}
 use Rattle.rtsp_transport.proofs.PartsLemmas.{split_only}

@@ -1,5 +1,5 @@
 -- The desk of one who answers repaired requests stays the same in its parts.
-use Rattle.std.proofs.Common.{◌≡◌, ◌⊎◌, ℕ, List, Result, OnOk, IfErr, Ok, Err, refl, sym, subst, ◌∙◌, inl, inr}
+use Rattle.std.proofs.Common.{ℕ, List, Result, OnOk, IfErr, Ok, Err, refl, sym, subst, ◌∙◌, inl, inr}
 use Rattle.rtsp_grammar.specs.declared.fault.MessageFault.{MessageFault}
 use Rattle.rtsp_grammar.specs.declared.message.Item.{Item}
 use Rattle.rtsp_engine.specs.Desk.{SameParts}

@@ -1,13 +1,13 @@
 -- Repaired specifications say what they said.
-use Rattle.std.proofs.Common.{◌≡◌, ◌≢◌, ℕ, ◌≤◌, Bool, true, false, cond, List, [], ◌∷◌, ◌++◌, length, map, Option, Some, None, refl, sym, ap, subst, ◌∙◌}
-use Rattle.std.specs.Prelude.{not, ◌&&◌, ◌||◌, codes, filter, is_some}
+use Rattle.std.proofs.Common.{◌≡◌, ◌≢◌, ℕ, ◌≤◌, Bool, true, false, cond, List, [], ◌∷◌, map, Option, Some, None, refl, sym, ap, subst, ◌∙◌}
+use Rattle.std.specs.Prelude.{not, ◌&&◌, ◌||◌, filter, is_some}
 use Rattle.std.specs.List.{list_any, join_with_byte, AllByRecursion}
 use Rattle.std.proofs.lemmas.Bool.{and_parts}
 use Rattle.std.proofs.lemmas.List.{length-map}
 use Rattle.rtsp_text.specs.Options.{◌>>=◌}
 use Rattle.rtsp_transport.specs.Names.{is_udp}
 use Rattle.rtsp_transport.specs.Paired.{Paired}
-use Rattle.rtsp_transport.specs.Split.{IsPart, IsSplit, split}
+use Rattle.rtsp_transport.specs.Split.{IsPart, split}
 use Rattle.rtsp_transport.specs.Transport.{SpellsParameter, SpellsSpec, SpellsTransport}
 use Rattle.rtsp_transport.specs.declared.spec.Parameter.{Parameter}
 use Rattle.rtsp_transport.specs.declared.spec.Spec.{Spec}
@@ -15,7 +15,7 @@ use Rattle.rtsp_dialect.specs.ClientPort.{port_pair, is_client_port, client_port
 use Rattle.rtsp_dialect.specs.ClientPortText.{parameter_in, is_old_text, address_part, repaired_part, repaired_parts, repaired_spec_text, has_old, repaired_transport}
 use Rattle.rtsp_dialect.specs.Within.{HasNoClientPort}
 use Rattle.rtsp_dialect.proofs.Ports.{IsPair, pair_found}
-use Rattle.rtsp_dialect.proofs.Quoted.{pieces, together, address, address_among_parameters, address_among_specs, address_padded}
+use Rattle.rtsp_dialect.proofs.Quoted.{pieces, together, address_among_parameters, address_among_specs, address_padded}
 use Rattle.rtsp_dialect.proofs.Reading.{parameter_read, spec_parts, text_is_old, value_parts, value_has_old}
 use Rattle.rtsp_dialect.proofs.Rewritten.{plain_spec, plain_transport}
 

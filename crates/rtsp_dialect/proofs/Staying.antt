@@ -1,5 +1,5 @@
 -- What needs no repair stays.
-use Rattle.std.proofs.Common.{◌≡◌, ℕ, Bool, true, false, List, [], ◌∷◌, map, Option, Some, None, refl, sym, ap, ◌∙◌}
+use Rattle.std.proofs.Common.{◌≡◌, ℕ, Bool, true, false, List, [], ◌∷◌, map, Option, Some, None, refl, ap, ◌∙◌}
 use Rattle.std.specs.Prelude.{◌||◌, ◌&&◌, is_some, cond}
 use Rattle.std.specs.List.{list_any}
 use Rattle.rtsp_grammar.specs.Header.{HeaderText}

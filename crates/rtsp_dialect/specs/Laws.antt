@@ -1,9 +1,9 @@
 -- What a repair changes, and what stays.
-use Rattle.std.specs.Prelude.{◌≡◌, ◌<◌, ◌%◌, ℕ, Bool, true, false, not, ◌||◌, List, [], ◌++◌, length, map, filter, Option, Some}
+use Rattle.std.specs.Prelude.{◌≡◌, ◌<◌, ◌%◌, ℕ, Bool, not, ◌||◌, List, [], length, map, filter, Some}
 use Rattle.rtsp_text.specs.Decimal.{SpellsNumber}
 use Rattle.rtsp_grammar.specs.Header.{HeaderText}
 use Rattle.rtsp_grammar.specs.declared.message.Request.{Request}
-use Rattle.rtsp_transport.specs.Address.{Place, Places, SpellsPlaces}
+use Rattle.rtsp_transport.specs.Address.{Places, SpellsPlaces}
 use Rattle.rtsp_transport.specs.Transport.{SpellsTransport}
 use Rattle.rtsp_transport.specs.declared.spec.Spec.{Spec}
 use Rattle.rtsp_dialect.specs.Startup.{repaired_startup}

@@ -1,6 +1,5 @@
 -- A request as a player writes it, in the terms of RFC 7826.
 use Rattle.std.specs.Prelude.{ℕ, Bool, ◌&&◌, is_some, map, List, codes, if◌then◌else◌}
-use Rattle.std.specs.List.{list_any}
 use Rattle.rtsp_grammar.specs.Header.{HeaderText, is_named}
 use Rattle.rtsp_grammar.specs.declared.message.Item.{Item}
 use Rattle.rtsp_grammar.specs.declared.message.Item.TheVariants as items

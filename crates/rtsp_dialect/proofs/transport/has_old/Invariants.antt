@@ -1,4 +1,4 @@
-use Rattle.std.proofs.Common.{◌≡◌, false}
+use Rattle.std.proofs.Common.{◌≡◌}
 use Rattle.std.specs.List.{list_any}
 use Rattle.rtsp_text.specs.Slices.{held}
 use Rattle.rtsp_dialect.specs.ClientPortText.{is_old_text, has_old}
