@@ -1,7 +1,6 @@
 //! A server of one connection.
 
-ghost use Rattle.rtsp_lock.specs.Calls.{IsSeatOf, seat_view};
-ghost use Rattle.rtsp_admit.specs.Numbers.{OwnsAll};
+ghost use Rattle.rtsp_lock.specs.Calls.{IsSeatOf};
 
 use rtsp_book::Kept;
 use rtsp_command_line::Exit;
@@ -27,11 +26,13 @@ pub(crate) struct OneConnection {
     table: Table,
     asker: Asker,
     ghost ours: { IsSeatOf seat lock },
-    ghost owns: { OwnsAll (seat_view seat) },
 }
 
 impl OneConnection {
     // Not at the head of the file: the struct imports what stands there.
+    ghost use Rattle.std.specs.Prelude.{IfOk};
+    ghost use Rattle.rtsp_lock.specs.Calls.{seat_view};
+    ghost use Rattle.rtsp_admit.specs.Numbers.{OwnsAll};
     ghost use Rattle.rtspd.specs.Served.{ServesCleanly};
 
     /// One of which nothing was asked yet. Its connection has the first number.
@@ -39,7 +40,9 @@ impl OneConnection {
         rt: &R,
         alloc: Global,
         table: Table,
-    ) -> Result<OneConnection, Exit> {
+    ) -> Result<OneConnection, Exit>
+        ensures { IfOk result (λ c. OwnsAll (seat_view c.seat)) }
+    {
         law_owns_all();
         let whole = whole_of(&table);
         let Ok((lock, mut seat)) = open(alloc, &whole) else {
@@ -70,6 +73,7 @@ impl OneConnection {
         writer: &mut O,
         turns: u64,
     ) -> ServeEnd
+        requires { OwnsAll (seat_view self.old.seat) }
         ensures { ServesCleanly R I.remaining O.contents result reader.old reader.new writer.old writer.new (seat_view self.old.seat) (seat_view self.new.seat) }
     {
         let mut clock = StandingClock;
