@@ -248,7 +248,8 @@ fn a_checkpoint_is_made_where_it_pays(rt: HostRuntime) -> Result<(), Fail> {
     for turn in 0..1_004u64 {
         kept.act(0, &step(Asked::Touch(2, 60_001 + turn)))?;
     }
-    assert!(rt; kept.journal().len() == 2 * kept.book().owed() + CHECKPOINT_SLACK);
+    // Twice the four returns that are owed, and the slack.
+    assert!(rt; kept.book().owed() == 4 && kept.journal().len() == 8 + CHECKPOINT_SLACK);
     assert!(rt; !kept.relieve(0) && kept.rounds() == 0);
     kept.act(0, &step(Asked::Touch(2, 70_000)))?;
     assert!(rt; !kept.relieve(1_009) && kept.rounds() == 0);
