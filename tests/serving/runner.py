@@ -25,8 +25,8 @@ CALM_WITHIN = 60.0
 
 
 class Test(NamedTuple):
-    """A test: what it does, in how many seconds it has to end, how often it is tried, whether it takes a minute, and
-    whether it holds milliseconds, for which nothing may run beside it."""
+    """A test: what it does, in how many seconds it has to end, how often it is tried, whether it takes a minute,
+    whether it holds milliseconds, for which nothing may run beside it, and whether it is run by its name alone."""
 
     name: str
     test: Callable[[Checks], None]
@@ -34,6 +34,7 @@ class Test(NamedTuple):
     tries: int
     is_long: bool
     is_alone: bool
+    is_by_name: bool
 
 
 TESTS: Dict[str, Test] = {}
@@ -43,12 +44,14 @@ GRACE = 10
 running_tests: Set[int] = set()
 
 
-def serving_test(limit: int, is_timed: bool = False, is_long: bool = False, is_alone: bool = False):
+def serving_test(
+    limit: int, is_timed: bool = False, is_long: bool = False, is_alone: bool = False, is_by_name: bool = False
+):
     """Marks a function as a test; its name is the test's."""
 
     def marked(test: Callable[[Checks], None]) -> Callable[[Checks], None]:
         tries = ALONE_TRIES if is_alone else TRIES if is_timed else 1
-        TESTS[test.__name__] = Test(test.__name__, test, limit, tries, is_long, is_alone)
+        TESTS[test.__name__] = Test(test.__name__, test, limit, tries, is_long, is_alone, is_by_name)
         return test
 
     return marked
@@ -121,8 +124,10 @@ def run_beside(script: pathlib.Path, checks: Checks, chosen: List[Test], side_by
 
 
 def run_all(script: pathlib.Path, checks: Checks) -> None:
-    """Runs all tests, with RTSPD_FAST those that take no minute: last, one by one, those that hold milliseconds."""
-    chosen = [test for test in TESTS.values() if not (test.is_long and os.environ.get("RTSPD_FAST"))]
+    """Runs all tests but those by name, with RTSPD_FAST those that take no minute: last, one by one, those that hold
+    milliseconds."""
+    is_fast = bool(os.environ.get("RTSPD_FAST"))
+    chosen = [test for test in TESTS.values() if not (test.is_by_name or test.is_long and is_fast)]
     run_beside(script, checks, [test for test in chosen if not test.is_alone], SIDE_BY_SIDE)
     run_beside(script, checks, [test for test in chosen if test.is_alone], 1)
 
