@@ -165,10 +165,7 @@ fn finds_the_media(rt: HostRuntime) -> Result<(), Fail> {
         )?;
         let text = text.as_str().replacen(rt.alloc(), "disc.raw", file, 1)?;
         let table = Table::read_at(rt.alloc(), text.as_bytes(), config)?;
-        assert!(rt;
-            matches!(first_track(&table), Some(it) if it.file() == path),
-            "{path}"
-        );
+        assert!(rt; matches!(first_track(&table), Some(it) if it.file() == path));
     }
     let table = Table::read_at(rt.alloc(), EXAMPLE.as_bytes(), "/etc/rtspd.toml")?;
     assert!(rt; matches!(first_track(&table), Some(it) if it.file() == "tone-a.raw"));
