@@ -132,7 +132,8 @@ def players_at_once(checks: Checks) -> None:
     """One over UDP, one over one port and one over its connection, each with ten seconds of tone and a pause in them."""
     with Witness() as witness, Server(checks) as server:
         played: List[Played] = []
-        tasks = [lambda way=way: played.extend(play_with_a_pause(checks, server, way)) for way in (Way.UDP, Way.ONE_PORT, Way.TCP)]
+        ways = (Way.UDP, Way.ONE_PORT, Way.TCP)
+        tasks = [lambda way=way: played.extend(play_with_a_pause(checks, server, way)) for way in ways]
         side_by_side(checks, *tasks)
         punctuality = Punctuality(checks, witness.stalls())
         for where, came, first in played:
