@@ -9,8 +9,11 @@ mod books;
 #[cfg(test)]
 mod checkpoints;
 #[cfg(test)]
+mod checkpoints_at_lock;
 #[cfg(test)]
 mod forgetting;
+#[cfg(test)]
+mod full_journals;
 #[cfg(test)]
 mod journals;
 #[cfg(test)]
