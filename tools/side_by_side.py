@@ -1,8 +1,8 @@
 """Proves the crates below the program side by side, in copies of the tree.
 
 `rt` lets one command at a time work on a crate and on all that it rests on, and `rt all` gives each crate one job. So a
-crate is proved in a copy of the tree that has it and the crates below it, these as they were proved, and gets as many
-jobs as there are cores for it. The one with the longest chain of crates above it goes first, and gets most of them.
+crate is proved in a copy of the tree that has it and the crates below it, these as they were proved. Those that lie on a
+long chain of crates get most of the jobs, and the others one each of what these leave, of jobs and of the cores.
 """
 import collections
 import contextlib
@@ -27,6 +27,10 @@ MEMORY_OF_A_JOB = 2_000_000_000
 MOST_JOBS = 8
 # What a crate costs beside its own code, in bytes of code: all that lies below is read.
 READING = 40_000
+# The part of the longest chain that makes another one long.
+NEARLY = 0.95
+# How a command is run that gets only what others leave of the cores.
+AFTER_OTHERS = ["nice", "-n", "10"]
 # Lines of rt that say nothing to someone who looks for what went wrong.
 PLAIN = re.compile(
     r"(statements|library|logic|crate|axioms|linked|by-macro:|so far:) ?"
@@ -61,20 +65,37 @@ def below(name: str, uses: Uses) -> Set[str]:
     return {it for used in uses[name] for it in {used, *below(used, uses)}}
 
 
+def cost(name: str) -> int:
+    """What the proof of a crate costs, by its code."""
+    return READING + sum(it.stat().st_size for it in crate_of(TOP, name).glob("src/**/*.rt"))
+
+
 def chains(uses: Uses) -> Dict[str, int]:
     """What the longest chain of crates from each crate upwards costs, itself included."""
     found: Dict[str, int] = {}
 
     def chain(name: str) -> int:
         if name not in found:
-            files = (TOP / "crates" / name / "src").rglob("*.rt")
-            above = [chain(it) for it in uses if name in uses[it]]
-            found[name] = READING + sum(it.stat().st_size for it in files) + max(above, default=0)
+            found[name] = cost(name) + max((chain(it) for it in uses if name in uses[it]), default=0)
         return found[name]
 
     for name in uses:
         chain(name)
     return found
+
+
+def on_long_chains(uses: Uses) -> Set[str]:
+    """The crates that lie on a chain nearly as long as the longest one: these make a build as long as it is."""
+    upwards = chains(uses)
+    downwards: Dict[str, int] = {}
+
+    def chain(name: str) -> int:
+        """What the longest chain below a crate costs."""
+        if name not in downwards:
+            downwards[name] = max((cost(it) + chain(it) for it in uses[name]), default=0)
+        return downwards[name]
+
+    return {it for it in uses if upwards[it] + chain(it) >= NEARLY * max(upwards.values())}
 
 
 def free_memory() -> int:
@@ -106,14 +127,16 @@ def functions_kept(folder: pathlib.Path, crate: str, since: float) -> int:
 class Run:
     """A command of rt in a folder, and the last lines of it that say something."""
 
-    def __init__(self, name: str, folder: pathlib.Path, words: List[str], lines: "queue.Queue") -> None:
+    def __init__(
+        self, name: str, folder: pathlib.Path, words: List[str], lines: "queue.Queue", is_urgent: bool = True
+    ) -> None:
         self.name, self.folder = name, folder
         self.tail: Deque[str] = collections.deque(maxlen=40)
         # How many functions rt says that the crate has.
         self.count = 0
         self.began = time.time()
         self.process = subprocess.Popen(
-            ["rt", *words],
+            [*([] if is_urgent else AFTER_OTHERS), "rt", *words],
             cwd=folder,
             stdin=subprocess.DEVNULL,
             stdout=subprocess.PIPE,
@@ -229,6 +252,7 @@ class Libraries:
 
     def __init__(self, uses: Uses, program: str) -> None:
         self.uses, self.chains = uses, chains(uses)
+        self.long_ones = on_long_chains(uses)
         self.left = {it for it in uses if it != program}
         self.proved: Set[str] = set()
         self.free: List[Tree] = []
@@ -239,23 +263,23 @@ class Libraries:
         """Whether more than one of them was never built."""
         return sum(not (crate_of(TOP, it) / "out/rlib/stamp").exists() for it in self.left) > 1
 
-    def jobs_for(self, name: str, idle: int, others: int) -> int:
-        """How many of the idle jobs a crate gets that others, with shorter chains, could use too: all but one where its
-        chain is the longest of all, and else its share."""
-        is_first = self.chains[name] > max((self.chains[it.name] for it in self.running), default=0)
-        return max(1, min(idle - min(others, 1) if is_first else idle // (others + 1), MOST_JOBS))
+    def jobs_for(self, name: str, at_once: int) -> int:
+        """How many jobs a crate gets that can begin, if any. One on a long chain gets all but one, or two where there are
+        only two, whatever else is at work: nobody can give it more later."""
+        if name in self.long_ones:
+            return min(max(at_once - 1, 2), MOST_JOBS)
+        return min(1, max(0, at_once - sum(self.jobs.values())))
 
     def start_some(self, folder: str, at_once: int, lines: "queue.Queue") -> None:
         """Starts those that rest on proved crates alone, as long as there are jobs for them."""
         ready = [it for it in self.left if self.proved.issuperset(self.uses[it])]
         ready.sort(key=lambda it: -self.chains[it])
-        for number, name in enumerate(ready):
-            idle = at_once - sum(self.jobs.values())
-            if idle < 1:
-                break
-            jobs = self.jobs_for(name, idle, len(ready) - number - 1)
+        for name in ready:
+            jobs = self.jobs_for(name, at_once)
+            if not jobs:
+                continue
             tree = self.free.pop() if self.free else Tree(self.uses, folder)
-            run = Run(name, tree.begin(name), ["lib", "--jobs", str(jobs)], lines)
+            run = Run(name, tree.begin(name), ["lib", "--jobs", str(jobs)], lines, is_urgent=name in self.long_ones)
             self.left.remove(name)
             self.running[run], self.jobs[run] = tree, jobs
 
