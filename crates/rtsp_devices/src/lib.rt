@@ -1,17 +1,20 @@
 //! What a program has in place of sockets, random words, a clock and whoever sends plays, where its
-//! answers are to be the same in each run.
+//! answers are to be the same in each run; and the server of one connection over them, in `alone`.
 //!
 //! The definitions of `specs/` read in this order: PortSet (which ports are bound), Has (what of
-//! that an admission changes), CountedWords (words that are counted).
+//! that an admission changes), CountedWords (words that are counted), Alone (how one connection is
+//! served from a book of its own).
 
 #![tactic(auto)]
 
+mod alone;
 mod counted_words;
 mod laws;
 mod no_plays;
 mod port_set;
 mod standing_clock;
 
+pub use alone::{Conversation, serve_alone};
 pub use counted_words::CountedWords;
 pub use laws::{law_admitted_gains_ports, law_ports_show, law_refused_keeps_ports};
 pub use no_plays::NoPlays;

@@ -1,14 +1,12 @@
 //! The server's programs: a conversation over a reader and a writer, the audit of a journal, and
 //! the server of a socket.
 //!
-//! `running` runs a command line of rtsp_command_line; `one_connection` is the server behind
-//! standard input and output, over the devices of rtsp_devices; `serving` is that of a socket, and
-//! `reasons` tells why there is none.
+//! `running` runs a command line of rtsp_command_line: the server behind standard input and output
+//! is that of rtsp_devices; `serving` is that of a socket, and `reasons` tells why there is none.
 
 #![tactic(auto)]
 
 mod example;
-mod one_connection;
 mod reasons;
 mod running;
 mod serving;

@@ -2,11 +2,11 @@
 //! of a journal, and the server.
 
 use crate::example::EXAMPLE;
-use crate::one_connection::OneConnection;
 use crate::serving::run_serve;
 use rtsp_book::PlainBook;
 use rtsp_command_line::{CommandLine, Exit, read_words};
 use rtsp_content::{Table, TableFault};
+use rtsp_devices::{Conversation, serve_alone};
 use rtsp_engine::{ByteOut, CountedReader, CountedWriter, ServeEnd, StreamFault, TURNS};
 use rtsp_grammar::MessageFault;
 use rtsp_record::{Entry, JournalFault, read_journal, write_journal};
@@ -156,14 +156,16 @@ fn run_stdio<R: Files + AllocGlobal + Wait, I: Read + Drop, O: Write + Drop>(
     writer: O,
 ) -> Result<(), Exit> {
     let table = read_table(rt, config)?;
-    let mut connection = OneConnection::open(rt, rt.alloc(), table)?;
     let mut reader = CountedReader::new(reader);
     let mut writer = CountedWriter::new(writer);
-    let end = connection.serve(rt, rt.alloc(), &mut reader, &mut writer, TURNS);
+    let Ok(conversation) = serve_alone(rt, rt.alloc(), &table, &mut reader, &mut writer, TURNS)
+    else {
+        return Err(Exit::OutOfMemory);
+    };
+    let Conversation { end, mut kept } = conversation;
     // The journal is written however serving ended; the first fault is returned.
     let written = match journal {
         Some(path) => {
-            let mut kept = connection.finish(rt);
             if forget {
                 kept.forget();
             }

@@ -1,0 +1,54 @@
+-- How one connection is served alone, from a book of its own.
+use Rattle.std.specs.Prelude.{◌≡◌, ⊤, ℕ, ◌+◌, ◌*◌, ◌^◌, List, [], Option}
+use Rattle.rtsp_content.specs.TableValue.{TableValue}
+use Rattle.rtsp_book.specs.Kept.{History}
+use Rattle.rtsp_lock.specs.Calls.{seat_view, Found}
+use Rattle.rtsp_admit.specs.Numbers.{OwnsAll}
+use Rattle.rtsp_engine.specs.Additions.{GrowsBy, end_records}
+use Rattle.rtsp_engine.specs.DeskAnswers.{EndsAt}
+use Rattle.rtsp_engine.specs.Devices.{Devices, devices}
+use Rattle.rtsp_engine.specs.Numbers.{EndsCleanly}
+use Rattle.rtsp_engine.specs.Served.{line, parts}
+use Rattle.rtsp_engine.specs.declared.desk.Desk.{Desk}
+use Rattle.rtsp_engine.specs.declared.serving.ServeEnd.{ServeEnd}
+use Rattle.rtsp_devices.specs.declared.port_set.PortSet.{PortSet}
+use Rattle.rtsp_devices.specs.declared.counted_words.CountedWords.{CountedWords}
+use Rattle.rtsp_devices.specs.declared.standing_clock.StandingClock.{StandingClock}
+use Rattle.rtsp_devices.specs.declared.no_plays.NoPlays.{NoPlays}
+use Rattle.rtsp_devices.specs.PortSet as port_set
+use Rattle.rtsp_devices.specs.PortSet.{NoneBound}
+use Rattle.rtsp_devices.specs.CountedWords as counted_words
+
+-- what it has in place of sockets, words and a clock; nobody learns of its plays
+abbrev pub stdio_devices : Devices PortSet CountedWords StandingClock NoPlays
+stdio_devices =
+    devices port_set.calls counted_words.calls (λ b moment c. moment ≡ 0)
+    (record { notes = λ b session cseq uri c. ⊤; lacks = λ b c. ⊥; settles = λ b accepted c. ⊤ })
+
+-- the address of the player at standard input: 127.0.0.1
+abbrev pub local_host : ℕ
+local_host = 127 * 2 ^ 24 + 1
+
+module _ {R : Type 0} where
+  -- a desk from which nothing was answered yet: its seat is the only one of its lock, whose journal is empty; no port is bound, no word was given
+  pub record IsFresh (table : TableValue) (desk : Desk R PortSet CountedWords StandingClock NoPlays) : Type 0 where
+    pub content : desk.table.now ≡ table
+    pub player : desk.asker.peer ≡ local_host
+    pub owns : OwnsAll (seat_view desk.seat.now)
+    pub seen : (seat_view desk.seat.now).seen ≡ []
+    pub mine : (seat_view desk.seat.now).mine ≡ []
+    pub ports : NoneBound table.server.first_port table.server.pairs desk.binder.now
+    pub words : desk.words.now ≡ record { ids = 0; ssrcs = 0; failed = 0 }
+
+-- a connection was served to this end, from a fresh desk over this content: what was written is, in order, the answers to what was read; of each
+-- SETUP that was refused nothing is left; the seat's entries are the records of the replies, and the journal that is kept is what that seat saw last
+pub record ServedAlone (R : Type 0) {I O : Type 0} (remaining : I → Option (List ℕ)) (contents : O → Option (List ℕ)) (table : TableValue) (end : ServeEnd) (kept : History) (i j : I) (o p : O) : Type 0 where
+  pub first : Desk R PortSet CountedWords StandingClock NoPlays
+  pub last : Desk R PortSet CountedWords StandingClock NoPlays
+  pub fresh : IsFresh table first
+  pub ends : EndsAt stdio_devices remaining contents end (parts i o first) (parts j p last)
+  pub cleanly : EndsCleanly stdio_devices remaining contents end (parts i o first) (parts j p last)
+  pub records : GrowsBy stdio_devices first last (end_records stdio_devices [] end (line remaining contents (parts i o first)) (line remaining contents (parts j p last)) ends)
+  pub owns : OwnsAll (seat_view last.seat.now)
+  pub journal : kept.journal ≡ (seat_view last.seat.now).seen
+  pub found : Found (seat_view last.seat.now) kept.journal kept.rounds
