@@ -5,7 +5,7 @@ use Rattle.rtsp_engine.specs.Visiting.{Visits, sides, serve_end}
 use Rattle.rtsp_engine.specs.declared.visiting.VisitEnd.TheVariants.{More, Waits, Closed, ReadFault}
 use Rattle.rtsp_engine.proofs.Batches.{Batch, batch_none, batch_more, batch_kept, delivered_visits, ended_visits, faults, moves, told_visits, wrote}
 use Rattle.rtsp_engine.proofs.Going.{progress_none}
-use Rattle.rtsp_engine.proofs.Pieces.{InPieces, no_pieces, one_piece, kept_pieces, reads_ended, reads_after}
+use Rattle.rtsp_engine.proofs.Pieces.{no_pieces, one_piece, kept_pieces, reads_ended, reads_after}
 use Rattle.rtsp_engine.proofs.visiting.visit.Goals as goal
 
 pub loop-count-init : goal.loop-count-init
@@ -135,7 +135,7 @@ loop-count-preserved g c =
     let moved = moves R L start pushed.new.input pushed.new.room.text c.deliver.new.room.text s u now more c.in-None.ensures.delivers in
     let batch = subst (λ (z : Serving). Batch R L start pushed.new.input c.deliver.new.room.text s (record { unread = u.unread; output = record { text = now; answerer = z } })) (sym c.in-None.ensures.same) moved in
     let pieces = one_piece c.loop-count._count c.in-Bytes.read (length c.args.buffer.now) _ _ _ c.read_piece.new.buffer
-        (omega (arith, c.loop-count.auto.buffer, c.read_piece.auto.buffer)) c.in-Bytes.ensures.bytes.0 c.in-Bytes.ensures.bytes.1 c.in-Bytes.ensures.bytes.2 c.loop-count.invariant.pieces in
+    (omega (arith, c.loop-count.auto.buffer, c.read_piece.auto.buffer)) c.in-Bytes.ensures.bytes.0 c.in-Bytes.ensures.bytes.1 c.in-Bytes.ensures.bytes.2 c.loop-count.invariant.pieces in
     record { batch = batch; undecided = λ first. c.in-Ok.ensures.undecided; reads = c.in-Bytes.ensures.cause ∙ at.invariant.reads; writes = c.in-None.ensures.cause ∙ at.invariant.writes; pieces = pieces }
 
 pub returns-clause-visited : goal.returns-clause-visited
@@ -169,19 +169,19 @@ pub returns-in-Err-clause-reads : goal.returns-in-Err-clause-reads
 returns-in-Err-clause-reads g c =
     reads_after c.tell.result c.loop-count._count c.args.pieces (length c.args.buffer.now) _ _ c.loop-count-test.true
     (one_piece c.loop-count._count c.in-Bytes.read (length c.args.buffer.now) _ _ _ c.read_piece.new.buffer
-        (omega (arith, c.loop-count.auto.buffer, c.read_piece.auto.buffer)) c.in-Bytes.ensures.bytes.0 c.in-Bytes.ensures.bytes.1 c.in-Bytes.ensures.bytes.2 c.loop-count.invariant.pieces)
+    (omega (arith, c.loop-count.auto.buffer, c.read_piece.auto.buffer)) c.in-Bytes.ensures.bytes.0 c.in-Bytes.ensures.bytes.1 c.in-Bytes.ensures.bytes.2 c.loop-count.invariant.pieces)
 
 pub returns-in-Some-clause-reads : goal.returns-in-Some-clause-reads
 returns-in-Some-clause-reads g c =
     reads_after c.in-Some.end c.loop-count._count c.args.pieces (length c.args.buffer.now) _ _ c.loop-count-test.true
     (one_piece c.loop-count._count c.in-Bytes.read (length c.args.buffer.now) _ _ _ c.read_piece.new.buffer
-        (omega (arith, c.loop-count.auto.buffer, c.read_piece.auto.buffer)) c.in-Bytes.ensures.bytes.0 c.in-Bytes.ensures.bytes.1 c.in-Bytes.ensures.bytes.2 c.loop-count.invariant.pieces)
+    (omega (arith, c.loop-count.auto.buffer, c.read_piece.auto.buffer)) c.in-Bytes.ensures.bytes.0 c.in-Bytes.ensures.bytes.1 c.in-Bytes.ensures.bytes.2 c.loop-count.invariant.pieces)
 
 pub returns-then-not-reads_all-clause-reads : goal.returns-then-not-reads_all-clause-reads
 returns-then-not-reads_all-clause-reads g c =
     reads_after c.ended-then-not-reads_all.result c.loop-count._count c.args.pieces (length c.args.buffer.now) _ _ c.loop-count-test.true
     (one_piece c.loop-count._count c.in-Bytes.read (length c.args.buffer.now) _ _ _ c.read_piece.new.buffer
-        (omega (arith, c.loop-count.auto.buffer, c.read_piece.auto.buffer)) c.in-Bytes.ensures.bytes.0 c.in-Bytes.ensures.bytes.1 c.in-Bytes.ensures.bytes.2 c.loop-count.invariant.pieces)
+    (omega (arith, c.loop-count.auto.buffer, c.read_piece.auto.buffer)) c.in-Bytes.ensures.bytes.0 c.in-Bytes.ensures.bytes.1 c.in-Bytes.ensures.bytes.2 c.loop-count.invariant.pieces)
 
 pub returns-clause-reads : goal.returns-clause-reads
 returns-clause-reads g c =
