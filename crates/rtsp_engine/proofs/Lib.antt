@@ -10,3 +10,4 @@ pub mod Strengthening
 pub mod Cleaning
 pub mod Along
 pub mod Batches
+pub mod Pieces

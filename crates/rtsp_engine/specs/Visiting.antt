@@ -1,5 +1,5 @@
 -- What one visit to a connection has read, answered and written, where neither reading nor writing waits.
-use Rattle.std.specs.Prelude.{◌≡◌, ◌<◌, ◌≤◌, ◌⊎◌, ℕ, List, [], length, take, Option, Some, None, Result, Ok, Err}
+use Rattle.std.specs.Prelude.{◌≡◌, ◌<◌, ◌≤◌, ◌*◌, ◌⊎◌, ℕ, List, [], length, take, Option, Some, None, Result, Ok, Err}
 use Rattle.std.specs.Io.KnownBytes.{Appends, Consumes, Keeps, IsAtEnd}
 use Rattle.rtsp_grammar.specs.Answer.{IsUndecided}
 use Rattle.rtsp_grammar.specs.declared.message.Item.{Item}
@@ -91,6 +91,22 @@ ClosesAtEnd Waits room left = Unit {0}
 ClosesAtEnd ReadFault room left = Unit {0}
 ClosesAtEnd WriteFault room left = Unit {0}
 ClosesAtEnd (Fault fault) room left = Unit {0}
+
+-- where there may be more to read some bytes were read, unless no piece was allowed
+abbrev pub ReadsSome : VisitEnd → ℕ → List ℕ → Type 0
+ReadsSome More pieces bytes = 0 < pieces → 0 < length bytes
+ReadsSome Waits pieces bytes = Unit {0}
+ReadsSome Closed pieces bytes = Unit {0}
+ReadsSome ReadFault pieces bytes = Unit {0}
+ReadsSome WriteFault pieces bytes = Unit {0}
+ReadsSome (Fault fault) pieces bytes = Unit {0}
+
+-- no more bytes were read than so many pieces of this length hold
+pub record ReadsPieces (end : VisitEnd) (pieces room : ℕ) (unread left : Option (List ℕ)) : Type 0 where
+  pub bytes : List ℕ
+  pub read : Consumes unread left bytes
+  pub most : length bytes ≤ pieces * room
+  pub some : ReadsSome end pieces bytes
 
 module _ (R : Serving → Item → List ℕ → Serving → Type 0) (L : Serving → Item → Serving → Type 0) where
   -- from a held start on, bytes were read; the items that they made whole were answered, and the answers are written; a rest is held,

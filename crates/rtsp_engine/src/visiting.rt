@@ -7,7 +7,7 @@ ghost use Rattle.rtsp_grammar.specs.declared.message.Item.{Item};
 ghost use Rattle.rtsp_engine.specs.Served.{Answered, FaultedAfter, Written, parts};
 ghost use Rattle.rtsp_engine.specs.Serving.{Serving};
 ghost use Rattle.rtsp_engine.specs.Streams.{HasCause, WritesPart};
-ghost use Rattle.rtsp_engine.specs.Visiting.{Reads, ReadsCounted, sides, gathers, ended, serve_end, Delivers, CountsWrite, CountsRead, CountsDelivery, ClosesAtEnd, Visits, VisitsChain};
+ghost use Rattle.rtsp_engine.specs.Visiting.{Reads, ReadsCounted, sides, gathers, ended, serve_end, Delivers, CountsWrite, CountsRead, CountsDelivery, ClosesAtEnd, ReadsPieces, Visits, VisitsChain};
 
 use crate::connection::Connection;
 use crate::fault_responses::fault_response;
@@ -179,6 +179,8 @@ pub fn visit<A: PieceAnswerer, I: PieceIn, O: ByteOut>(
     ensures write_fault { CountsWrite result (O.failures writer.old) (O.failures writer.new) }
     // The end of the input is told where the reader is at its end.
     ensures closed { ClosesAtEnd result (length buffer.new) (I.remaining reader.new) }
+    // At most so many pieces are read; and some of what is there, where there may be more.
+    ensures reads { ReadsPieces result pieces (length buffer.old) (I.remaining reader.old) (I.remaining reader.new) }
 {
     room.clear();
     for _count in 0..pieces {

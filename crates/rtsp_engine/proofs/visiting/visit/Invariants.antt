@@ -1,8 +1,9 @@
-use Rattle.std.proofs.Common.{◌≡◌}
+use Rattle.std.proofs.Common.{◌≡◌, length}
 use Rattle.rtsp_grammar.specs.Answer.{IsUndecided}
 use Rattle.rtsp_engine.specs.Served.{parts}
 use Rattle.rtsp_engine.specs.Visiting.{sides}
 use Rattle.rtsp_engine.proofs.Batches.{Batch}
+use Rattle.rtsp_engine.proofs.Pieces.{InPieces}
 use Rattle.rtsp_engine.proofs.visiting.visit.Given as goal
 
 abbrev pub invariant-loop-count : goal.invariant-loop-count
@@ -13,4 +14,5 @@ invariant-loop-count g l =
       undecided : IsUndecided l.fn.input → IsUndecided l.input;
       reads : g.I.PieceIn.failures l.reader ≡ g.I.PieceIn.failures l.fn.reader;
       writes : g.O.ByteOut.failures l.writer ≡ g.O.ByteOut.failures l.fn.writer;
+      pieces : InPieces l._count (length l.fn.buffer) (g.I.PieceIn.remaining l.fn.reader) (g.I.PieceIn.remaining l.reader);
     }
