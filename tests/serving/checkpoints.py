@@ -175,6 +175,29 @@ def a_session_outlives_its_journal(checks: Checks) -> None:
         other.close()
 
 
+# A journal with room for little more than two sessions with a track are owed, and have: a checkpoint never pays.
+FAR_TOO_SHORT = 40
+
+
+@serving_test(limit=30, is_by_name=True)
+def a_journal_far_too_short(checks: Checks) -> None:
+    """Whoever finds the journal full has a checkpoint made, and is answered, as long as that makes room."""
+    settings = {"pairs": 0, "sessions": 4, "uplink": 4 * ONE_TRACK.whole_rate, "journal": FAR_TOO_SHORT}
+    with Server(checks, ONE_TRACK, workers=2, **settings) as server:
+        talk, other = server.connect(), server.connect()
+        status, session = set_up(talk, server.uri)
+        checks.same("the SETUP of the one that lives", 200, status)
+        statuses = []
+        for number in range(10 * FAR_TOO_SHORT):
+            statuses.append(renewed(talk, server.uri, session))
+            if number % 10 == 0:
+                status, passing = set_up(other, server.uri)
+                statuses += [status, other.ask("TEARDOWN", server.uri, [("Session", passing)]).status]
+        checks.same("answers but 200", [], [it for it in statuses if it != 200])
+        talk.close()
+        other.close()
+
+
 # Connections that set up in one session at once, more than there are lanes.
 TOGETHER, UNDER_WAY_TOGETHER = 6, 20
 
