@@ -209,7 +209,7 @@ impl PacedPlay {
         let Some(view) = desk.look(self.session()) else {
             return Next::Never;
         };
-        match self.put_report(alloc, desk.rt, &view, presentation, moment) {
+        match self.put_report(alloc, desk, &view, presentation, moment) {
             Ok(()) => {
                 desk.paced.reported = desk.paced.reported.saturating_add(1);
                 Next::Never
@@ -221,7 +221,7 @@ impl PacedPlay {
     fn put_report<R: Wait>(
         &self,
         alloc: Global,
-        rt: &R,
+        desk: &PacerDesk<'_, R>,
         view: &SessionView,
         presentation: &Presentation,
         moment: u64,
@@ -229,12 +229,16 @@ impl PacedPlay {
         let Phase::Ended { .. } = view.phase() else {
             return Ok(());
         };
-        let NewPlay { noted, outlet } = &self.asked;
-        let cseq = outlet.next_cseq(rt);
+        let NewPlay { noted, conn } = &self.asked;
+        // A connection that was closed is told nothing.
+        let Some(outlet) = desk.parts.outlets.get(desk.rt, *conn) else {
+            return Ok(());
+        };
+        let cseq = outlet.next_cseq(desk.rt);
         let request = notify(alloc, &noted.uri, view, presentation, cseq, noted.cseq)?;
         let mut text = Vec::new(alloc);
         write_request(&mut text, &request)?;
-        outlet.put(rt, moment, Message::Response, text.as_slice());
+        outlet.put(desk.rt, moment, Message::Response, text.as_slice());
         Ok(())
     }
 }

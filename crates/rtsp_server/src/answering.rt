@@ -122,7 +122,7 @@ impl<R: Wait + Net + rt::Clock> PieceAnswerer for Front<'_, R> {
     // A play is handed over after its answer is written, so that no packet comes before it.
     fn has_written(&mut self) -> bool {
         self.plays
-            .hand_over(self.rt, &self.shared.bells, self.outlet);
+            .hand_over(self.rt, &self.shared.bells, self.asker.conn);
         self.outlet.waiting(self.rt) <= PAUSE
     }
 }
