@@ -58,6 +58,8 @@ pub(crate) struct Client {
     is_ending: bool,
     // Whether it is in its lane's queue.
     is_queued: bool,
+    // Whether it has been silent, or has owed the rest of a message, for too long.
+    is_over: bool,
     activity: Activity,
 }
 
@@ -134,6 +136,7 @@ impl Client {
             is_writable: false,
             is_ending: false,
             is_queued: false,
+            is_over: false,
             activity: Activity::new(service.now),
         })
     }
@@ -177,6 +180,9 @@ impl Client {
         lane: &mut BookHandle,
     ) -> Visit {
         self.is_queued = false;
+        if self.is_over {
+            return Visit::Ended;
+        }
         if self.is_writable && !self.flush(service) {
             return Visit::Ended;
         }
@@ -289,19 +295,25 @@ impl Client {
         }
     }
 
-    /// Closes the connection where the player takes nothing of what waits for it. Then the system
-    /// tells of its end.
-    pub(crate) fn close_stalled<R: Wait>(&self, service: &Service<'_, R>) {
-        self.outlet.close_stalled(service.rt, service.now);
+    /// Closes the connection where up to a moment the player took nothing of what waits for it; then
+    /// the system tells of its end. Whether it has to be put into the queue: it is over, or what
+    /// waits is to be offered to the system, which tells late that it takes some.
+    pub(crate) fn sweep<R: Wait>(&mut self, service: &Service<'_, R>, moment: u64) -> bool {
+        self.outlet.close_stalled(service.rt, moment);
+        let timeout = u64::from(service.table.server().timeout).saturating_mul(1_000);
+        self.is_over = self.is_overdue(moment, timeout);
+        let waits = self.outlet.waiting(service.rt) > 0;
+        self.is_writable = self.is_writable || waits;
+        (self.is_over || waits) && self.queue()
     }
 
-    /// Whether the player has been silent for too long, or has owed the rest of a message for too
-    /// long, where the connection is read.
-    pub(crate) fn is_overdue(&self, now: u64, timeout: u64) -> bool {
+    // Whether the player has been silent for too long, or has owed the rest of a message for too
+    // long, where the connection is read.
+    fn is_overdue(&self, moment: u64, timeout: u64) -> bool {
         if self.stage != Stage::Open {
             return false;
         }
-        self.activity.is_overdue(now, timeout)
+        self.activity.is_overdue(moment, timeout)
     }
 
     /// Takes leave of the connection, and of its sessions.
