@@ -249,6 +249,26 @@ def one_port_for_both(checks: Checks) -> None:
         talk.close()
 
 
+OTHER_HERE = "127.0.0.2"
+
+
+@serving_test(limit=20, is_timed=True)
+def the_address_that_packets_leave_from(checks: Checks) -> None:
+    """A server that listens on all addresses of its host sends from the one that the player connected to."""
+    with Server(checks, host="0.0.0.0", pairs=2) as server:
+        for way in Way.UDP, Way.ONE_PORT:
+            player = Player(server.uri.replace(HERE, OTHER_HERE), way)
+            stream = player.set_up(player.describe()[0])
+            came_from = set()
+            player.connection.datagrams[stream.ports.rtp] = lambda datagram, at: None
+            player.play(0.0)
+            for _ in range(20):
+                stream.ports.rtp.settimeout(1)
+                came_from.add(stream.ports.rtp.recvfrom(2048)[1][0])
+            checks.same(f"where packets come from, over {way.value}", {OTHER_HERE}, came_from)
+            player.tear_down()
+
+
 # A datagram takes some 2,300 bytes of the system's memory, and one may come above the least that can be set.
 KEPT_AT_MOST = 8192
 

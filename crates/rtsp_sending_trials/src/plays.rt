@@ -15,7 +15,7 @@ use rtsp_record::{Id, Stream, Whole};
 use rtsp_sockets::{Media, Outlets, PortBinder, PortTable};
 use std::alloc::AllocError;
 use std::io::Read;
-use std::net::{TcpStream, UdpSocket};
+use std::net::{Ipv4Addr, TcpStream, UdpSocket};
 use std::rt::Clock;
 use std::sync::{Arc, Wait};
 use std::test::Fail;
@@ -208,7 +208,11 @@ fn a_play_is_sent_and_reported(rt: HostRuntime) -> Result<(), Fail> {
     };
     let (lock, mut seat) = open(rt.alloc(), &whole)?;
     let ports = PortTable::open(rt.alloc(), pair, 1)?;
-    assert!(rt; PortBinder::new(&rt, &ports).bind(3, pair).is_ok());
+    assert!(rt;
+        PortBinder::new(&rt, &ports, Ipv4Addr::LOCALHOST)
+            .bind(3, pair)
+            .is_ok()
+    );
     let media = receiver(&rt)?;
     let begun = Instant::now(&rt)?;
     assert!(rt; begin(&rt, &lock, &mut seat, pair, media.local_addr()?.port()));

@@ -17,7 +17,7 @@ use rtsp_pacing::NotedPlays;
 use rtsp_sockets::{Outlet, RandomWords, prepare};
 use rtsp_state::Room;
 use std::alloc::Global;
-use std::net::Net;
+use std::net::{Ipv4Addr, Net, SocketAddr};
 use std::os::fd::{AsRawFd, RawFd};
 use std::rt;
 use std::sync::{Arc, Wait};
@@ -48,6 +48,8 @@ enum Stage {
 pub(crate) struct Client {
     handle: BookHandle,
     asker: Asker,
+    // The address of the host that the player connected to. Packets over UDP leave from it.
+    host: Ipv4Addr,
     outlet: Arc<Outlet>,
     input: Connection,
     stage: Stage,
@@ -63,6 +65,14 @@ pub(crate) struct Client {
     activity: Activity,
 }
 
+// The address of the host that a player connected to, or any where that isn't one of IPv4.
+fn host_of(stream: &TcpStream) -> Ipv4Addr {
+    match stream.local_addr() {
+        Ok(SocketAddr::V4(local)) => *local.ip(),
+        Ok(SocketAddr::V6(_)) | Err(_) => Ipv4Addr::UNSPECIFIED,
+    }
+}
+
 // Lends all parts to a visit. How it ended, and whether some of what was put last waits.
 fn visit_lent<'a, R: Wait + Net + rt::Clock>(
     rt: &'a R,
@@ -73,6 +83,7 @@ fn visit_lent<'a, R: Wait + Net + rt::Clock>(
     handle: &'a mut BookHandle,
     lane: &'a mut BookHandle,
     asker: Asker,
+    host: Ipv4Addr,
     outlet: &'a Arc<Outlet>,
     words: &'a mut RandomWords,
     plays: &'a mut NotedPlays,
@@ -90,6 +101,7 @@ fn visit_lent<'a, R: Wait + Net + rt::Clock>(
         handle,
         lane,
         asker,
+        host,
         outlet,
         words,
         plays,
@@ -123,12 +135,14 @@ impl Client {
         if !prepare(stream.as_raw_fd()) {
             return None;
         }
+        let host = host_of(&stream);
         let mut handle = lane.split(service.rt)?;
         let conn = handle.draw(service.rt)?;
         let outlet = Arc::new(service.alloc, Outlet::new(service.alloc, stream)).ok()?;
         Some(Client {
             handle,
             asker: Asker { conn, peer },
+            host,
             outlet,
             input: Connection::new(service.alloc),
             stage: Stage::Open,
@@ -225,6 +239,7 @@ impl Client {
         let Client {
             handle,
             asker,
+            host,
             outlet,
             input,
             is_ending,
@@ -240,6 +255,7 @@ impl Client {
             handle,
             lane,
             *asker,
+            *host,
             outlet,
             words,
             plays,
