@@ -88,8 +88,11 @@ fn words_and_moments(rt: HostRuntime) -> Result<(), Fail> {
     assert!(rt; words.ssrc().is_ok() && words.seq().is_ok() && words.rtptime().is_ok());
     let mut clock = RunningClock::new(&rt, Instant::now(&rt)?);
     let early = clock.now();
-    assert!(rt; clock.now() >= early && clock.until(early).is_zero());
-    assert!(rt; clock.until(60_000) > Duration::from_secs(50));
+    assert!(rt; clock.now() >= early && clock.until(early) == Some(Duration::ZERO));
+    let Some(left) = clock.until(60_000) else {
+        panic!(rt; "the system tells the time")
+    };
+    assert!(rt; left > Duration::from_secs(50));
     let mut once = PieceClock::new(&rt, Instant::now(&rt)?);
     let moment = once.now();
     assert!(rt; moment < 1_000 && once.now() == moment);
