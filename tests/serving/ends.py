@@ -1,10 +1,11 @@
-"""Sessions that end by time, and what they held."""
+"""Sessions that end by time, connections that are closed, and what they held."""
 import socket
 import time
 
 from checks import Checks
 from rtsp_client.player import Way
 
+from .plays import set_up_all
 from .runner import serving_test
 from .server import Presentation, Server, is_alive, is_free, lease, leases
 
@@ -54,3 +55,34 @@ def a_silent_session_expires(checks: Checks) -> None:
         talk.close()
         player.close()
         checks.same("the descriptors afterwards", before, server.descriptors_fall_to(before, 5.0))
+
+
+PLAYERS = 20
+
+
+@serving_test(limit=20)
+def closed_connections_leave_no_descriptor(checks: Checks) -> None:
+    """Players over UDP whose connections are closed while they play: their packets go on, their descriptors go."""
+    room = {"pairs": PLAYERS, "uplink": PLAYERS * ONE_TRACK.whole_rate}
+    with Server(checks, ONE_TRACK, **room) as server:
+        players = [server.player(Way.UDP) for _ in range(PLAYERS)]
+        for player in players:
+            set_up_all(player)
+            player.play()
+        talk = server.connect()
+        talk.ask("OPTIONS", "*")
+        before = server.descriptors()
+        for player in players:
+            player.connection.socket.close()
+            player.connection.is_closed = True
+        checks.same("the descriptors afterwards", before - PLAYERS, server.descriptors_fall_to(before - PLAYERS, 2.0))
+        for player in players:
+            came = player.streams[0].reception.packets
+            first = len(came)
+            player.connection.wait(0.2)
+            checks.that("its packets go on", len(came) > first, (first, len(came)))
+        checks.same("sessions that live", PLAYERS, sum(is_alive(talk, server.uri, it.session or "") for it in players))
+        for player in players:
+            talk.ask("TEARDOWN", server.uri, [("Session", player.session or "")])
+            player.close()
+        talk.close()

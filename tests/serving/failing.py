@@ -358,3 +358,45 @@ def packets_that_the_system_refuses(checks: Checks) -> None:
             checks.same("the others, in order", runs([it for it in whole if it not in lost]), runs(came.places[first:]))
         checks.same("PAUSE", 200, player.pause().status)
         player.tear_down()
+
+
+@serving_test(limit=20)
+def writes_that_are_interrupted(checks: Checks) -> None:
+    """An answer whose write a signal interrupts comes all the same, and at once."""
+    with failing_server(checks) as (server, faults, _):
+        talk = server.connect()
+        faults.refuse("send", 1, 3, errno.EINTR)
+        began = time.monotonic()
+        checks.same("the answer", 200, talk.ask("OPTIONS", "*").status)
+        took = time.monotonic() - began
+        checks.that("it comes at once", took <= 0.5, took)
+        checks.same("how often it was written", 4, faults.asked("send"))
+        talk.close()
+
+
+# The share of a core that a server may take which has nothing to do but to ask for the time.
+IDLE_SHARE = 0.3
+
+
+@serving_test(limit=30, is_timed=True)
+def a_clock_that_fails(checks: Checks) -> None:
+    """While the system can't tell the time nothing is sent and nothing spins; requests are answered, sessions live."""
+    with failing_server(checks, pairs=2) as (server, faults, _):
+        player = server.player(Way.UDP)
+        player.set_up(player.describe()[0])
+        player.play()
+        came = player.streams[0].reception
+        player.connection.wait(0.5)
+        faults.refuse("clock", 1, error=errno.EINVAL)
+        player.connection.wait(0.1)
+        stopped_at, spent = len(came.packets), server.processor_seconds()
+        player.connection.wait(2.0)
+        spent = (server.processor_seconds() - spent) / 2.0
+        checks.that("it doesn't spin", spent <= IDLE_SHARE, spent)
+        checks.same("packets that are sent", 0, len(came.packets) - stopped_at)
+        checks.same("a renewal", 200, player.ask("GET_PARAMETER").status)
+        faults.stop()
+        player.connection.wait(1.0)
+        checks.that("then it goes on", len(came.packets) >= stopped_at + 20, len(came.packets) - stopped_at)
+        checks.same("each packet once", runs(list(range(len(came.places)))), runs(came.places))
+        player.tear_down()

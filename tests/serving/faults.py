@@ -8,7 +8,7 @@ from typing import Dict
 from checks import Failed
 
 # Of each kind calls are counted, and those from the first to the last are refused with an error's number.
-KINDS = "memory", "receive", "send", "datagram", "bind", "words", "accept", "thread"
+KINDS = "memory", "receive", "send", "datagram", "bind", "words", "accept", "thread", "clock"
 PLAN = struct.Struct("@4L")
 FOR_EVER = (1 << 63) - 1
 
@@ -23,9 +23,10 @@ LIBRARY = r"""
 #include <sys/mman.h>
 #include <sys/socket.h>
 #include <sys/syscall.h>
+#include <time.h>
 #include <unistd.h>
 
-enum { MEMORY, RECEIVE, SEND, DATAGRAM, BIND, WORDS, ACCEPT, THREAD, KINDS };
+enum { MEMORY, RECEIVE, SEND, DATAGRAM, BIND, WORDS, ACCEPT, THREAD, CLOCK, KINDS };
 
 /* As many random bytes are read at once. */
 enum { POOL = 32 };
@@ -106,6 +107,10 @@ ssize_t read(int fd, void *to, size_t size) {
 
 int accept4(int fd, struct sockaddr *address, socklen_t *size, int flags) {
     return is_refused(ACCEPT) ? -1 : syscall(SYS_accept4, fd, address, size, flags);
+}
+
+int clock_gettime(clockid_t clock, struct timespec *time) {
+    return is_refused(CLOCK) ? -1 : (int)syscall(SYS_clock_gettime, clock, time);
 }
 
 /* It returns the error's number, and makes a thread by the C library's own function, which is the next one. */

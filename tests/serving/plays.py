@@ -23,8 +23,16 @@ from .runner import serving_test
 from .server import HERE, TONE, Presentation, Server, Track, is_alive, is_free, lease, leases
 from .witness import Punctuality, Witness
 
+# A window in which packets are counted, in seconds, and how many of a stream may come in it: at twice its pace it is 10.
+WINDOW, MOST_IN_IT = 0.1, 20
 # A packet that is sent before the PAUSE is answered may come after that answer, in seconds.
 UNDER_WAY = 0.1
+
+
+def most_at_once(came: Reception, since: float) -> int:
+    """The most packets that came within a window, from a second on."""
+    times = [it.at for it in came.packets if it.at >= since]
+    return max((sum(begin <= at < begin + WINDOW for at in times) for begin in times), default=0)
 
 
 def set_up_all(player: Player) -> List[Stream]:
@@ -241,6 +249,26 @@ def one_port_for_both(checks: Checks) -> None:
         talk.close()
 
 
+OTHER_HERE = "127.0.0.2"
+
+
+@serving_test(limit=20, is_timed=True)
+def the_address_that_packets_leave_from(checks: Checks) -> None:
+    """A server that listens on all addresses of its host sends from the one that the player connected to."""
+    with Server(checks, host="0.0.0.0", pairs=2) as server:
+        for way in Way.UDP, Way.ONE_PORT:
+            player = Player(server.uri.replace(HERE, OTHER_HERE), way)
+            stream = player.set_up(player.describe()[0])
+            came_from = set()
+            player.connection.datagrams[stream.ports.rtp] = lambda datagram, at: None
+            player.play(0.0)
+            for _ in range(20):
+                stream.ports.rtp.settimeout(1)
+                came_from.add(stream.ports.rtp.recvfrom(2048)[1][0])
+            checks.same(f"where packets come from, over {way.value}", {OTHER_HERE}, came_from)
+            player.tear_down()
+
+
 # A datagram takes some 2,300 bytes of the system's memory, and one may come above the least that can be set.
 KEPT_AT_MOST = 8192
 
@@ -358,8 +386,11 @@ def a_file_that_is_cut_short(checks: Checks) -> None:
         checks.same("meanwhile it answers the player", 200, player.ask("GET_PARAMETER").status)
         (server.path / "a.raw").write_bytes(first)
         os.truncate(server.path / "a.raw", LONG.units * track.octets)
+        goes_on = time.monotonic()
         player.connection.wait(1.0)
         checks.that("with its file it goes on", len(came) >= stopped_at + 20, len(came) - stopped_at)
+        most = most_at_once(stream.reception, goes_on)
+        checks.that(f"at most {MOST_IN_IT} packets in 100 ms", most <= MOST_IN_IT, most)
         checks.same("the units", runs(list(range(len(came)))), runs(stream.reception.places))
         whole = all(packet.payload == track.unit(place) for place, packet in zip(stream.reception.places, came))
         checks.that("the octets are the file's", whole)

@@ -101,12 +101,14 @@ class Server:
         words: Sequence[str] = (),
         descriptors: Optional[int] = None,
         text: Optional[str] = None,
+        host: str = HERE,
         **server: int,
     ) -> None:
         self.checks = checks
         self.presentation = presentation
         self.words = words
         self.descriptors_allowed = descriptors
+        self.host = host
         self.pairs = server.get("pairs", 8)
         self.first_port = free_ports(socket.SOCK_DGRAM, 2 * max(self.pairs, 1))
         self.port = free_ports(socket.SOCK_STREAM, 1)
@@ -132,7 +134,7 @@ class Server:
 
     def start(self) -> "subprocess.Popen[bytes]":
         (self.path / "server.toml").write_text(self.text)
-        command = [TRIED, "serve", "--config", "server.toml", "--listen", f"{HERE}:{self.port}", *self.words]
+        command = [TRIED, "serve", "--config", "server.toml", "--listen", f"{self.host}:{self.port}", *self.words]
         limit = self.descriptors_allowed or "$(ulimit -Hn)"
         given = [f"{name}={value}" for name, value in self.environment.items()]
         shell = ["bash", "-c", f'ulimit -n {limit} && exec "$0" "$@"', "env", *given, *command]
@@ -144,7 +146,7 @@ class Server:
         self.process = self.start()
         ready, _, _ = select.select([self.process.stdout], [], [], STARTS_WITHIN)
         line = self.process.stdout.readline() if ready else b""
-        if line != f"rtspd: listening on {HERE}:{self.port}\n".encode():
+        if line != f"rtspd: listening on {self.host}:{self.port}\n".encode():
             self.process.kill()
             _, complaint = self.process.communicate()
             raise Failed(f"the server didn't start: it wrote {line!r}, and on standard error {complaint!r}")

@@ -1,6 +1,7 @@
 """Players that don't read: what becomes of them, and that nobody else notices."""
 import contextlib
 import multiprocessing
+import os
 import select
 import socket
 import threading
@@ -10,7 +11,7 @@ from typing import Iterator, List
 
 from checks import Checks
 from rtsp_client.connection import Refused
-from rtsp_client.messages import Message, Reader, written
+from rtsp_client.messages import Frame, Message, Reader, written
 from rtsp_client.player import Player, Way
 
 from .runner import serving_test
@@ -67,6 +68,78 @@ def a_player_that_never_reads(checks: Checks) -> None:
             punctuality.judge("the other one", came, came.packets)
         reader.tear_down()
         stalled.close()
+
+
+# A player that reads so many bytes a second, for so many seconds.
+SLOWLY = 2000
+SLOW_FOR = 20.0 if os.environ.get("RTSPD_FAST") else 60.0
+LOOKS = 10
+
+
+def read_slowly(player: Player, seconds: float) -> bytes:
+    """What is read of a connection in so many seconds, a few bytes at a time; less where it was closed."""
+    player.connection.socket.setblocking(False)
+    began, came = time.monotonic(), bytearray()
+    for look in range(int(seconds * LOOKS)):
+        time.sleep(max(began + look / LOOKS - time.monotonic(), 0))
+        try:
+            piece = player.connection.socket.recv(SLOWLY // LOOKS)
+        except BlockingIOError:
+            continue
+        except OSError:
+            break
+        if not piece:
+            break
+        came += piece
+    return bytes(came)
+
+
+def read_until_answered(player: Player, seconds: float) -> bytes:
+    """What comes on a connection up to the answer to its last request, within so many seconds."""
+    until, came = time.monotonic() + seconds, bytearray()
+    answer = f"RTSP/2.0 200 OK\r\nCSeq: {player.connection.cseq}\r\n".encode()
+    player.connection.socket.settimeout(seconds)
+    while answer not in came and time.monotonic() < until:
+        with contextlib.suppress(OSError):
+            came += player.connection.socket.recv(MEGABYTES)
+    return bytes(came)
+
+
+@serving_test(limit=110, is_alone=True)
+def a_player_that_reads_slowly(checks: Checks) -> None:
+    """It is served as long as it takes what it can, and loses whole frames; beside it another one is on time."""
+    with Witness() as witness, Server(checks, TONE_OF_A_MINUTE, timeout=120) as server:
+        reader = played(server, 1 << 18)
+        slow = played(server, 4096)
+        listening = threading.Thread(target=lambda: reader.listen(min(SLOW_FOR, 50.0)))
+        listening.start()
+        began = time.monotonic()
+        text = read_slowly(slow, SLOW_FOR)
+        seconds = time.monotonic() - began
+        checks.that(f"it is served for {SLOW_FOR:.0f} s", seconds >= SLOW_FOR - 1, seconds)
+        least = SLOWLY * SLOW_FOR * 0.8
+        checks.that("it was sent what it could take", len(text) >= least, (len(text), least))
+        slow.connection.send("GET_PARAMETER", server.uri, [("Session", slow.session or "")])
+        items = slow.connection.reader.take(text + read_until_answered(slow, 15.0))
+        answers = [it.status for it in items if isinstance(it, Message) and it.status is not None]
+        checks.same("its request is answered", [200], answers)
+        for stream, track in zip(slow.streams, TONE_OF_A_MINUTE.tracks):
+            came = stream.reception
+            for it in items:
+                if isinstance(it, Frame) and it.channel == stream.channel:
+                    came.take(it.payload, began)
+            checks.that("frames of it were dropped", len(came.missing) > 0)
+            checks.same("no frame came twice, or is somebody else's", (0, 0), (came.repeats, came.strangers))
+            whole = all(packet.payload == track.unit(place) for place, packet in zip(came.places, came.packets))
+            checks.that("each frame is whole, and as the file has it", whole)
+        listening.join()
+        punctuality = Punctuality(checks, witness.stalls())
+        for stream in reader.streams:
+            came = stream.reception
+            checks.same("the other one: gaps and repeats", (0, 0), (came.gaps, came.repeats))
+            punctuality.judge("the other one", came, came.packets)
+        reader.tear_down()
+        slow.close()
 
 
 @serving_test(limit=30, is_timed=True)

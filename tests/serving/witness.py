@@ -14,6 +14,8 @@ from rtsp_client.rtp import Packet, Reception
 
 # A witness sleeps so long at a time, and the core stood still where it is woken so much too late, in seconds.
 SLEEP, STILL = 0.002, 0.005
+# A play that is late by so many seconds or less is on time at once (crates/rtsp_pacing/src/when.rt).
+AT_ONCE = 0.05
 # A packet has to come within so many milliseconds.
 AT_MOST_LATE = 40.0
 # Of the packets of a play at least one in so many has to be judged.
@@ -78,12 +80,18 @@ def wait_for_calm(seconds: float) -> None:
             return
 
 
+def with_catching_up(stall: Stall) -> Stall:
+    """A stall with as much time behind it as a play takes to catch up at twice its pace, where it isn't on time at once."""
+    length = stall.end - stall.begin
+    return stall if length <= AT_ONCE else Stall(stall.begin, stall.end + length)
+
+
 class Punctuality:
-    """Judges how late packets came, but for those that were under way while a core stood still."""
+    """Judges how late packets came, but for those that were due while a core stood still, or a play caught up."""
 
     def __init__(self, checks: Checks, stalls: List[Stall]) -> None:
         self.checks = checks
-        self.stalls = stalls
+        self.stalls = [with_catching_up(stall) for stall in stalls]
 
     def stood_still(self, begin: float, end: float) -> bool:
         return any(stall.begin < end and begin < stall.end for stall in self.stalls)

@@ -4,3 +4,4 @@ pub mod Bells
 pub mod Plays
 pub mod Inbox
 pub mod Linking
+pub mod Catching

@@ -8,7 +8,11 @@ use crate::noted::NewPlay;
 use std::alloc::{AllocError, Global};
 use std::rt::Clock;
 use std::sync::{Condvar, Mutex, Wait};
+use std::thread;
 use std::time::Duration;
+
+// How long, in milliseconds, a pacer sleeps where the system can't tell the time.
+const UNTOLD: u64 = 100;
 
 /// What wakes a pacer.
 #[derive(Drop)]
@@ -33,10 +37,16 @@ impl Bell {
         is_kept
     }
 
-    // Waits for so long, or until there is something to hear.
-    pub(crate) fn hear<R: Wait + Clock>(&self, rt: &R, wait: Duration) -> Heard {
+    // Waits for so long, or until there is something to hear. `None` where the system can't tell the
+    // time, which ends each wait at once: then it sleeps for a while, and hears what there is.
+    pub(crate) fn hear<R: Wait + Clock>(&self, rt: &R, wait: Option<Duration>) -> Heard {
+        if wait.is_none() {
+            thread::sleep(rt, Duration::from_millis(UNTOLD));
+        }
         let mut inbox = self.inbox.lock(rt);
-        if !wait.is_zero() {
+        if let Some(wait) = wait
+            && !wait.is_zero()
+        {
             let (heard, _) = self
                 .rung
                 .wait_timeout_while(rt, inbox, wait, |inbox| inbox.is_quiet());

@@ -3,10 +3,9 @@
 ghost use Rattle.std.specs.Prelude.{◌≡◌, ◌<◌, ◌↔◌, [], None, IsSome, IsTrue, vec_len, vec_capacity};
 
 use crate::bell::Bells;
-use rtsp_sockets::Outlet;
 use rtsp_state::MediaUri;
 use std::alloc::Global;
-use std::sync::{Arc, Wait};
+use std::sync::Wait;
 
 // A play of a session, and the PLAY that asked for it.
 #[derive(Drop)]
@@ -16,11 +15,12 @@ pub(crate) struct NotedPlay {
     pub(crate) uri: MediaUri,
 }
 
-// A play that a pacer is to send, and the connection that asked for it.
+// A play that a pacer is to send, and the number of the connection that asked for it. The connection
+// may be closed while the play goes on, so nothing of it is held here.
 #[derive(Drop)]
 pub(crate) struct NewPlay {
     pub(crate) noted: NotedPlay,
-    pub(crate) outlet: Arc<Outlet>,
+    pub(crate) conn: u64,
 }
 
 /// The plays of a connection that were begun, and are not yet handed over to the pacers.
@@ -52,19 +52,17 @@ impl NotedPlays {
     }
 
     /// Hands the plays that were begun over to the pacers of their sessions, once the answers to
-    /// their PLAYs are put into the outlet of the connection. A play that finds no room with its
+    /// their PLAYs are put into the outlet of the connection of this number. A play that finds no room with its
     /// pacer is dropped: it is begun, and nothing of it is sent.
-    pub fn hand_over<R: Wait>(&mut self, rt: &R, bells: &Bells, outlet: &Arc<Outlet>)
+    pub fn hand_over<R: Wait>(&mut self, rt: &R, bells: &Bells, conn: u64)
         ensures begun { self.new.begun.items ≡ [] }
         ensures noted { self.new.noted ≡ self.old.noted }
     {
         // The play that was begun first is handed over first.
         self.begun.reverse();
         while let Some(noted) = self.begun.pop() {
-            if let Some(bell) = bells.of(noted.session)
-                && let Ok(outlet) = Arc::try_clone(outlet)
-            {
-                bell.ring(rt, NewPlay { noted, outlet });
+            if let Some(bell) = bells.of(noted.session) {
+                bell.ring(rt, NewPlay { noted, conn });
             }
         }
     }

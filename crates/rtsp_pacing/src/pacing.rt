@@ -35,12 +35,13 @@ struct Pacing<'a, R> {
 }
 
 impl<R: Wait + Clock> Pacing<'_, R> {
-    // How long the pacer sleeps if it hears nothing.
-    fn sleep(&self) -> Duration {
-        match self.wheel.next_full() {
-            Some(moment) => self.desk.clock.until(moment),
-            None => Duration::from_millis(IDLE),
-        }
+    // How long the pacer sleeps if it hears nothing. `None` where the system can't tell the time.
+    fn sleep(&mut self) -> Option<Duration> {
+        let moment = match self.wheel.next_full() {
+            Some(moment) => moment,
+            None => self.desk.now().saturating_add(IDLE),
+        };
+        self.desk.clock.until(moment)
     }
 
     // Takes a play over. Where its session is in no play any more, or there is no memory, it is

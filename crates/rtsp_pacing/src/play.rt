@@ -1,10 +1,12 @@
 //! A play that a pacer sends.
 
+ghost use Rattle.std.specs.Prelude.{◌<◌};
+
 use crate::desk::PacerDesk;
 use crate::noted::NewPlay;
 use crate::sink::PacketSink;
 use crate::ways::Ways;
-use crate::when::next_unit;
+use crate::when::{measured, next_unit};
 use rtsp_book::{Refusal, SessionView};
 use rtsp_content::Presentation;
 use rtsp_grammar::write_request;
@@ -35,6 +37,9 @@ pub(crate) struct PacedPlay {
     presentation: u16,
     ways: Ways,
     stage: Stage,
+    // The moments of its last turn and of its next one. A wheel that is late comes to it sooner.
+    last: u64,
+    next: u64,
 }
 
 // When a play has its next turn.
@@ -42,15 +47,6 @@ pub(crate) struct PacedPlay {
 pub(crate) enum Next {
     At(u64),
     Never,
-}
-
-impl Next {
-    fn of(moment: Option<u64>) -> Next {
-        match moment {
-            Some(moment) => Next::At(moment),
-            None => Next::Never,
-        }
-    }
 }
 
 // The place of the presentation of a session's streams.
@@ -96,6 +92,8 @@ impl PacedPlay {
             presentation,
             ways: Ways::of(desk.rt, &desk.parts, view),
             stage: Stage::Sending(pacer),
+            last: due,
+            next: due,
         };
         Some((play, due))
     }
@@ -118,7 +116,7 @@ impl PacedPlay {
         self.asked = asked;
     }
 
-    // Sends what is due, and ends the play behind its last packet.
+    // Takes the turn of the play, if its moment has come.
     pub(crate) fn turn<R: Wait + Clock>(
         &mut self,
         alloc: Global,
@@ -126,6 +124,23 @@ impl PacedPlay {
     ) -> Next {
         // The moment comes before the look: what is sent was due while the session was playing.
         let moment = desk.now();
+        if moment < self.next {
+            return Next::At(self.next);
+        }
+        let next = self.turn_at(alloc, desk, moment);
+        if let Next::At(due) = next {
+            self.next = due;
+        }
+        next
+    }
+
+    // Sends what is due, with measure, and ends the play behind its last packet.
+    fn turn_at<R: Wait>(
+        &mut self,
+        alloc: Global,
+        desk: &mut PacerDesk<'_, R>,
+        moment: u64,
+    ) -> Next {
         let Some(phase) = desk.phase(self.session()) else {
             return Next::Never;
         };
@@ -134,8 +149,8 @@ impl PacedPlay {
             return Next::Never;
         };
         let unit_ms = presentation.unit_ms().ms();
-        match self.send(desk, phase, moment) {
-            Some((Turn::More, due)) => Next::of(due),
+        match self.send(desk, phase, unit_ms, moment) {
+            Some((Turn::More, Some(due))) => Next::At(next_unit(due, unit_ms, moment)),
             Some((Turn::SinkFailed, Some(due))) if !is_past(phase, unit_ms, moment) => {
                 Next::At(next_unit(due, unit_ms, moment))
             }
@@ -145,19 +160,22 @@ impl PacedPlay {
                 presentation,
                 moment,
             ),
-            Some((Turn::OtherPlay, _)) => Next::Never,
+            Some((Turn::OtherPlay, _) | (Turn::More, None)) => Next::Never,
             None => self.report(alloc, desk, presentation, moment),
         }
     }
 
-    // Sends what is due while the session is in this phase: what came of it, and when the next
-    // packet is due. `None` where the play is finished.
+    // Sends with measure what is due while the session is in this phase: what came of it, and when
+    // the next packet is due. `None` where the play is finished.
     fn send<R: Wait>(
         &mut self,
         desk: &mut PacerDesk<'_, R>,
         phase: Phase,
+        unit_ms: u32,
         moment: u64,
-    ) -> Option<(Turn, Option<u64>)> {
+    ) -> Option<(Turn, Option<u64>)>
+        requires { 0 < unit_ms }
+    {
         let session = self.session();
         let Stage::Sending(pacer) = &mut self.stage else {
             return None;
@@ -172,8 +190,13 @@ impl PacedPlay {
             lost: 0,
             failed: 0,
         };
-        let turn = pacer.turn(session, phase, moment, &mut desk.packet, &mut sink);
+        let until = match pacer.next_due() {
+            Some(due) => measured(due, unit_ms, moment.saturating_sub(self.last), moment),
+            None => moment,
+        };
+        let turn = pacer.turn(session, phase, until, &mut desk.packet, &mut sink);
         let (packets, lost, failed) = (sink.packets, sink.lost, sink.failed);
+        self.last = moment;
         desk.paced.count(packets, lost, failed);
         Some((turn, pacer.next_due()))
     }
@@ -209,7 +232,7 @@ impl PacedPlay {
         let Some(view) = desk.look(self.session()) else {
             return Next::Never;
         };
-        match self.put_report(alloc, desk.rt, &view, presentation, moment) {
+        match self.put_report(alloc, desk, &view, presentation, moment) {
             Ok(()) => {
                 desk.paced.reported = desk.paced.reported.saturating_add(1);
                 Next::Never
@@ -221,7 +244,7 @@ impl PacedPlay {
     fn put_report<R: Wait>(
         &self,
         alloc: Global,
-        rt: &R,
+        desk: &PacerDesk<'_, R>,
         view: &SessionView,
         presentation: &Presentation,
         moment: u64,
@@ -229,12 +252,16 @@ impl PacedPlay {
         let Phase::Ended { .. } = view.phase() else {
             return Ok(());
         };
-        let NewPlay { noted, outlet } = &self.asked;
-        let cseq = outlet.next_cseq(rt);
+        let NewPlay { noted, conn } = &self.asked;
+        // A connection that was closed is told nothing.
+        let Some(outlet) = desk.parts.outlets.get(desk.rt, *conn) else {
+            return Ok(());
+        };
+        let cseq = outlet.next_cseq(desk.rt);
         let request = notify(alloc, &noted.uri, view, presentation, cseq, noted.cseq)?;
         let mut text = Vec::new(alloc);
         write_request(&mut text, &request)?;
-        outlet.put(rt, moment, Message::Response, text.as_slice());
+        outlet.put(desk.rt, moment, Message::Response, text.as_slice());
         Ok(())
     }
 }

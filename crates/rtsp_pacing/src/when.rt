@@ -1,6 +1,28 @@
-//! When a play that failed has its next turn.
+//! At which moment a play has its turn, and when its next one.
 
 ghost use Rattle.std.specs.Prelude.{◌≡◌, ◌<◌, ◌≤◌, ◌+◌, ◌*◌, ◌^◌, ℕ, min};
+ghost use Rattle.rtsp_pacing.specs.Catching.{IsMeasured, most_at_once};
+
+// How much of the time since the last turn of a play counts where it is behind, in milliseconds.
+const COUNTED: u64 = 50;
+
+// The moment up to which a play sends in a turn, where its next unit is due at `due` and so much time
+// has passed since its last turn: the present one, unless more units are due by then than fit into
+// twice that time. Of a longer time `COUNTED` counts, so after a stall a play catches up at twice its
+// pace. Two units are sent in any case: the next turn is a unit later.
+#[tactic(auto, using(crate::proofs::Measure::is_measured))]
+pub(crate) fn measured(due: u64, unit_ms: u32, passed: u64, moment: u64) -> u64
+    requires { 0 < unit_ms }
+    ensures come { result ≤ moment }
+    ensures on_time { moment + unit_ms ≤ due + most_at_once unit_ms (min passed COUNTED) → result ≡ moment }
+    ensures goes_on { due ≤ moment → due ≤ result }
+    ensures measured { IsMeasured unit_ms due (min passed COUNTED) result }
+{
+    let unit_ms = u64::from(unit_ms);
+    let twice = 2 * passed.min(COUNTED);
+    let ahead = twice.saturating_sub(unit_ms).max(unit_ms);
+    moment.min(due.saturating_add(ahead))
+}
 
 // The first moment after this one at which a unit is due, where one was due at `due`.
 pub(crate) fn next_unit(due: u64, unit_ms: u32, moment: u64) -> u64

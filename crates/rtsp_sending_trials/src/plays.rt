@@ -12,10 +12,10 @@ use rtsp_engine::{Binder, Plays};
 use rtsp_lock::{BookLock, BookSeat, open};
 use rtsp_pacing::{Bells, NotedPlays, Paced, PacerParts, PacerPlays, pace};
 use rtsp_record::{Id, Stream, Whole};
-use rtsp_sockets::{Media, Outlet, Outlets, PortBinder, PortTable};
+use rtsp_sockets::{Media, Outlets, PortBinder, PortTable};
 use std::alloc::AllocError;
 use std::io::Read;
-use std::net::{TcpStream, UdpSocket};
+use std::net::{Ipv4Addr, TcpStream, UdpSocket};
 use std::rt::Clock;
 use std::sync::{Arc, Wait};
 use std::test::Fail;
@@ -186,15 +186,11 @@ fn receiver(rt: &HostRuntime) -> io::Result<UdpSocket> {
 }
 
 // Hands the play of the session over to the pacers.
-fn hand_over<R: Wait + AllocGlobal>(
-    rt: &R,
-    bells: &Bells,
-    outlet: &Arc<Outlet>,
-) -> Result<(), AllocError> {
+fn hand_over<R: Wait + AllocGlobal>(rt: &R, bells: &Bells, conn: u64) -> Result<(), AllocError> {
     let mut plays = NotedPlays::new(rt.alloc());
     plays.note(rt.alloc(), 2, 5, b"rtsp://h/tone")?;
     plays.settle(true);
-    plays.hand_over(rt, bells, outlet);
+    plays.hand_over(rt, bells, conn);
     Ok(())
 }
 
@@ -212,7 +208,11 @@ fn a_play_is_sent_and_reported(rt: HostRuntime) -> Result<(), Fail> {
     };
     let (lock, mut seat) = open(rt.alloc(), &whole)?;
     let ports = PortTable::open(rt.alloc(), pair, 1)?;
-    assert!(rt; PortBinder::new(&rt, &ports).bind(3, pair).is_ok());
+    assert!(rt;
+        PortBinder::new(&rt, &ports, Ipv4Addr::LOCALHOST)
+            .bind(3, pair)
+            .is_ok()
+    );
     let media = receiver(&rt)?;
     let begun = Instant::now(&rt)?;
     assert!(rt; begin(&rt, &lock, &mut seat, pair, media.local_addr()?.port()));
@@ -220,8 +220,9 @@ fn a_play_is_sent_and_reported(rt: HostRuntime) -> Result<(), Fail> {
     player.set_read_timeout(Some(Duration::from_secs(5)))?;
     let outlet = Arc::new(rt.alloc(), outlet)?;
     let bells = Bells::new(rt.alloc(), 1, 4)?;
-    hand_over(&rt, &bells, &outlet)?;
+    hand_over(&rt, &bells, 1)?;
     let outlets = Outlets::new(rt.alloc());
+    outlets.insert(&rt, 1, outlet)?;
     let Some(bell) = bells.of(2) else {
         panic!(rt; "there is a pacer")
     };

@@ -91,6 +91,11 @@ impl Acceptor {
         self.is_ready
     }
 
+    /// Whether no connection waits, as far as the system has told.
+    pub(crate) fn is_done(&self) -> bool {
+        !self.is_ready && self.retry_at.is_none()
+    }
+
     /// How long a lane may wait for other things before it has to accept.
     pub(crate) fn patience(&self, now: u64) -> u64 {
         if self.is_ready {

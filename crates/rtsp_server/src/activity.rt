@@ -36,19 +36,19 @@ impl Activity {
         }
     }
 
-    /// Whether the player has been silent for too long, or has owed the rest of a message for too
-    /// long. Where it has asked for a track to be set up, a session may live that long without a
+    /// Whether up to this moment the player was silent for too long, or owed the rest of a message for
+    /// too long. Where it has asked for a track to be set up, a session may live that long without a
     /// request.
-    pub(crate) fn is_overdue(&self, now: u64, timeout: u64) -> bool {
+    pub(crate) fn is_overdue(&self, moment: u64, timeout: u64) -> bool {
         let most = if self.has_setup {
             SILENCE_LIMIT.max(timeout)
         } else {
             SILENCE_LIMIT
         };
         let is_late = match self.begun {
-            Some(begun) => now.saturating_sub(begun) >= MESSAGE_LIMIT,
+            Some(begun) => moment.saturating_sub(begun) >= MESSAGE_LIMIT,
             None => false,
         };
-        is_late || now.saturating_sub(self.heard) >= most
+        is_late || moment.saturating_sub(self.heard) >= most
     }
 }

@@ -20,7 +20,7 @@ use rtsp_pacing::NotedPlays;
 use rtsp_sockets::{Outlet, PieceClock, PortBinder, RandomWords};
 use rtsp_state::Room;
 use std::alloc::Global;
-use std::net::Net;
+use std::net::{Ipv4Addr, Net};
 use std::rt;
 use std::sync::{Arc, Wait};
 
@@ -35,6 +35,8 @@ pub(crate) struct Front<'a, R> {
     /// The lane's own handle, for the room of the journal.
     pub(crate) lane: &'a mut BookHandle,
     pub(crate) asker: Asker,
+    /// The address of the host that the player connected to.
+    pub(crate) host: Ipv4Addr,
     pub(crate) outlet: &'a Arc<Outlet>,
     pub(crate) words: &'a mut RandomWords,
     pub(crate) plays: &'a mut NotedPlays,
@@ -50,6 +52,7 @@ fn answer_piece<R: Wait + Net + rt::Clock, W: Words, P: Plays>(
     table: &Table,
     handle: &mut BookHandle,
     asker: Asker,
+    host: Ipv4Addr,
     words: &mut W,
     plays: &mut P,
     input: &mut Connection,
@@ -60,7 +63,7 @@ fn answer_piece<R: Wait + Net + rt::Clock, W: Words, P: Plays>(
     ensures undecided { OnOk result (IsUndecided input.new) }
     ensures ends { IfErr result (λ f. FaultedAfter (AnswersFrom (devices ⟦<PortBinder<'static, R> as Binder>⟧.calls W.calls ⟦<PieceClock<'static, R> as Clock>⟧.tells P.calls)) (GivesUpFrom (devices ⟦<PortBinder<'static, R> as Binder>⟧.calls W.calls ⟦<PieceClock<'static, R> as Clock>⟧.tells P.calls)) (input.old ++ piece.now) f (gathers room.old.text (serving_of table.now asker handle.old.seat)) (gathers room.new.text (serving_of table.now asker handle.new.seat))) }
 {
-    let mut binder = PortBinder::new(rt, &shared.ports);
+    let mut binder = PortBinder::new(rt, &shared.ports, host);
     let mut clock = PieceClock::new(rt, shared.begun);
     push_lent(
         rt,
@@ -103,6 +106,7 @@ impl<R: Wait + Net + rt::Clock> PieceAnswerer for Front<'_, R> {
             self.table,
             self.handle,
             self.asker,
+            self.host,
             self.words,
             self.plays,
             input,
@@ -122,7 +126,7 @@ impl<R: Wait + Net + rt::Clock> PieceAnswerer for Front<'_, R> {
     // A play is handed over after its answer is written, so that no packet comes before it.
     fn has_written(&mut self) -> bool {
         self.plays
-            .hand_over(self.rt, &self.shared.bells, self.outlet);
+            .hand_over(self.rt, &self.shared.bells, self.asker.conn);
         self.outlet.waiting(self.rt) <= PAUSE
     }
 }

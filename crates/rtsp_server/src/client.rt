@@ -17,7 +17,7 @@ use rtsp_pacing::NotedPlays;
 use rtsp_sockets::{Outlet, RandomWords, prepare};
 use rtsp_state::Room;
 use std::alloc::Global;
-use std::net::Net;
+use std::net::{Ipv4Addr, Net, SocketAddr};
 use std::os::fd::{AsRawFd, RawFd};
 use std::rt;
 use std::sync::{Arc, Wait};
@@ -48,6 +48,8 @@ enum Stage {
 pub(crate) struct Client {
     handle: BookHandle,
     asker: Asker,
+    // The address of the host that the player connected to. Packets over UDP leave from it.
+    host: Ipv4Addr,
     outlet: Arc<Outlet>,
     input: Connection,
     stage: Stage,
@@ -58,7 +60,17 @@ pub(crate) struct Client {
     is_ending: bool,
     // Whether it is in its lane's queue.
     is_queued: bool,
+    // Whether it has been silent, or has owed the rest of a message, for too long.
+    is_over: bool,
     activity: Activity,
+}
+
+// The address of the host that a player connected to, or any where that isn't one of IPv4.
+fn host_of(stream: &TcpStream) -> Ipv4Addr {
+    match stream.local_addr() {
+        Ok(SocketAddr::V4(local)) => *local.ip(),
+        Ok(SocketAddr::V6(_)) | Err(_) => Ipv4Addr::UNSPECIFIED,
+    }
 }
 
 // Lends all parts to a visit. How it ended, and whether some of what was put last waits.
@@ -71,6 +83,7 @@ fn visit_lent<'a, R: Wait + Net + rt::Clock>(
     handle: &'a mut BookHandle,
     lane: &'a mut BookHandle,
     asker: Asker,
+    host: Ipv4Addr,
     outlet: &'a Arc<Outlet>,
     words: &'a mut RandomWords,
     plays: &'a mut NotedPlays,
@@ -88,6 +101,7 @@ fn visit_lent<'a, R: Wait + Net + rt::Clock>(
         handle,
         lane,
         asker,
+        host,
         outlet,
         words,
         plays,
@@ -121,12 +135,14 @@ impl Client {
         if !prepare(stream.as_raw_fd()) {
             return None;
         }
+        let host = host_of(&stream);
         let mut handle = lane.split(service.rt)?;
         let conn = handle.draw(service.rt)?;
         let outlet = Arc::new(service.alloc, Outlet::new(service.alloc, stream)).ok()?;
         Some(Client {
             handle,
             asker: Asker { conn, peer },
+            host,
             outlet,
             input: Connection::new(service.alloc),
             stage: Stage::Open,
@@ -134,6 +150,7 @@ impl Client {
             is_writable: false,
             is_ending: false,
             is_queued: false,
+            is_over: false,
             activity: Activity::new(service.now),
         })
     }
@@ -177,6 +194,9 @@ impl Client {
         lane: &mut BookHandle,
     ) -> Visit {
         self.is_queued = false;
+        if self.is_over {
+            return Visit::Ended;
+        }
         if self.is_writable && !self.flush(service) {
             return Visit::Ended;
         }
@@ -219,6 +239,7 @@ impl Client {
         let Client {
             handle,
             asker,
+            host,
             outlet,
             input,
             is_ending,
@@ -234,6 +255,7 @@ impl Client {
             handle,
             lane,
             *asker,
+            *host,
             outlet,
             words,
             plays,
@@ -289,19 +311,25 @@ impl Client {
         }
     }
 
-    /// Closes the connection where the player takes nothing of what waits for it. Then the system
-    /// tells of its end.
-    pub(crate) fn close_stalled<R: Wait>(&self, service: &Service<'_, R>) {
-        self.outlet.close_stalled(service.rt, service.now);
+    /// Closes the connection where up to a moment the player took nothing of what waits for it; then
+    /// the system tells of its end. Whether it has to be put into the queue: it is over, or what
+    /// waits is to be offered to the system, which tells late that it takes some.
+    pub(crate) fn sweep<R: Wait>(&mut self, service: &Service<'_, R>, moment: u64) -> bool {
+        self.outlet.close_stalled(service.rt, moment);
+        let timeout = u64::from(service.table.server().timeout).saturating_mul(1_000);
+        self.is_over = self.is_overdue(moment, timeout);
+        let waits = self.outlet.waiting(service.rt) > 0;
+        self.is_writable = self.is_writable || waits;
+        (self.is_over || waits) && self.queue()
     }
 
-    /// Whether the player has been silent for too long, or has owed the rest of a message for too
-    /// long, where the connection is read.
-    pub(crate) fn is_overdue(&self, now: u64, timeout: u64) -> bool {
+    // Whether the player has been silent for too long, or has owed the rest of a message for too
+    // long, where the connection is read.
+    fn is_overdue(&self, moment: u64, timeout: u64) -> bool {
         if self.stage != Stage::Open {
             return false;
         }
-        self.activity.is_overdue(now, timeout)
+        self.activity.is_overdue(moment, timeout)
     }
 
     /// Takes leave of the connection, and of its sessions.

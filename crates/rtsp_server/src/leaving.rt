@@ -6,7 +6,7 @@ use rtsp_engine::Binder;
 use rtsp_expiry::{hang_up, sweep};
 use rtsp_lanes::BookHandle;
 use rtsp_sockets::PortBinder;
-use std::net::Net;
+use std::net::{Ipv4Addr, Net};
 use std::sync::Wait;
 
 // Takes leave of a connection, in a few steps. Whether there may be more.
@@ -52,7 +52,8 @@ pub(crate) fn take_leave<R: Wait + Net>(
     shared: &Shared,
     conn: u64,
 ) {
-    let mut binder = PortBinder::new(rt, &shared.ports);
+    // It binds nothing.
+    let mut binder = PortBinder::new(rt, &shared.ports, Ipv4Addr::UNSPECIFIED);
     for _ in rt.forever() {
         if !hang_up_some(rt, handle, &mut binder, conn) {
             break;
@@ -67,7 +68,8 @@ pub(crate) fn end_expired<R: Wait + Net>(
     shared: &Shared,
     now: u64,
 ) {
-    let mut binder = PortBinder::new(rt, &shared.ports);
+    // It binds nothing.
+    let mut binder = PortBinder::new(rt, &shared.ports, Ipv4Addr::UNSPECIFIED);
     for _ in rt.forever() {
         if !sweep_some(rt, handle, &mut binder, now) {
             break;

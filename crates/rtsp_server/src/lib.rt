@@ -3,7 +3,7 @@
 //!
 //! `server` starts all of them and joins them. `socket_lane` is a lane of sockets, `client` a
 //! connection of it, `acceptor` where connections come from. `answering` and `leaving` are what is
-//! done by a thread's handle of the book.
+//! done by a thread's handle of the book. `watermark` says how far sweeps may go.
 
 #![tactic(auto)]
 
@@ -22,11 +22,12 @@ mod socket_lane;
 mod stop_bell;
 mod sweeper;
 mod tools;
+mod watermark;
 mod writing;
 
 pub use limits::{
-    ACCEPT_RETRY, ACCEPTS, ANSWERS, CONNECTIONS, MESSAGE_LIMIT, PAUSE, PIECE, PIECES,
-    SILENCE_LIMIT, SWEEP_EVERY, SWEEP_SESSIONS, WAITS,
+    ACCEPT_RETRY, ACCEPTS, ANSWERS, CONNECTIONS, HELD_SWEEPS, MESSAGE_LIMIT, PAUSE, PIECE, PIECES,
+    SILENCE_LIMIT, SWEEP_EVERY, SWEEP_SESSIONS, TURN_EVERY, WAITS,
 };
 pub use rtsp_lanes::{BookHandle, Lane, LaneTurn, PoolEnd, run_pool, whole_of};
 pub use server::{Server, ServerFault};

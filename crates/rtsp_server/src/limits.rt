@@ -32,6 +32,13 @@ pub const MESSAGE_LIMIT: u64 = 30_000;
 /// by sessions that they are setting tracks up in: for a millisecond, then twice as long each time.
 pub const WAITS: u32 = 7;
 
+/// The longest that a lane waits for something to do. Then it tells up to when it has read all that
+/// had come, and a sweep goes no further.
+pub const TURN_EVERY: u64 = 200;
+
+/// For how many sweeps at most one goes no further than a lane that isn't at the end of what comes.
+pub const HELD_SWEEPS: usize = 10;
+
 /// The time between two sweeps.
 pub const SWEEP_EVERY: u64 = 1_000;
 

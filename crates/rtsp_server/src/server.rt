@@ -7,6 +7,7 @@ use crate::gate::Gate;
 use crate::shared::Shared;
 use crate::socket_lane::SocketLane;
 use crate::sweeper::run_sweeper;
+use crate::watermark::Watermark;
 use mio::net::TcpListener;
 use rtsp_content::Table;
 use rtsp_lanes::{BookHandle, PoolEnd, open_book, run_pool, whole_of};
@@ -246,6 +247,7 @@ fn share<R: Net + rt::Clock>(
         PortTable::open(alloc, numbers.first_port, numbers.pairs)?,
         Bells::new(alloc, pacers, numbers.sessions)?,
         Instant::now(rt)?,
+        Watermark::new(alloc, usize::from(numbers.workers))?,
     );
     match Arc::new(alloc, shared) {
         Ok(shared) => Ok(shared),
@@ -262,8 +264,8 @@ fn open_lanes<R: Wait + Net + Files<File = File>>(
     count: usize,
 ) -> Result<Vec<SocketLane>, ServerFault> {
     let mut lanes = Vec::new(alloc);
-    for _ in 0..count {
-        let lane = SocketLane::open(rt, alloc, shared, listener.try_clone()?)?;
+    for number in 0..count {
+        let lane = SocketLane::open(rt, alloc, shared, number, listener.try_clone()?)?;
         if lanes.push(lane).is_err() {
             return Err(ServerFault::OutOfMemory);
         }

@@ -2,6 +2,7 @@
 
 use crate::gate::Gate;
 use crate::stop_bell::StopBell;
+use crate::watermark::Watermark;
 use mio::Waker;
 use mio::net::TcpListener;
 use rtsp_pacing::Bells;
@@ -24,6 +25,7 @@ pub(crate) struct Shared {
     pub(crate) stop_bell: StopBell,
     /// From when on moments are counted.
     pub(crate) begun: Instant,
+    watermark: Mutex<Watermark>,
     wakers: Mutex<Vec<Waker>>,
 }
 
@@ -35,6 +37,7 @@ impl Shared {
         ports: PortTable,
         bells: Bells,
         begun: Instant,
+        watermark: Watermark,
     ) -> Shared {
         Shared {
             listener,
@@ -44,6 +47,7 @@ impl Shared {
             bells,
             stop_bell: StopBell::new(),
             begun,
+            watermark: Mutex::new(watermark),
             wakers: Mutex::new(Vec::new(alloc)),
         }
     }
@@ -54,6 +58,25 @@ impl Shared {
             Ok(elapsed) => u64::try_from(elapsed.as_millis()).unwrap_or(u64::MAX),
             Err(_) => 0,
         }
+    }
+
+    /// A lane has read all that had come up to a moment.
+    pub(crate) fn note_read<R: Wait>(&self, rt: &R, lane: usize, moment: u64) {
+        self.watermark.lock(rt).note_read(lane, moment);
+    }
+
+    /// The moment up to which all lanes have read what had come, so that connections which were
+    /// silent up to it are over. See `Watermark`.
+    pub(crate) fn swept_until<R: Wait>(&self, rt: &R, now: u64) -> u64 {
+        self.watermark.lock(rt).moment(now)
+    }
+
+    /// The same for a sweep of sessions, which counts as one.
+    pub(crate) fn begin_sweep<R: Wait>(&self, rt: &R, now: u64) -> u64 {
+        let mut watermark = self.watermark.lock(rt);
+        let moment = watermark.moment(now);
+        watermark.note_sweep(now);
+        moment
     }
 
     /// A lane is woken by this.

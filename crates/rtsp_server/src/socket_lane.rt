@@ -2,7 +2,7 @@
 
 use crate::acceptor::{Accepted, Acceptor};
 use crate::client::{Client, Visit};
-use crate::limits::{ACCEPTS, SWEEP_EVERY};
+use crate::limits::{ACCEPTS, SWEEP_EVERY, TURN_EVERY};
 use crate::service::Service;
 use crate::shared::Shared;
 use crate::tools::Tools;
@@ -41,16 +41,21 @@ pub struct SocketLane {
 // The connections of a lane.
 #[derive(Drop)]
 struct Clients {
+    // The number of the lane.
+    number: usize,
     poll: Poll,
     events: Events<Global>,
     of: Slab<Client>,
-    // Those to be visited. There is room in it for all.
+    // Those to be visited, each once: whoever is taken out of the slab isn't among them. There is
+    // room in it for all.
     ready: VecDeque<usize>,
     acceptor: Acceptor,
     tools: Tools,
-    // The moment of the last turn, and of the last sweep.
+    // The moment of the last turn, of the last sweep, and that up to which all that had come was
+    // read, as it was told.
     now: u64,
     swept: u64,
+    read: u64,
     // How many have ended in this turn.
     ended: u64,
 }
@@ -61,6 +66,7 @@ impl SocketLane {
         rt: &R,
         alloc: Global,
         shared: &Arc<Shared>,
+        number: usize,
         listener: net::TcpListener,
     ) -> io::Result<SocketLane> {
         let poll = Poll::new(rt)?;
@@ -69,6 +75,7 @@ impl SocketLane {
         registry.register(&mut SourceFd(&fd), LISTENER, Interest::READABLE)?;
         shared.add_waker(rt, Waker::new(registry, WAKER)?)?;
         let clients = Clients {
+            number,
             poll,
             events: Events::with_capacity(alloc, EVENTS)?,
             of: Slab::new(alloc),
@@ -77,6 +84,7 @@ impl SocketLane {
             tools: Tools::new(alloc, RandomWords::open(rt)?)?,
             now: 0,
             swept: 0,
+            read: 0,
             ended: 0,
         };
         let shared = Arc::try_clone(shared)?;
@@ -85,16 +93,19 @@ impl SocketLane {
 }
 
 impl Clients {
-    // Waits for something to do.
-    fn wait<R: rt::Clock>(&mut self, rt: &R) {
+    // Waits for something to do. Whether the system told all that there was: it tells so many events
+    // at once at most.
+    fn wait<R: rt::Clock>(&mut self, rt: &R) -> bool {
         let mut time = 0;
         if self.ready.is_empty() {
-            time = self.acceptor.patience(self.now).min(SWEEP_EVERY);
+            time = self.acceptor.patience(self.now).min(TURN_EVERY);
         }
         let time = Duration::from_millis(time);
         if self.poll.poll(&mut self.events, Some(time)).is_err() {
             thread::sleep(rt, Duration::from_millis(1));
+            return false;
         }
+        self.events.iter().count() < EVENTS
     }
 
     // Puts those of which the system tells into the queue.
@@ -118,20 +129,27 @@ impl Clients {
         }
     }
 
-    // Accepts some of the connections that wait.
-    fn accept_some<R: Wait + Net>(&mut self, service: &Service<'_, R>, handle: &mut BookHandle) {
+    // Accepts some of the connections that wait. Whether there were none: what has come on one that
+    // is new is told by the next wait.
+    fn accept_some<R: Wait + Net>(
+        &mut self,
+        service: &Service<'_, R>,
+        handle: &mut BookHandle,
+    ) -> bool {
+        let before = self.of.len();
         for _ in 0..ACCEPTS {
             if service.shared.gate.is_shut() {
                 self.acceptor.rest();
             }
             if !self.acceptor.is_ready(service.now) {
-                return;
+                return self.acceptor.is_done() && self.of.len() == before;
             }
             let accepted = self.acceptor.accept(&service.shared.listener, service.now);
             if let Accepted::Stream(stream, peer) = accepted {
                 self.receive(service, handle, stream, peer);
             }
         }
+        false
     }
 
     // Takes a connection in, or closes it.
@@ -247,27 +265,30 @@ impl Clients {
         }
     }
 
-    // Closes those that are stalled, silent or late.
-    fn sweep<R: Wait + Net>(&mut self, service: &Service<'_, R>) {
+    // Tells that all that had come up to a moment was read.
+    fn tell_read<R: Wait>(&mut self, service: &Service<'_, R>, moment: u64) {
+        if moment > self.read {
+            self.read = moment;
+            service.shared.note_read(service.rt, self.number, moment);
+        }
+    }
+
+    // Closes those that are stalled, and has those visited that are silent or late, or to whom
+    // bytes wait.
+    fn sweep<R: Wait>(&mut self, service: &Service<'_, R>) {
         if service.now.saturating_sub(self.swept) < SWEEP_EVERY {
             return;
         }
         self.swept = service.now;
         self.acceptor.restore();
+        let moment = service.shared.swept_until(service.rt, service.now);
         for key in 0..self.of.capacity() {
-            if self.is_overdue(service, key) {
-                self.end(service.rt, service.shared, key);
+            if let Some(client) = self.of.get_mut(key)
+                && client.sweep(service, moment)
+            {
+                let _ = self.ready.push_back(key);
             }
         }
-    }
-
-    fn is_overdue<R: Wait>(&self, service: &Service<'_, R>, key: usize) -> bool {
-        let Some(client) = self.of.get(key) else {
-            return false;
-        };
-        client.close_stalled(service);
-        let timeout = u64::from(service.table.server().timeout).saturating_mul(1_000);
-        client.is_overdue(service.now, timeout)
     }
 
     // One turn, in which all parts are lent for as long as it takes.
@@ -279,7 +300,9 @@ impl Clients {
         shared: &'a Shared,
         handle: &mut BookHandle,
     ) -> LaneTurn {
-        self.wait(rt);
+        // What had come by now is what this turn is told of, and what earlier ones have left.
+        let begun = self.now;
+        let is_all_told = self.wait(rt);
         self.now = self.now.max(shared.now(rt));
         let service = Service {
             rt,
@@ -290,12 +313,19 @@ impl Clients {
         };
         self.ended = 0;
         self.gather();
-        self.accept_some(&service, handle);
+        let is_none_new = self.accept_some(&service, handle);
         self.visit_ready(&service, handle);
+        if is_all_told && is_none_new && self.ready.is_empty() {
+            self.tell_read(&service, begun);
+        }
         self.sweep(&service);
+        let is_over = shared.gate.is_shut() && self.of.is_empty();
+        if is_over {
+            self.tell_read(&service, u64::MAX);
+        }
         LaneTurn {
             ended: self.ended,
-            is_over: shared.gate.is_shut() && self.of.is_empty(),
+            is_over,
         }
     }
 }

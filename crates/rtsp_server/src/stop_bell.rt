@@ -1,8 +1,8 @@
 //! How a thread that works from time to time is told to stop.
 
-use std::rt;
 use std::sync::{Condvar, Mutex, Wait};
-use std::time::Duration;
+use std::time::{Duration, Instant};
+use std::{rt, thread};
 
 /// Wakes a thread that waits, and tells it to stop.
 #[derive(Drop)]
@@ -25,8 +25,12 @@ impl StopBell {
         self.rung.notify_all();
     }
 
-    /// Waits for so long. Whether the thread is to stop.
+    /// Waits for so long. Whether the thread is to stop. Where the system can't tell the time, a wait
+    /// would end at once, so it sleeps.
     pub(crate) fn wait<R: Wait + rt::Clock>(&self, rt: &R, time: Duration) -> bool {
+        if Instant::now(rt).is_err() {
+            thread::sleep(rt, time);
+        }
         let is_rung = self.is_rung.lock(rt);
         let (is_rung, _) = self
             .rung

@@ -9,7 +9,8 @@ use std::rt;
 use std::sync::Wait;
 use std::time::Duration;
 
-/// Ends expired sessions from time to time, until it is told to stop. After each sweep it forgets
+/// Ends from time to time the sessions that had expired when all lanes had read what had come, until
+/// it is told to stop. After each sweep it forgets
 /// all sessions that have ended by then, however they ended, and has those that live restated where
 /// they have done much: so the journal is as long as what lives and what was done since.
 pub(crate) fn run_sweeper<R: Wait + Net + rt::Clock>(
@@ -24,7 +25,8 @@ pub(crate) fn run_sweeper<R: Wait + Net + rt::Clock>(
         {
             break;
         }
-        end_expired(rt, &mut handle, shared, shared.now(rt));
+        let moment = shared.begin_sweep(rt, shared.now(rt));
+        end_expired(rt, &mut handle, shared, moment);
         handle.forget(rt);
         handle.relieve(rt, 0);
     }

@@ -6,3 +6,4 @@ pub mod SourceWords
 pub mod Clocks
 pub mod Files
 pub mod Media
+pub mod Asking

@@ -23,13 +23,11 @@ impl<'a, R: rt::Clock> RunningClock<'a, R> {
         RunningClock { rt, begun, last: 0 }
     }
 
-    /// How long it is until a moment: nothing where that is past, or where the system can't tell
-    /// the time.
-    pub fn until(&self, moment: u64) -> Duration {
-        match self.begun.elapsed(self.rt) {
-            Ok(elapsed) => Duration::from_millis(moment).saturating_sub(elapsed),
-            Err(_) => Duration::ZERO,
-        }
+    /// How long it is until a moment: nothing where that is past. `None` where the system can't tell
+    /// the time. Then no wait on a `Condvar` lasts, so who waits for the moment has to sleep.
+    pub fn until(&self, moment: u64) -> Option<Duration> {
+        let elapsed = self.begun.elapsed(self.rt).ok()?;
+        Some(Duration::from_millis(moment).saturating_sub(elapsed))
     }
 }
 

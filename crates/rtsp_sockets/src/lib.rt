@@ -29,7 +29,7 @@ mod words;
 pub use clock::{PieceClock, RunningClock};
 pub use media::{HELD_LIMIT, Media, MediaFault, MediaOf};
 pub use message::{ALL_ROOM, FRAME_ROOM, Message};
-pub use options::{SEND_BUFFER, prepare};
+pub use options::{FIRST_SEND_BUFFER, SEND_BUFFER, prepare};
 pub use outlet::{Outlet, STALL_LIMIT};
 pub use outlets::Outlets;
 pub use port_binder::PortBinder;

@@ -8,6 +8,10 @@ use std::os::fd::RawFd;
 /// a player that doesn't read.
 pub const SEND_BUFFER: u32 = 64 * 1024;
 
+/// How many it keeps until the player has taken bytes soon after they came to wait. What the system
+/// keeps hides whether the player takes it.
+pub const FIRST_SEND_BUFFER: u32 = 8 * 1024;
+
 // As few bytes as the system allows, which is 2,304 on Linux.
 const LEAST_BUFFER: u32 = 1;
 
@@ -18,18 +22,32 @@ fn option_value(number: u32) -> [u8; 16] {
     value
 }
 
-/// Sets what an accepted connection needs: the system keeps at most `SEND_BUFFER` bytes of it, and
-/// gives it up where its peer has taken nothing for `STALL_LIMIT` milliseconds. Whether both could
-/// be set.
-pub fn prepare(fd: RawFd) -> bool {
-    let buffer = option_value(SEND_BUFFER);
-    let limit = option_value(STALL_LIMIT as u32);
-    // SAFETY: both are options of a number, of which 4 bytes are passed.
+// Has the system keep so many bytes of a connection. Whether that could be set.
+fn keep_bytes(fd: RawFd, bytes: u32) -> bool {
+    let buffer = option_value(bytes);
+    // SAFETY: it is an option of a number, of which 4 bytes are passed.
     let buffered = unsafe { net::setsockopt(fd, net::SOL_SOCKET, net::SO_SNDBUF, &buffer, 4) };
-    let limited = unsafe {
-        net::setsockopt(fd, net::IPPROTO_TCP, net::TCP_USER_TIMEOUT, &limit, 4)
-    };
-    buffered == 0 && limited == 0
+    buffered == 0
+}
+
+/// Sets what an accepted connection needs: the system keeps at most `FIRST_SEND_BUFFER` bytes of it.
+/// Whether that could be set.
+pub fn prepare(fd: RawFd) -> bool {
+    keep_bytes(fd, FIRST_SEND_BUFFER)
+}
+
+/// Has the system keep `SEND_BUFFER` bytes of a connection.
+pub(crate) fn widen(fd: RawFd) {
+    let _ = keep_bytes(fd, SEND_BUFFER);
+}
+
+/// Has the system give up what it still keeps of a connection that is closed, where its peer takes
+/// nothing for `STALL_LIMIT` milliseconds. An open one isn't left to this limit: the system also
+/// counts against a peer that takes a few bytes at a time.
+pub(crate) fn limit_the_end(fd: RawFd) {
+    let limit = option_value(STALL_LIMIT as u32);
+    // SAFETY: it is an option of a number, of which 4 bytes are passed.
+    let _ = unsafe { net::setsockopt(fd, net::IPPROTO_TCP, net::TCP_USER_TIMEOUT, &limit, 4) };
 }
 
 /// Has the system keep as little as it can of what comes to a socket that nobody reads: a packet or

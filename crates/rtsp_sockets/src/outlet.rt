@@ -4,28 +4,36 @@ ghost use Rattle.std.specs.Prelude.{◌≡◌, ◌≤◌, IfSome};
 ghost use Rattle.rtsp_sockets.specs.Rooms.{all_room};
 
 use crate::message::Message;
+use crate::options::{limit_the_end, widen};
 use crate::pending::Pending;
 use crate::put::Put;
 use mio::net::TcpStream;
 use std::alloc::Global;
 use std::net::Shutdown;
 use std::os::fd::{AsRawFd, RawFd};
+use std::sync::atomic::{AtomicBool, Ordering};
 use std::sync::{Mutex, Wait};
 
 /// For how long, in milliseconds, a player may take none of the bytes that wait for it.
 pub const STALL_LIMIT: u64 = 10_000;
 
+// Within how many milliseconds a player takes some of what waits that takes bytes as they come.
+const SOON: u64 = 500;
+
 /// The writing side of a connection, shared by the lane that reads it and the pacers that send
 /// frames. It never blocks: what can't be written at once waits, up to a limit, and is written by
 /// `flush`. A message reaches the stream whole, or nothing of it does while the connection is open.
-/// Each call makes one system call at most while it holds the lock, and one more where it closes
-/// the connection. Moments are milliseconds of one clock.
+/// Each call makes one system call at most while it holds the lock, unless a signal interrupts it,
+/// and two more where it closes the connection, or one more where it first finds that the player
+/// takes bytes soon. Moments are milliseconds of one clock.
 #[derive(Drop)]
 pub struct Outlet {
     stream: TcpStream,
     pending: Mutex<Pending>,
     // How many requests the server made on the connection.
     requests: Mutex<u32>,
+    // Whether the system keeps as much of it as it may.
+    is_wide: AtomicBool,
 }
 
 impl Outlet {
@@ -37,6 +45,7 @@ impl Outlet {
             stream,
             pending: Mutex::new(Pending::new(alloc)),
             requests: Mutex::new(0),
+            is_wide: AtomicBool::new(false),
         }
     }
 
@@ -65,7 +74,15 @@ impl Outlet {
 
     // The player sees the end of the connection, and so does the lane.
     fn shut(&self) {
+        limit_the_end(self.fd());
         let _ = self.stream.shutdown(Shutdown::Both);
+    }
+
+    // Has the system keep more, once.
+    fn widen(&self) {
+        if !self.is_wide.swap(true, Ordering::SeqCst) {
+            widen(self.fd());
+        }
     }
 
     /// Writes a message whole, or keeps what is left of it, or drops it whole. At a response that
@@ -83,15 +100,20 @@ impl Outlet {
     }
 
     /// Writes what waits, as far as it goes at once: how many bytes are left, or `None` where the
-    /// connection is closed. It is called whenever the connection can be written.
+    /// connection is closed. It is called whenever the system tells that the connection can be
+    /// written, and from time to time, since the system tells late: what it takes meanwhile is what
+    /// the player has taken.
     pub fn flush<R: Wait>(&self, rt: &R, now: u64) -> Option<usize>
         ensures { IfSome result (λ left. left ≤ all_room) }
     {
         let mut pending = self.pending.lock(rt);
         let was_closed = pending.is_closed();
+        let (waited, since) = (pending.len(), pending.since());
         let left = pending.flush(&mut &self.stream, now);
-        if left.is_none() && !was_closed {
-            self.shut();
+        match left {
+            Some(left) if left < waited && now.saturating_sub(since) < SOON => self.widen(),
+            None if !was_closed => self.shut(),
+            Some(_) | None => {}
         }
         left
     }

@@ -85,6 +85,13 @@ impl Pending {
         self.bytes.len()
     }
 
+    // The moment at which a byte was written, or at which the first came to wait.
+    pub(crate) fn since(&self) -> u64
+        ensures { result ≡ self.now.since }
+    {
+        self.since
+    }
+
     pub(crate) fn is_closed(&self) -> bool
         ensures { IsTrue result ↔ IsClosed self.now }
     {

@@ -5,7 +5,7 @@ ghost use Rattle.rtsp_admit.specs.Binder.{raised};
 
 use crate::ports::PortTable;
 use rtsp_engine::{BindFault, Binder};
-use std::net::Net;
+use std::net::{Ipv4Addr, Net};
 use std::sync::Wait;
 
 /// Binds the ports of a table by opening their sockets.
@@ -13,17 +13,21 @@ use std::sync::Wait;
 pub struct PortBinder<'a, R> {
     rt: &'a R,
     table: &'a PortTable,
+    // The address of the host on which it binds.
+    host: Ipv4Addr,
     failed: u64,
 }
 
 impl<'a, R> PortBinder<'a, R> {
-    /// A binder of the table's ports. Any number of binders may have one table.
-    pub fn new(rt: &'a R, table: &'a PortTable) -> PortBinder<'a, R>
+    /// A binder of the table's ports on this address of the host, or on all of them where it is
+    /// `UNSPECIFIED`. Any number of binders may have one table.
+    pub fn new(rt: &'a R, table: &'a PortTable, host: Ipv4Addr) -> PortBinder<'a, R>
         ensures { result.failed ≡ 0 }
     {
         PortBinder {
             rt,
             table,
+            host,
             failed: 0,
         }
     }
@@ -52,7 +56,7 @@ impl<R: Net + Wait> Binder for PortBinder<'_, R> {
     ghost calls = { record { binds = λ b a p c. ⊤; fails = λ b a p c. ⊤; unbinds = λ b a p c. ⊤; failures = λ b. b.failed } };
 
     fn bind(&mut self, admission: u64, pair: u16) -> Result<(), BindFault> {
-        let is_bound = self.table.bind_pair(self.rt, admission, pair);
+        let is_bound = self.table.bind_pair(self.rt, self.host, admission, pair);
         self.counted(is_bound)
     }
 
@@ -61,7 +65,7 @@ impl<R: Net + Wait> Binder for PortBinder<'_, R> {
     }
 
     fn bind_port(&mut self, admission: u64, port: u16) -> Result<(), BindFault> {
-        let is_bound = self.table.bind_port(self.rt, admission, port);
+        let is_bound = self.table.bind_port(self.rt, self.host, admission, port);
         self.counted(is_bound)
     }
 

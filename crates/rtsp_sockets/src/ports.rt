@@ -71,19 +71,31 @@ impl PortTable {
         sockets_of(rt, &self.single, admission, port)
     }
 
-    // Whether the pair is now bound under the admission. The sockets are opened, and closed, while
-    // no one waits. Two addresses that share a port can't both be: the system refuses the second
-    // its socket.
-    pub(crate) fn bind_pair<R: Net + Wait>(&self, rt: &R, admission: u64, pair: u16) -> bool {
-        match open_address(rt, self.alloc, admission, pair) {
+    // Whether the pair is now bound under the admission, on this address of the host. The sockets
+    // are opened, and closed, while no one waits. Two that share a port can't both be: the system
+    // refuses the second its socket.
+    pub(crate) fn bind_pair<R: Net + Wait>(
+        &self,
+        rt: &R,
+        host: Ipv4Addr,
+        admission: u64,
+        pair: u16,
+    ) -> bool {
+        match open_address(rt, self.alloc, host, admission, pair) {
             Some(bound) => put(rt, &self.pairs, bound),
             None => false,
         }
     }
 
     // The same for a port alone.
-    pub(crate) fn bind_port<R: Net + Wait>(&self, rt: &R, admission: u64, port: u16) -> bool {
-        match open_address(rt, self.alloc, admission, port) {
+    pub(crate) fn bind_port<R: Net + Wait>(
+        &self,
+        rt: &R,
+        host: Ipv4Addr,
+        admission: u64,
+        port: u16,
+    ) -> bool {
+        match open_address(rt, self.alloc, host, admission, port) {
             Some(bound) => put(rt, &self.single, bound),
             None => false,
         }
@@ -136,10 +148,10 @@ fn take<R: Wait, const PORTS: usize>(
     slots.lock(rt).take(admission, port)
 }
 
-// A socket of this port, on all of the host's addresses. Reports of players come to it, and are
-// never read.
-fn open_socket<R: Net>(rt: &R, port: u16) -> Option<UdpSocket> {
-    let socket = UdpSocket::bind(rt, SocketAddrV4::new(Ipv4Addr::UNSPECIFIED, port)).ok()?;
+// A socket of this port, on an address of the host, from which packets leave then. Reports of
+// players come to it, and are never read.
+fn open_socket<R: Net>(rt: &R, host: Ipv4Addr, port: u16) -> Option<UdpSocket> {
+    let socket = UdpSocket::bind(rt, SocketAddrV4::new(host, port)).ok()?;
     socket.set_nonblocking(true).ok()?;
     if drop_input(socket.as_raw_fd()) {
         Some(socket)
@@ -152,15 +164,16 @@ fn open_socket<R: Net>(rt: &R, port: u16) -> Option<UdpSocket> {
 fn open_address<R: Net, const PORTS: usize>(
     rt: &R,
     alloc: Global,
+    host: Ipv4Addr,
     admission: u64,
     port: u16,
 ) -> Option<Bound<PORTS>>
     requires { (PORTS ≡ 1) ⊎ (PORTS ≡ 2) }
     ensures { IfSome result (λ b. IsOf b admission port) }
 {
-    let rtp = open_socket(rt, port)?;
+    let rtp = open_socket(rt, host, port)?;
     let rtcp = if PORTS == 2 {
-        Some(open_socket(rt, port.saturating_add(1))?)
+        Some(open_socket(rt, host, port.saturating_add(1))?)
     } else {
         None
     };
