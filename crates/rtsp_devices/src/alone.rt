@@ -16,8 +16,8 @@ use rtsp_lock::{LockBook, open};
 use std::alloc::{AllocError, Global};
 use std::sync::Wait;
 
-// The address of the player at standard input: 127.0.0.1.
-const PEER: u32 = 0x7f00_0001;
+/// The address of the player at standard input: 127.0.0.1.
+pub const PEER: u32 = 0x7f00_0001;
 
 /// How a connection has ended, and the book with its journal.
 #[derive(Drop)]

@@ -14,7 +14,7 @@ mod no_plays;
 mod port_set;
 mod standing_clock;
 
-pub use alone::{Conversation, serve_alone};
+pub use alone::{Conversation, PEER, serve_alone};
 pub use counted_words::CountedWords;
 pub use laws::{law_admitted_gains_ports, law_ports_show, law_refused_keeps_ports};
 pub use no_plays::NoPlays;
