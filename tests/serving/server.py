@@ -8,7 +8,7 @@ import socket
 import subprocess
 import tempfile
 import time
-from typing import Dict, List, NamedTuple, Optional, Sequence, Tuple
+from typing import Any, Dict, List, NamedTuple, Optional, Sequence, Tuple
 
 from checks import PROGRAM, Checks, Failed
 from rtsp_client.connection import Connection
@@ -59,7 +59,7 @@ class Presentation(NamedTuple):
 TONE = Presentation()
 
 
-def configuration(presentation: Presentation, first_port: int, **server: int) -> str:
+def configuration(presentation: Presentation, first_port: int, **server: Any) -> str:
     """The text of a configuration."""
     settings = {"pairs": 8, "uplink": 8 * presentation.whole_rate, "sessions": 64, **server}
     lines = ["[server]", f"first_port = {first_port}", *(f"{key} = {value}" for key, value in settings.items())]
@@ -101,7 +101,7 @@ class Server:
         words: Sequence[str] = (),
         descriptors: Optional[int] = None,
         text: Optional[str] = None,
-        **server: int,
+        **server: Any,
     ) -> None:
         self.checks = checks
         self.presentation = presentation

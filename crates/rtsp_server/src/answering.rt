@@ -4,16 +4,16 @@ ghost use Rattle.std.specs.Prelude.{◌≡◌, ◌++◌, IfErr, OnOk};
 ghost use Rattle.rtsp_grammar.specs.Answer.{IsUndecided};
 ghost use Rattle.rtsp_lock.specs.Calls.{SameSeat};
 ghost use Rattle.rtsp_engine.specs.Devices.{devices};
-ghost use Rattle.rtsp_engine.specs.Served.{Answered, FaultedAfter};
-ghost use Rattle.rtsp_engine.specs.Serving.{AnswersFrom, GivesUpFrom, serving_of};
-ghost use Rattle.rtsp_engine.specs.Visiting.{gathers};
+ghost use Rattle.rtsp_engine.specs.Serving.{serving_of};
+ghost use Rattle.rtsp_dialect.specs.Understanding.{AnswersUnderstood, GivesUpUnderstood, TakesPiece, FaultsPiece, gathered};
 
 use crate::activity::Activity;
 use crate::limits::{ANSWERS, PAUSE};
 use crate::relieving::make_room;
 use crate::shared::Shared;
 use rtsp_content::Table;
-use rtsp_engine::{Asker, Binder, Clock, Connection, PieceAnswerer, Plays, Words, push_lent};
+use rtsp_dialect::push_lent;
+use rtsp_engine::{Asker, Binder, Clock, Connection, PieceAnswerer, Plays, Words};
 use rtsp_grammar::MessageFault;
 use rtsp_lanes::BookHandle;
 use rtsp_pacing::NotedPlays;
@@ -42,7 +42,8 @@ pub(crate) struct Front<'a, R> {
 }
 
 // Takes a piece of a connection's input over the connection's handle of the book, the server's
-// sockets and its clock, which is read once at most.
+// sockets and its clock, which is read once at most. Each item is answered as the players of the
+// configuration mean it.
 fn answer_piece<R: Wait + Net + rt::Clock, W: Words, P: Plays>(
     rt: &R,
     alloc: Global,
@@ -56,9 +57,9 @@ fn answer_piece<R: Wait + Net + rt::Clock, W: Words, P: Plays>(
     piece: &[u8],
     room: &mut Room,
 ) -> Result<(), MessageFault>
-    ensures goes_on { OnOk result (Answered (AnswersFrom (devices ⟦<PortBinder<'static, R> as Binder>⟧.calls W.calls ⟦<PieceClock<'static, R> as Clock>⟧.tells P.calls)) (GivesUpFrom (devices ⟦<PortBinder<'static, R> as Binder>⟧.calls W.calls ⟦<PieceClock<'static, R> as Clock>⟧.tells P.calls)) (input.old ++ piece.now) input.new (gathers room.old.text (serving_of table.now asker handle.old.seat)) (gathers room.new.text (serving_of table.now asker handle.new.seat))) }
+    ensures goes_on { OnOk result (TakesPiece (devices ⟦<PortBinder<'static, R> as Binder>⟧.calls W.calls ⟦<PieceClock<'static, R> as Clock>⟧.tells P.calls) (input.old ++ piece.now) input.new (gathered table.now asker handle.old.seat room.old) (gathered table.now asker handle.new.seat room.new)) }
     ensures undecided { OnOk result (IsUndecided input.new) }
-    ensures ends { IfErr result (λ f. FaultedAfter (AnswersFrom (devices ⟦<PortBinder<'static, R> as Binder>⟧.calls W.calls ⟦<PieceClock<'static, R> as Clock>⟧.tells P.calls)) (GivesUpFrom (devices ⟦<PortBinder<'static, R> as Binder>⟧.calls W.calls ⟦<PieceClock<'static, R> as Clock>⟧.tells P.calls)) (input.old ++ piece.now) f (gathers room.old.text (serving_of table.now asker handle.old.seat)) (gathers room.new.text (serving_of table.now asker handle.new.seat))) }
+    ensures ends { IfErr result (λ f. FaultsPiece (devices ⟦<PortBinder<'static, R> as Binder>⟧.calls W.calls ⟦<PieceClock<'static, R> as Clock>⟧.tells P.calls) (input.old ++ piece.now) f (gathered table.now asker handle.old.seat room.old) (gathered table.now asker handle.new.seat room.new)) }
 {
     let mut binder = PortBinder::new(rt, &shared.ports);
     let mut clock = PieceClock::new(rt, shared.begun);
@@ -82,9 +83,9 @@ fn answer_piece<R: Wait + Net + rt::Clock, W: Words, P: Plays>(
 impl<R: Wait + Net + rt::Clock> PieceAnswerer for Front<'_, R> {
     ghost serving = { λ f. serving_of f.table.now f.asker f.handle.now.seat };
 
-    ghost answers = { AnswersFrom (devices ⟦<PortBinder<'static, R> as Binder>⟧.calls ⟦<RandomWords as Words>⟧.calls ⟦<PieceClock<'static, R> as Clock>⟧.tells ⟦<NotedPlays as Plays>⟧.calls) };
+    ghost answers = { AnswersUnderstood (devices ⟦<PortBinder<'static, R> as Binder>⟧.calls ⟦<RandomWords as Words>⟧.calls ⟦<PieceClock<'static, R> as Clock>⟧.tells ⟦<NotedPlays as Plays>⟧.calls) };
 
-    ghost gives_up = { GivesUpFrom (devices ⟦<PortBinder<'static, R> as Binder>⟧.calls ⟦<RandomWords as Words>⟧.calls ⟦<PieceClock<'static, R> as Clock>⟧.tells ⟦<NotedPlays as Plays>⟧.calls) };
+    ghost gives_up = { GivesUpUnderstood (devices ⟦<PortBinder<'static, R> as Binder>⟧.calls ⟦<RandomWords as Words>⟧.calls ⟦<PieceClock<'static, R> as Clock>⟧.tells ⟦<NotedPlays as Plays>⟧.calls) };
 
     fn push(
         &mut self,

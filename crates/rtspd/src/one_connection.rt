@@ -4,8 +4,9 @@ ghost use Rattle.rtsp_lock.specs.Calls.{IsSeatOf};
 
 use rtsp_book::Kept;
 use rtsp_command_line::Exit;
-use rtsp_content::Table;
+use rtsp_content::{Players, Table};
 use rtsp_devices::{CountedWords, NoPlays, PortSet, StandingClock};
+use rtsp_dialect::serve_repaired;
 use rtsp_engine::{Asker, ByteIn, ByteOut, Desk, ServeEnd};
 use rtsp_lock::{BookLock, BookSeat, LockBook, open};
 use rtsp_server::whole_of;
@@ -76,7 +77,10 @@ impl OneConnection {
             table: &self.table,
             asker: self.asker,
         };
-        desk.serve(alloc, reader, writer, turns)
+        match self.table.server().players {
+            Players::Strict => desk.serve(alloc, reader, writer, turns),
+            Players::Gstreamer => serve_repaired(alloc, &mut desk, reader, writer, turns),
+        }
     }
 
     /// The book with its journal.
