@@ -1,5 +1,5 @@
 -- Up to which moment a sweep may end what is over.
-use Rattle.std.specs.Prelude.{◌≡◌, ℕ, ◌≤◌, List, [], ◌∷◌, All, Some, None, max, slice_get, slice_set}
+use Rattle.std.specs.Prelude.{◌≡◌, ℕ, ◌≤◌, List, [], ◌∷◌, Some, None, max, slice_get, slice_set}
 
 -- the moments up to which the lanes have read all that had come, and those of the last sweeps, the oldest first
 pub record Marks : Type 0 where
@@ -16,12 +16,13 @@ abbrev pub oldest : List ℕ → ℕ
 oldest [] = 0
 oldest (moment ∷ later) = moment
 
--- a lane has read up to a moment, or was waited for long enough, since a sweep that old
-abbrev pub Allows : ℕ → ℕ → ℕ → Type 0
-Allows oldest moment read = moment ≤ max oldest read
+-- every lane has read up to a moment, or was waited for long enough, since a sweep that old
+abbrev pub AllAllow : ℕ → ℕ → List ℕ → Type 0
+AllAllow oldest moment [] = Unit {0}
+AllAllow oldest moment (read ∷ others) = (moment ≤ max oldest read) × AllAllow oldest moment others
 
 -- the greatest moment that has come and that every lane allows
 pub record IsMark (oldest : ℕ) (read : List ℕ) (now mark : ℕ) : Type 0 where
   pub come : mark ≤ now
-  pub allowed : All (Allows oldest mark) read
-  pub greatest : (moment : ℕ) → moment ≤ now → All (Allows oldest moment) read → moment ≤ mark
+  pub allowed : AllAllow oldest mark read
+  pub greatest : (moment : ℕ) → moment ≤ now → AllAllow oldest moment read → moment ≤ mark

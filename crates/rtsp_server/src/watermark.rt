@@ -34,7 +34,6 @@ impl Model for Watermark {
 }
 
 // The least of a moment and of others, of which none counts as less than `oldest`.
-#[tactic(auto, using(crate::proofs::Marks::is_mark))]
 fn least(now: u64, oldest: u64, moments: &[u64]) -> u64
     ensures { IsMark oldest moments.now now result }
 {
