@@ -2,14 +2,12 @@
 //! the server of a socket.
 //!
 //! `running` runs a command line of rtsp_command_line: the server behind standard input and output
-//! is that of rtsp_devices, or where the players are GStreamer's that of `repaired`; `serving` is
-//! that of a socket, and `reasons` tells why there is none.
+//! is that of rtsp_devices; `serving` is that of a socket, and `reasons` tells why there is none.
 
 #![tactic(auto)]
 
 mod example;
 mod reasons;
-mod repaired;
 mod running;
 mod serving;
 

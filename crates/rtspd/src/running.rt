@@ -2,11 +2,10 @@
 //! of a journal, and the server.
 
 use crate::example::EXAMPLE;
-use crate::repaired::serve_repaired_alone;
 use crate::serving::run_serve;
 use rtsp_book::PlainBook;
 use rtsp_command_line::{CommandLine, Exit, read_words};
-use rtsp_content::{Players, Table, TableFault};
+use rtsp_content::{Table, TableFault};
 use rtsp_devices::{Conversation, serve_alone};
 use rtsp_engine::{ByteOut, CountedReader, CountedWriter, ServeEnd, StreamFault, TURNS};
 use rtsp_grammar::MessageFault;
@@ -159,13 +158,8 @@ fn run_stdio<R: Files + AllocGlobal + Wait, I: Read + Drop, O: Write + Drop>(
     let table = read_table(rt, config)?;
     let mut reader = CountedReader::new(reader);
     let mut writer = CountedWriter::new(writer);
-    let served_alone = match table.server().players {
-        Players::Strict => serve_alone(rt, rt.alloc(), &table, &mut reader, &mut writer, TURNS),
-        Players::Gstreamer => {
-            serve_repaired_alone(rt, rt.alloc(), &table, &mut reader, &mut writer, TURNS)
-        }
-    };
-    let Ok(conversation) = served_alone else {
+    let Ok(conversation) = serve_alone(rt, rt.alloc(), &table, &mut reader, &mut writer, TURNS)
+    else {
         return Err(Exit::OutOfMemory);
     };
     let Conversation { end, mut kept } = conversation;
