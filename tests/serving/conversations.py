@@ -2,6 +2,7 @@
 
 What is answered is what is stored, but for what is drawn or goes on with time: ids, SSRCs, sequence numbers and
 timestamps are put in the place of the stored ones, ports count from the server's first, and a play may have gone on.
+And where `stdio` finds its journal full, the server makes room by a checkpoint.
 """
 import pathlib
 import re
@@ -22,6 +23,8 @@ PORTS = re.compile(r'(?<=src_addr=)":\d+"(?:/":\d+")?')
 POINT = re.compile(r"(?m)^(Range: npt=|position: )(\d+\.\d{3})")
 LENGTH = re.compile(rb"(?im)^content-length: *(\d{1,5})\r$")
 STORED_FIRST_PORT = 5000
+# Answers that are 503 where nobody makes room in a full journal, and 200 from a server that does.
+ROOM_IS_MADE = {("journal-of-eight", 4)}
 # A point may lie so much later than the time that has passed, in seconds: a unit, and what rounds.
 ROUNDING = 0.041
 
@@ -139,12 +142,17 @@ def as_stored(came: str, stored: str, shift: int, passed: float) -> str:
     return POINT.sub(point, came)
 
 
-def compare(checks: Checks, where: str, server: Server, talk: Talk, ids: Dict[str, str], stored: List[Message]) -> None:
+def compare(
+    checks: Checks, name: str, where: str, server: Server, talk: Talk, ids: Dict[str, str], stored: List[Message]
+) -> None:
     checks.same(f"{where}: how many answers", len(stored), len(talk.answers))
     checks.same(f"{where}: what is left of an answer", b"", bytes(talk.reader.held))
     shift = server.first_port - STORED_FIRST_PORT
     named = {came: wanted for wanted, came in ids.items()}
     for number, (wanted, (came, passed)) in enumerate(zip(stored, talk.answers), 1):
+        if (name, number) in ROOM_IS_MADE:
+            checks.same(f"{where}: the statuses of answer {number}", (503, 200), (wanted.status, came.status))
+            continue
         text = text_of(came)
         # An id stands for the stored one wherever it comes; a new one is put in the place of the stored one.
         for identity, known in named.items():
@@ -191,7 +199,7 @@ def converse(checks: Checks, path: pathlib.Path, in_bytes: bool) -> None:
         ids = spoken(talk, path.read_bytes(), stored)
         talk.socket.close()
         checks.same(f"{where}: the status", 0, server.ends(10))
-    compare(checks, where, server, talk, ids, stored)
+    compare(checks, name, where, server, talk, ids, stored)
 
 
 def converse_all(checks: Checks, in_bytes: bool) -> None:
