@@ -109,11 +109,11 @@ def plays_of(checks: Checks, way: str) -> None:
         server.answers("afterwards")
 
 
-@serving_test(limit=110, is_timed=True)
+@serving_test(limit=110, is_timed=True, is_by_name=True)
 def gstreamer_plays_over_tcp(checks: Checks) -> None:
     plays_of(checks, "tcp")
 
 
-@serving_test(limit=110, is_timed=True)
+@serving_test(limit=110, is_timed=True, is_by_name=True)
 def gstreamer_plays_over_udp(checks: Checks) -> None:
     plays_of(checks, "udp")

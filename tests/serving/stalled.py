@@ -1,7 +1,6 @@
 """Players that don't read: what becomes of them, and that nobody else notices."""
 import contextlib
 import multiprocessing
-import os
 import select
 import socket
 import threading
@@ -71,8 +70,7 @@ def a_player_that_never_reads(checks: Checks) -> None:
 
 
 # A player that reads so many bytes a second, for so many seconds.
-SLOWLY = 2000
-SLOW_FOR = 20.0 if os.environ.get("RTSPD_FAST") else 60.0
+SLOWLY, SLOW_FOR = 2000, 60.0
 LOOKS = 10
 
 
@@ -95,23 +93,28 @@ def read_slowly(player: Player, seconds: float) -> bytes:
 
 
 def read_until_answered(player: Player, seconds: float) -> bytes:
-    """What comes on a connection up to the answer to its last request, within so many seconds."""
+    """What comes on a connection up to the answer to its last request, within so many seconds, and for a second more: all
+    that waited was read by then, so frames come again."""
     until, came = time.monotonic() + seconds, bytearray()
     answer = f"RTSP/2.0 200 OK\r\nCSeq: {player.connection.cseq}\r\n".encode()
     player.connection.socket.settimeout(seconds)
-    while answer not in came and time.monotonic() < until:
+    is_answered = False
+    while time.monotonic() < until:
         with contextlib.suppress(OSError):
             came += player.connection.socket.recv(MEGABYTES)
+        if not is_answered and answer in came:
+            is_answered, until = True, time.monotonic() + 1.0
+            player.connection.socket.settimeout(0.2)
     return bytes(came)
 
 
-@serving_test(limit=110, is_alone=True)
+@serving_test(limit=110, is_alone=True, is_long=True)
 def a_player_that_reads_slowly(checks: Checks) -> None:
     """It is served as long as it takes what it can, and loses whole frames; beside it another one is on time."""
     with Witness() as witness, Server(checks, TONE_OF_A_MINUTE, timeout=120) as server:
         reader = played(server, 1 << 18)
         slow = played(server, 4096)
-        listening = threading.Thread(target=lambda: reader.listen(min(SLOW_FOR, 50.0)))
+        listening = threading.Thread(target=lambda: reader.listen(50.0))
         listening.start()
         began = time.monotonic()
         text = read_slowly(slow, SLOW_FOR)
