@@ -123,25 +123,25 @@ def beside(checks: Checks, workers: int, names: List[str]) -> None:
         judge(Punctuality(checks, witness.stalls()), heard.arrivals)
 
 
-@serving_test(limit=45, is_alone=True, is_by_name=True)
+@serving_test(limit=45, is_alone=True)
 def beside_a_flood_of_plays(checks: Checks) -> None:
     """One connection asks for PLAY without end."""
     beside(checks, 4, ["PLAYs"])
 
 
-@serving_test(limit=45, is_alone=True, is_by_name=True)
+@serving_test(limit=45, is_alone=True)
 def beside_a_flood_of_setups(checks: Checks) -> None:
     """One connection sets the same track up again without end."""
     beside(checks, 4, ["SETUPs"])
 
 
-@serving_test(limit=45, is_alone=True, is_by_name=True)
+@serving_test(limit=45, is_alone=True)
 def beside_a_flood_of_renewals(checks: Checks) -> None:
     """One connection renews some sessions without end."""
     beside(checks, 4, ["renewals"])
 
 
-@serving_test(limit=45, is_alone=True, is_by_name=True)
+@serving_test(limit=45, is_alone=True)
 def beside_all_floods_with_64_lanes(checks: Checks) -> None:
     """With as many lanes as there can be, and all three at once."""
     beside(checks, 64, [*FLOODS])
@@ -154,7 +154,7 @@ def renewed(talk: Connection, uri: str, session: str) -> int:
     return status
 
 
-@serving_test(limit=120, is_long=True, is_by_name=True)
+@serving_test(limit=120, is_long=True)
 def a_session_outlives_its_journal(checks: Checks) -> None:
     """A session is renewed ten times as often as the journal has entries; it lives, and there is room for another."""
     sessions = 4
@@ -179,7 +179,7 @@ def a_session_outlives_its_journal(checks: Checks) -> None:
 FAR_TOO_SHORT = 40
 
 
-@serving_test(limit=30, is_by_name=True)
+@serving_test(limit=30)
 def a_journal_far_too_short(checks: Checks) -> None:
     """Whoever finds the journal full has a checkpoint made, and is answered, as long as that makes room."""
     settings = {"pairs": 0, "sessions": 4, "uplink": 4 * ONE_TRACK.whole_rate, "journal": FAR_TOO_SHORT}
@@ -202,7 +202,7 @@ def a_journal_far_too_short(checks: Checks) -> None:
 TOGETHER, UNDER_WAY_TOGETHER = 6, 20
 
 
-@serving_test(limit=60, is_timed=True, is_by_name=True)
+@serving_test(limit=60, is_timed=True)
 def a_session_that_is_always_set_up(checks: Checks) -> None:
     """Six connections set one track up in one session without end: at most looks some SETUP of it is under way."""
     journal = least_journal(4, 16, 2)
