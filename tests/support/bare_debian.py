@@ -1,4 +1,4 @@
-"""The .deb in a bare Debian: a folder that debootstrap fills, entered by chroot. It takes root, a network and minutes."""
+"""The .deb in a bare Debian: a folder that debootstrap fills, entered by chroot. It takes root, a network, minutes."""
 import os
 import pathlib
 import shutil

@@ -1,5 +1,5 @@
-"""What three texts say of each key of the configuration: docs/REFERENCE.md, the manual's rtspd.toml(5), and the comments
-of examples/commented.toml."""
+"""What three texts say of each key of the configuration: docs/REFERENCE.md, the manual's rtspd.toml(5), and the
+comments of examples/commented.toml."""
 import re
 from typing import Dict, Iterator, List, NamedTuple, Optional, Tuple
 
