@@ -44,7 +44,8 @@ def test(checks: Checks, deb: pathlib.Path, work: pathlib.Path, is_proved: bool)
     for words in (
         ["rtspd", "audit", "--journal", "/dev/null"],
         ["systemd-analyze", "verify", "rtspd.service"],
-        ["mandoc", "-Tlint", "-Wwarning", "/usr/share/man/man1/rtspd.1.gz", "/usr/share/man/man5/rtspd.toml.5.gz"],
+        ["sh", "-c", "zcat /usr/share/man/man1/rtspd.1.gz | mandoc -Tlint -Wwarning"],
+        ["sh", "-c", "zcat /usr/share/man/man5/rtspd.toml.5.gz | mandoc -Tlint -Wwarning"],
         ["man", "--warnings", "1", "rtspd"],
         ["man", "--warnings", "5", "rtspd.toml"],
         ["dpkg", "--verify", "rtspd"],
