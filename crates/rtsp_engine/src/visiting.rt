@@ -62,9 +62,11 @@ pub trait PieceAnswerer {
         piece: &[u8],
         room: &mut Room,
     ) -> Result<(), MessageFault>
-        ensures goes_on { OnOk result (Answered answers gives_up (input.old ++ piece.now) input.new (at room.old (serving self.old)) (at room.new (serving self.new))) }
+        ensures goes_on { OnOk result (Answered answers gives_up (input.old ++ piece.now) input.new
+            (at room.old (serving self.old)) (at room.new (serving self.new))) }
         ensures undecided { OnOk result (IsUndecided input.new) }
-        ensures ends { IfErr result (λ f. FaultedAfter answers gives_up (input.old ++ piece.now) f (at room.old (serving self.old)) (at room.new (serving self.new))) };
+        ensures ends { IfErr result (λ f. FaultedAfter answers gives_up (input.old ++ piece.now) f
+            (at room.old (serving self.old)) (at room.new (serving self.new))) };
 
     /// Whether the answers so far, of so many bytes, are to be written at once.
     fn is_due(&self, gathered: usize) -> bool;
