@@ -343,6 +343,6 @@ impl Client {
         outlet.close(rt);
         shared.outlets.remove(rt, asker.conn);
         take_leave(rt, &mut handle, shared, asker.conn);
-        shared.gate.leave();
+        shared.gate.leave(rt, asker.peer);
     }
 }
