@@ -18,6 +18,7 @@ use Rattle.rtsp_devices.specs.declared.port_set.PortSet.{PortSet}
 use Rattle.rtsp_devices.specs.declared.counted_words.CountedWords.{CountedWords}
 use Rattle.rtsp_devices.specs.declared.standing_clock.StandingClock.{StandingClock}
 use Rattle.rtsp_devices.specs.declared.no_plays.NoPlays.{NoPlays}
+use Rattle.rtsp_devices.specs.declared.no_shares.NoShares.{NoShares}
 use Rattle.rtsp_devices.specs.Alone.{stdio_devices, IsFresh, ServedAlone}
 use Rattle.rtsp_devices.specs.PortSet.{NoneBound}
 
@@ -36,7 +37,7 @@ pub bound_none : (first pairs first' pairs' : ℕ) (b : PortSet) → (first ≡ 
 bound_none first pairs first' pairs' b same none = subst (λ (p : ℕ). NoneBound p pairs' b) same.0 (subst (λ (n : ℕ). NoneBound first n b) same.1 none)
 
 module _ {R I O : Type 0} (remaining : I → Option (List ℕ)) (contents : O → Option (List ℕ)) (table : TableValue) (end : ServeEnd) (kept : History) (i j : I) (o p : O)
-    (first last : Desk R PortSet CountedWords StandingClock NoPlays) where
+    (first last : Desk R PortSet CountedWords StandingClock NoPlays NoShares) where
   pub alone_served : (seat : BookSeat) (u : View) → IsFresh table first → last.seat.now ≡ seat → ServedGrows stdio_devices R
       → EndsAt stdio_devices remaining contents end (parts i o first) (parts j p last)
       → (OwnsAll (seat_view first.seat.now) → EndsCleanly stdio_devices remaining contents end (parts i o first) (parts j p last))

@@ -1,4 +1,5 @@
 pub mod Alone
 pub mod CountedWords
 pub mod Has
+pub mod NoShares
 pub mod PortSet

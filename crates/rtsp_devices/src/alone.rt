@@ -6,6 +6,7 @@ ghost use Rattle.rtsp_devices.specs.Alone.{ServedAlone};
 
 use crate::counted_words::CountedWords;
 use crate::no_plays::NoPlays;
+use crate::no_shares::NoShares;
 use crate::port_set::PortSet;
 use crate::standing_clock::StandingClock;
 use rtsp_book::Kept;
@@ -45,7 +46,7 @@ pub fn serve_alone<R: Wait, I: ByteIn, O: ByteOut>(
     ensures spent { IfOk result (λ c. SpendsTurns c.end turns (I.remaining reader.old) (I.remaining reader.new)) }
 {
     law_owns_all();
-    law_served_grows::<R, PortSet, CountedWords, StandingClock, NoPlays>();
+    law_served_grows::<R, PortSet, CountedWords, StandingClock, NoPlays, NoShares>();
     let whole = whole_of(table);
     let (lock, mut seat) = open(alloc, &whole)?;
     let mut binder = PortSet::open(alloc, whole.first_port, whole.pairs)?;
@@ -55,6 +56,7 @@ pub fn serve_alone<R: Wait, I: ByteIn, O: ByteOut>(
     let mut words = CountedWords::new();
     let mut clock = StandingClock;
     let mut plays = NoPlays;
+    let mut shares = NoShares;
     let mut desk = Desk {
         rt,
         seat: &mut seat,
@@ -63,6 +65,7 @@ pub fn serve_alone<R: Wait, I: ByteIn, O: ByteOut>(
         words: &mut words,
         clock: &mut clock,
         plays: &mut plays,
+        shares: &mut shares,
         table,
         asker: Asker { conn, peer: PEER },
     };

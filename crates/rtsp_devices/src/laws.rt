@@ -1,12 +1,18 @@
-//! Laws over the ports that a set has, each the contract of a function that does nothing.
+//! Laws over the devices, each the contract of a function that does nothing.
 
 ghost use Rattle.rtsp_admit.specs.Addresses.{ShowsAddresses};
+ghost use Rattle.rtsp_devices.specs.Alone.{AlwaysHasPlace};
 ghost use Rattle.rtsp_devices.specs.Has.{has, RefusalsKeepPorts, AdmissionsGainPorts};
 ghost use Rattle.rtsp_devices.specs.PortSet.{calls};
 
+use crate::counted_words::CountedWords;
+use crate::no_plays::NoPlays;
+use crate::no_shares::NoShares;
 use crate::port_set::PortSet;
+use crate::standing_clock::StandingClock;
 use rtsp_admit::{law_admitted_address, law_refused_addresses};
 use rtsp_book::Ask;
+use rtsp_engine::law_never_wants_place;
 
 /// What a set has shows in its calls: a bind adds its ports, which it had not; a failed one changes
 /// nothing; an unbind takes its ports away.
@@ -30,4 +36,12 @@ pub fn law_admitted_gains_ports(ask: &Ask)
 {
     law_ports_show();
     law_admitted_address::<PortSet>(ask);
+}
+
+/// A connection that is served alone is refused nothing for want of a place: its answers are those
+/// of a server without shares.
+pub fn law_alone_has_places()
+    ensures { AlwaysHasPlace }
+{
+    law_never_wants_place::<PortSet, CountedWords, StandingClock, NoPlays, NoShares>();
 }

@@ -2,7 +2,7 @@
 //! answers are to be the same in each run; and the server of one connection over them, in `alone`.
 //!
 //! The definitions of `specs/` read in this order: PortSet (which ports are bound), Has (what of
-//! that an admission changes), CountedWords (words that are counted), Alone (how one connection is
+//! that an admission changes), CountedWords (words that are counted), NoShares, Alone (how one connection is
 //! served from a book of its own).
 
 #![tactic(auto)]
@@ -11,12 +11,16 @@ mod alone;
 mod counted_words;
 mod laws;
 mod no_plays;
+mod no_shares;
 mod port_set;
 mod standing_clock;
 
 pub use alone::{Conversation, PEER, serve_alone};
 pub use counted_words::CountedWords;
-pub use laws::{law_admitted_gains_ports, law_ports_show, law_refused_keeps_ports};
+pub use laws::{
+    law_admitted_gains_ports, law_alone_has_places, law_ports_show, law_refused_keeps_ports,
+};
 pub use no_plays::NoPlays;
+pub use no_shares::NoShares;
 pub use port_set::PortSet;
 pub use standing_clock::StandingClock;

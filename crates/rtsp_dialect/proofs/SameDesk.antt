@@ -11,30 +11,31 @@ use Rattle.rtsp_engine.specs.declared.desk.Desk.{Desk}
 use Rattle.rtsp_engine.proofs.Keeping.{answered_keeps, fault_keeps}
 use Rattle.rtsp_dialect.specs.Repairing.{AnswersRepaired, GivesUpRepaired, Takes, Faults}
 
-module _ {R B W C P : Type 0} where
-  same_parts : (s : Desk R B W C P) → SameParts s s
-  same_parts s = record { seat = refl; binder = refl; words = refl; clock = refl; plays = refl; table = refl; asker = refl; same = (refl, refl) }
+module _ {R B W C P S : Type 0} where
+  same_parts : (s : Desk R B W C P S) → SameParts s s
+  same_parts s = record { seat = refl; binder = refl; words = refl; clock = refl; plays = refl; shares = refl; table = refl; asker = refl; same = (refl, refl) }
 
-  same_again : (s t u : Desk R B W C P) → SameParts s t → SameParts t u → SameParts s u
+  same_again : (s t u : Desk R B W C P S) → SameParts s t → SameParts t u → SameParts s u
   same_again s t u h k = record {
     seat = k.seat ∙ h.seat;
     binder = k.binder ∙ h.binder;
     words = k.words ∙ h.words;
     clock = k.clock ∙ h.clock;
     plays = k.plays ∙ h.plays;
+    shares = k.shares ∙ h.shares;
     table = k.table ∙ h.table;
     asker = k.asker ∙ h.asker;
     same = (k.same.0 ∙ h.same.0, k.same.1 ∙ h.same.1);
   }
 
-  module _ (d : Devices B W C P) where
-    pub gives_up_same : (s t : Desk R B W C P) (item : Item) → GivesUpRepaired (AnswersAt d) (GivesUpAt d) s item t → SameParts s t
-    gives_up_same s t (items.Request request) (inl same) = subst (λ (z : Desk R B W C P). SameParts s z) (sym same) (same_parts s)
+  module _ (d : Devices B W C P S) where
+    pub gives_up_same : (s t : Desk R B W C P S) (item : Item) → GivesUpRepaired (AnswersAt d) (GivesUpAt d) s item t → SameParts s t
+    gives_up_same s t (items.Request request) (inl same) = subst (λ (z : Desk R B W C P S). SameParts s z) (sym same) (same_parts s)
     gives_up_same s t (items.Request request) (inr h) = h.1
     gives_up_same s t (items.Response response) h = h.1
     gives_up_same s t (items.Frame frame) h = h.1
 
-    pub pushed_same : (pushed : Result (Unit {0}) MessageFault) (bytes rest : List ℕ) (s t : Output (Desk R B W C P))
+    pub pushed_same : (pushed : Result (Unit {0}) MessageFault) (bytes rest : List ℕ) (s t : Output (Desk R B W C P S))
         → OnOk pushed (Takes d bytes rest s t) → IfErr pushed (λ f. Faults d bytes f s t) → SameParts s.answerer t.answerer
     pushed_same (Ok done) bytes rest s t ok err =
         answered_keeps (AnswersRepaired (AnswersAt d) (GivesUpAt d)) (GivesUpRepaired (AnswersAt d) (GivesUpAt d)) SameParts same_parts same_again (λ s t item bytes h. h.1) gives_up_same bytes rest s t ok

@@ -29,6 +29,15 @@ module _ {A : Type 0} (Answers : A → Item → List ℕ → A → Type 0) (Give
   abbrev pub GivesUpBehind : Repairing A → Item → Repairing A → Type 0
   GivesUpBehind old item new = GivesUpRepaired old.answerer.now item new.answerer.now × (new.answerer.ghost_name ≡ old.answerer.ghost_name)
 
+  abbrev pub TakesBehind : List ℕ → List ℕ → Output (Repairing A) → Output (Repairing A) → Type 0
+  TakesBehind bytes rest s t = Answered AnswersBehind GivesUpBehind bytes rest s t
+
+  abbrev pub FaultsBehind : List ℕ → MessageFault → Output (Repairing A) → Output (Repairing A) → Type 0
+  FaultsBehind bytes fault s t = FaultedAfter AnswersBehind GivesUpBehind bytes fault s t
+
+  abbrev pub EndsBehind : {I O : Type 0} → (I → Option (List ℕ)) → (O → Option (List ℕ)) → ServeEnd → Parts I O (Repairing A) → Parts I O (Repairing A) → Type 0
+  EndsBehind remaining contents end s t = Ends AnswersBehind GivesUpBehind remaining contents end s t
+
   -- bytes were items and a rest, and the repaired items were answered
   abbrev pub TakesRepaired : List ℕ → List ℕ → Output A → Output A → Type 0
   TakesRepaired bytes rest s t = Answered AnswersRepaired GivesUpRepaired bytes rest s t
@@ -42,12 +51,12 @@ module _ {A : Type 0} (Answers : A → Item → List ℕ → A → Type 0) (Give
   EndsRepaired remaining contents end s t = Ends AnswersRepaired GivesUpRepaired remaining contents end s t
 
 -- from a desk
-module _ {R B W C P : Type 0} (d : Devices B W C P) where
-  abbrev pub Takes : List ℕ → List ℕ → Output (Desk R B W C P) → Output (Desk R B W C P) → Type 0
+module _ {R B W C P S : Type 0} (d : Devices B W C P S) where
+  abbrev pub Takes : List ℕ → List ℕ → Output (Desk R B W C P S) → Output (Desk R B W C P S) → Type 0
   Takes bytes rest s t = TakesRepaired (AnswersAt d) (GivesUpAt d) bytes rest s t
 
-  abbrev pub Faults : List ℕ → MessageFault → Output (Desk R B W C P) → Output (Desk R B W C P) → Type 0
+  abbrev pub Faults : List ℕ → MessageFault → Output (Desk R B W C P S) → Output (Desk R B W C P S) → Type 0
   Faults bytes fault s t = FaultsRepaired (AnswersAt d) (GivesUpAt d) bytes fault s t
 
-  abbrev pub EndsAt : {I O : Type 0} → (I → Option (List ℕ)) → (O → Option (List ℕ)) → ServeEnd → Parts I O (Desk R B W C P) → Parts I O (Desk R B W C P) → Type 0
+  abbrev pub EndsAt : {I O : Type 0} → (I → Option (List ℕ)) → (O → Option (List ℕ)) → ServeEnd → Parts I O (Desk R B W C P S) → Parts I O (Desk R B W C P S) → Type 0
   EndsAt remaining contents end s t = EndsRepaired (AnswersAt d) (GivesUpAt d) remaining contents end s t

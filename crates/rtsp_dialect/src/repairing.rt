@@ -4,8 +4,8 @@ ghost use Rattle.std.specs.Prelude.{◌≡◌, ◌++◌, IfErr, OnOk, OnErr};
 ghost use Rattle.rtsp_grammar.specs.Answer.{IsUndecided};
 ghost use Rattle.rtsp_grammar.specs.declared.message.Item.{Item};
 ghost use Rattle.rtsp_engine.specs.Causes.{ReadFails, WriteFails, ClosesAtEnd, SpendsTurns};
-ghost use Rattle.rtsp_engine.specs.Served.{Puts, Answered, FaultedAfter, Ends, at, parts};
-ghost use Rattle.rtsp_dialect.specs.Repairing.{AnswersBehind, GivesUpBehind, TakesRepaired, FaultsRepaired, EndsRepaired};
+ghost use Rattle.rtsp_engine.specs.Served.{Puts, at, parts};
+ghost use Rattle.rtsp_dialect.specs.Repairing.{AnswersBehind, GivesUpBehind, TakesBehind, FaultsBehind, EndsBehind, TakesRepaired, FaultsRepaired, EndsRepaired};
 
 use crate::request::repair;
 use rtsp_engine::{Answerer, ByteIn, ByteOut, Connection, ServeEnd, serve_turns};
@@ -60,9 +60,9 @@ impl<A: Answerer> Repairing<'_, A> {
         room: &mut Room,
     ) -> Result<(), MessageFault>
         ensures kept { self.new.answerer.ghost_name ≡ self.old.answerer.ghost_name }
-        ensures goes_on { OnOk result (Answered (AnswersBehind A.answers A.gives_up) (GivesUpBehind A.answers A.gives_up) (connection.old ++ piece.now) connection.new (at room.old self.old) (at room.new self.new)) }
+        ensures goes_on { OnOk result (TakesBehind A.answers A.gives_up (connection.old ++ piece.now) connection.new (at room.old self.old) (at room.new self.new)) }
         ensures undecided { OnOk result (IsUndecided connection.new) }
-        ensures ends { IfErr result (λ f. FaultedAfter (AnswersBehind A.answers A.gives_up) (GivesUpBehind A.answers A.gives_up) (connection.old ++ piece.now) f (at room.old self.old) (at room.new self.new)) }
+        ensures ends { IfErr result (λ f. FaultsBehind A.answers A.gives_up (connection.old ++ piece.now) f (at room.old self.old) (at room.new self.new)) }
     {
         connection.push(alloc, self, piece, room)
     }
@@ -76,7 +76,7 @@ impl<A: Answerer> Repairing<'_, A> {
         turns: u64,
     ) -> ServeEnd
         ensures kept { self.new.answerer.ghost_name ≡ self.old.answerer.ghost_name }
-        ensures served { Ends (AnswersBehind A.answers A.gives_up) (GivesUpBehind A.answers A.gives_up) I.remaining O.contents result (parts reader.old writer.old self.old) (parts reader.new writer.new self.new) }
+        ensures served { EndsBehind A.answers A.gives_up I.remaining O.contents result (parts reader.old writer.old self.old) (parts reader.new writer.new self.new) }
         ensures read_fault { ReadFails result (I.failures reader.old) (I.failures reader.new) }
         ensures write_fault { WriteFails result (O.failures writer.old) (O.failures writer.new) }
         ensures closed { ClosesAtEnd result (I.remaining reader.new) }
@@ -95,9 +95,11 @@ pub fn push_repaired<A: Answerer>(
     piece: &[u8],
     room: &mut Room,
 ) -> Result<(), MessageFault>
-    ensures goes_on { OnOk result (TakesRepaired A.answers A.gives_up (connection.old ++ piece.now) connection.new (at room.old answerer.old) (at room.new answerer.new)) }
+    ensures goes_on { OnOk result (TakesRepaired A.answers A.gives_up
+        (connection.old ++ piece.now) connection.new (at room.old answerer.old) (at room.new answerer.new)) }
     ensures undecided { OnOk result (IsUndecided connection.new) }
-    ensures ends { IfErr result (λ f. FaultsRepaired A.answers A.gives_up (connection.old ++ piece.now) f (at room.old answerer.old) (at room.new answerer.new)) }
+    ensures ends { IfErr result (λ f. FaultsRepaired A.answers A.gives_up
+        (connection.old ++ piece.now) f (at room.old answerer.old) (at room.new answerer.new)) }
 {
     let mut repairing = Repairing { answerer };
     repairing.push(alloc, connection, piece, room)
@@ -112,7 +114,8 @@ pub fn serve_repaired<A: Answerer, I: ByteIn, O: ByteOut>(
     writer: &mut O,
     turns: u64,
 ) -> ServeEnd
-    ensures served { EndsRepaired A.answers A.gives_up I.remaining O.contents result (parts reader.old writer.old answerer.old) (parts reader.new writer.new answerer.new) }
+    ensures served { EndsRepaired A.answers A.gives_up I.remaining O.contents result
+        (parts reader.old writer.old answerer.old) (parts reader.new writer.new answerer.new) }
     ensures read_fault { ReadFails result (I.failures reader.old) (I.failures reader.new) }
     ensures write_fault { WriteFails result (O.failures writer.old) (O.failures writer.new) }
     ensures closed { ClosesAtEnd result (I.remaining reader.new) }

@@ -1,7 +1,7 @@
 use rtsp_content::Table;
-use rtsp_devices::{CountedWords, NoPlays, PortSet, StandingClock};
-use rtsp_dialect::push_lent;
-use rtsp_engine::{Asker, Connection};
+use rtsp_devices::{CountedWords, NoPlays, NoShares, PortSet, StandingClock};
+use rtsp_dialect::push_understood;
+use rtsp_engine::{Asker, Connection, Desk};
 use rtsp_lock::open;
 use rtsp_record::Whole;
 use rtsp_state::Room;
@@ -38,17 +38,21 @@ fn answered<R: AllocGlobal + Wait>(rt: &R, players: &str, text: &str) -> Result<
         conn: 1,
         peer: 0x7f00_0001,
     };
-    push_lent(
+    let mut desk = Desk {
         rt,
-        rt.alloc(),
-        &mut seat,
-        &lock,
-        &mut binder,
-        &mut CountedWords::new(),
-        &mut StandingClock,
-        &mut NoPlays,
-        &table,
+        seat: &mut seat,
+        lock: &lock,
+        binder: &mut binder,
+        words: &mut CountedWords::new(),
+        clock: &mut StandingClock,
+        plays: &mut NoPlays,
+        shares: &mut NoShares,
+        table: &table,
         asker,
+    };
+    push_understood(
+        rt.alloc(),
+        &mut desk,
         &mut connection,
         text.as_bytes(),
         &mut room,

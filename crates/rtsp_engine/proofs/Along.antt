@@ -1,7 +1,5 @@
 -- What was answered by somebody is answered, too, by whatever of that stays from one item to the next.
 use Rattle.std.proofs.Common.{◌≡◌, ℕ, List, [], ◌∷◌, Some, Result, Ok, Err, OnOk, IfErr, refl, ◌∙◌, ap, subst, inl, inr}
-use Rattle.rtsp_lock.specs.Calls.{seat_view}
-use Rattle.rtsp_lock.specs.declared.seat.BookSeat.{BookSeat}
 use Rattle.rtsp_grammar.specs.declared.fault.MessageFault.{MessageFault}
 use Rattle.rtsp_grammar.specs.declared.message.Item.{Item}
 use Rattle.rtsp_engine.specs.Desk.{service, served, state, SameParts}
@@ -9,7 +7,6 @@ use Rattle.rtsp_engine.specs.DeskAnswers.{AnswersAt, GivesUpAt, Takes, Faults}
 use Rattle.rtsp_engine.specs.Devices.{Devices}
 use Rattle.rtsp_engine.specs.Served.{Output, Served, Answered, Faulted, FaultedAfter}
 use Rattle.rtsp_engine.specs.Serving.{Serving, AnswersFrom, GivesUpFrom, desk_serving}
-use Rattle.rtsp_engine.specs.Visiting.{gathers}
 use Rattle.rtsp_engine.specs.declared.desk.Desk.{Desk}
 
 -- what stays of the answerer
@@ -58,40 +55,21 @@ module _ {S T : Type 0} (R : S → Item → List ℕ → S → Type 0) (L : S �
     faulted = faulted_along h.rest fault h.mid t.answerer h.faulted;
   }
 
-module _ {R B W C P : Type 0} where
-  same_service : (s t : Desk R B W C P) → SameParts s t → service t ≡ service s
+module _ {R B W C P S : Type 0} where
+  same_service : (s t : Desk R B W C P S) → SameParts s t → service t ≡ service s
   same_service s t h = ap (λ z. served z.now t.asker) h.table ∙ ap (λ z. served s.table.now z) h.asker
 
-  module _ (d : Devices B W C P) where
-    answers_from : (s t : Desk R B W C P) (item : Item) (bytes : List ℕ) → AnswersAt d s item bytes t → AnswersFrom d (desk_serving s) item bytes (desk_serving t)
+  module _ (d : Devices B W C P S) where
+    answers_from : (s t : Desk R B W C P S) (item : Item) (bytes : List ℕ) → AnswersAt d s item bytes t → AnswersFrom d (desk_serving s) item bytes (desk_serving t)
     answers_from s t item bytes h = record { before = state s; after = state t; seen = refl; sees = refl; same = same_service s t h.1; answers = h.0 }
 
-    gives_up_from : (s t : Desk R B W C P) (item : Item) → GivesUpAt d s item t → GivesUpFrom d (desk_serving s) item (desk_serving t)
+    gives_up_from : (s t : Desk R B W C P S) (item : Item) → GivesUpAt d s item t → GivesUpFrom d (desk_serving s) item (desk_serving t)
     gives_up_from s t item h = record { before = state s; after = state t; seen = refl; sees = refl; same = same_service s t h.1; gives_up = h.0 }
 
     -- a piece that was taken from a desk
-    pub takes_from : (bytes rest : List ℕ) (s t : Output (Desk R B W C P)) → Takes d bytes rest s t → Answered (AnswersFrom d) (GivesUpFrom d) bytes rest (along desk_serving s) (along desk_serving t)
+    pub takes_from : (bytes rest : List ℕ) (s t : Output (Desk R B W C P S)) → Takes d bytes rest s t → Answered (AnswersFrom d) (GivesUpFrom d) bytes rest (along desk_serving s) (along desk_serving t)
     takes_from bytes rest s t h = answered_along (AnswersAt d) (GivesUpAt d) (AnswersFrom d) (GivesUpFrom d) desk_serving answers_from gives_up_from bytes rest s t h
 
     -- one with a fault
-    pub faults_from : (bytes : List ℕ) (fault : MessageFault) (s t : Output (Desk R B W C P)) → Faults d bytes fault s t → FaultedAfter (AnswersFrom d) (GivesUpFrom d) bytes fault (along desk_serving s) (along desk_serving t)
+    pub faults_from : (bytes : List ℕ) (fault : MessageFault) (s t : Output (Desk R B W C P S)) → Faults d bytes fault s t → FaultedAfter (AnswersFrom d) (GivesUpFrom d) bytes fault (along desk_serving s) (along desk_serving t)
     faults_from bytes fault s t h = fault_along (AnswersAt d) (GivesUpAt d) (AnswersFrom d) (GivesUpFrom d) desk_serving answers_from gives_up_from bytes fault s t h
-
-    -- a piece that was taken over parts that were lent for it
-    pub lent_takes : (pushed : Result (Unit {0}) MessageFault) (bytes rest old new : List ℕ) (s t : Desk R B W C P) (seat : BookSeat) → t.seat.now ≡ seat → SameParts s t
-        → OnOk pushed (Takes d bytes rest (record { text = Some old; answerer = s }) (record { text = Some new; answerer = t }))
-        → OnOk pushed (Answered (AnswersFrom d) (GivesUpFrom d) bytes rest (gathers old (desk_serving s)) (gathers new (record { service = service s; view = seat_view seat })))
-    lent_takes (Ok done) bytes rest old new s t seat is same h =
-        subst (λ z. Answered (AnswersFrom d) (GivesUpFrom d) bytes rest (gathers old (desk_serving s)) (gathers new (record { service = service s; view = seat_view z }))) is
-        (subst (λ z. Answered (AnswersFrom d) (GivesUpFrom d) bytes rest (gathers old (desk_serving s)) (gathers new (record { service = z; view = seat_view t.seat.now }))) (same_service s t same)
-        (takes_from bytes rest (record { text = Some old; answerer = s }) (record { text = Some new; answerer = t }) h))
-    lent_takes (Err fault) bytes rest old new s t seat is same h = tt
-
-    pub lent_faults : (pushed : Result (Unit {0}) MessageFault) (bytes old new : List ℕ) (s t : Desk R B W C P) (seat : BookSeat) → t.seat.now ≡ seat → SameParts s t
-        → IfErr pushed (λ f. Faults d bytes f (record { text = Some old; answerer = s }) (record { text = Some new; answerer = t }))
-        → IfErr pushed (λ f. FaultedAfter (AnswersFrom d) (GivesUpFrom d) bytes f (gathers old (desk_serving s)) (gathers new (record { service = service s; view = seat_view seat })))
-    lent_faults (Ok done) bytes old new s t seat is same h = tt
-    lent_faults (Err fault) bytes old new s t seat is same h =
-        subst (λ z. FaultedAfter (AnswersFrom d) (GivesUpFrom d) bytes fault (gathers old (desk_serving s)) (gathers new (record { service = service s; view = seat_view z }))) is
-        (subst (λ z. FaultedAfter (AnswersFrom d) (GivesUpFrom d) bytes fault (gathers old (desk_serving s)) (gathers new (record { service = z; view = seat_view t.seat.now }))) (same_service s t same)
-        (faults_from bytes fault (record { text = Some old; answerer = s }) (record { text = Some new; answerer = t }) h))

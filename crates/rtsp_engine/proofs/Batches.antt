@@ -8,7 +8,7 @@ use Rattle.rtsp_grammar.specs.declared.message.Item.{Item}
 use Rattle.rtsp_engine.specs.Served.{Output, Line, Answered, Progress, FaultedAfter, LastBreaksOff, EndsFrom, Written, with_text, with_output, answered_by}
 use Rattle.rtsp_engine.specs.Serving.{Serving}
 use Rattle.rtsp_engine.specs.Streams.{HasCause, WritesPart}
-use Rattle.rtsp_engine.specs.Visiting.{Goes, Visits, VisitsChain, Moves, Delivers, CountsRead, CountsWrite, ClosesAtEnd, gathers, ended, serve_end}
+use Rattle.rtsp_engine.specs.Visiting.{Goes, Visits, VisitsChain, Moves, Delivers, CountsRead, CountsWrite, ClosesAtEnd, ended, serve_end}
 use Rattle.rtsp_engine.specs.declared.serving.ServeEnd.{ServeEnd}
 use Rattle.rtsp_engine.specs.declared.visiting.VisitEnd.{VisitEnd}
 use Rattle.rtsp_engine.specs.declared.visiting.VisitEnd.TheVariants.{More, Waits, Closed, ReadFault, WriteFault, Fault}
@@ -43,15 +43,15 @@ module _ (R : Serving → Item → List ℕ → Serving → Type 0) (L : Serving
 
   -- a piece more was read and answered
   pub batch_more : (start rest text piece last more : List ℕ) (s t u : Line Serving) → Batch start rest text s t → Consumes t.unread u.unread piece → t.output.text ≡ u.output.text
-      → Answered R L (rest ++ piece) last (gathers text t.output.answerer) (gathers more u.output.answerer) → Batch start last more s u
+      → Answered R L (rest ++ piece) last (record { text = Some text; answerer = t.output.answerer }) (record { text = Some more; answerer = u.output.answerer }) → Batch start last more s u
   batch_more start rest text piece last more s t u h read kept answered = record {
     held = h.held;
     mid = h.mid;
     before = h.before;
     bytes = h.bytes ++ piece;
     read = consumes_more h.mid.unread t.unread u.unread h.bytes piece h.read read;
-    gathered = subst (λ z. Answered R L z last (with_text (Some []) h.mid.output) (gathers more u.output.answerer)) (append_assoc h.held h.bytes piece)
-        (answered_more R L (h.held ++ h.bytes) rest piece last (with_text (Some []) h.mid.output) (gathers text t.output.answerer) (gathers more u.output.answerer) h.gathered answered);
+    gathered = subst (λ z. Answered R L z last (with_text (Some []) h.mid.output) (record { text = Some more; answerer = u.output.answerer })) (append_assoc h.held h.bytes piece)
+        (answered_more R L (h.held ++ h.bytes) rest piece last (with_text (Some []) h.mid.output) (record { text = Some text; answerer = t.output.answerer }) (record { text = Some more; answerer = u.output.answerer }) h.gathered answered);
     kept = h.kept ∙ kept;
   }
 
@@ -85,14 +85,14 @@ module _ (R : Serving → Item → List ℕ → Serving → Type 0) (L : Serving
 
   -- a fault was met in a piece, and told as far as it could be
   pub faults : (start rest text piece more : List ℕ) (fault : MessageFault) (end : ServeEnd) (s t u : Line Serving) (now : Option (List ℕ)) → Batch start rest text s t
-      → Consumes t.unread u.unread piece → t.output.text ≡ u.output.text → FaultedAfter R L (rest ++ piece) fault (gathers text t.output.answerer) (gathers more u.output.answerer)
+      → Consumes t.unread u.unread piece → t.output.text ≡ u.output.text → FaultedAfter R L (rest ++ piece) fault (record { text = Some text; answerer = t.output.answerer }) (record { text = Some more; answerer = u.output.answerer })
       → Written (Some end) (Err fault) more u.output.text now → EndsFrom R L start end s (wrote now u)
   faults start rest text piece more fault end s t u now h read kept k told =
-      let faulted : FaultedAfter R L (h.held ++ (h.bytes ++ piece)) fault (with_text (Some []) h.mid.output) (gathers more u.output.answerer) = record {
+      let faulted : FaultedAfter R L (h.held ++ (h.bytes ++ piece)) fault (with_text (Some []) h.mid.output) (record { text = Some more; answerer = u.output.answerer }) = record {
         rest = k.rest;
         mid = k.mid;
-        answered = subst (λ z. Answered R L z k.rest (with_text (Some []) h.mid.output) (gathers more k.mid)) (append_assoc h.held h.bytes piece)
-            (answered_more R L (h.held ++ h.bytes) rest piece k.rest (with_text (Some []) h.mid.output) (gathers text t.output.answerer) (gathers more k.mid) h.gathered k.answered);
+        answered = subst (λ z. Answered R L z k.rest (with_text (Some []) h.mid.output) (record { text = Some more; answerer = k.mid })) (append_assoc h.held h.bytes piece)
+            (answered_more R L (h.held ++ h.bytes) rest piece k.rest (with_text (Some []) h.mid.output) (record { text = Some text; answerer = t.output.answerer }) (record { text = Some more; answerer = k.mid }) h.gathered k.answered);
         faulted = k.faulted;
       } in
       ends_after R L start h.held (h.bytes ++ piece) [] more (Err fault) end s h.mid (wrote now u) h.before

@@ -37,7 +37,8 @@ use Rattle.rtsp_engine.specs.Drawing.{DrawsNumbers}
 use Rattle.rtsp_engine.specs.Served.{Output}
 use Rattle.rtsp_engine.specs.Numbers.{SeatOwnsAll, DeskKeepsNumbers, SetupLeaves, PlanLeaves, FoundLeaves, ResponseLeaves, ItemLeaves, AnswersCleanly, ServedKeepsNumbers, ServedCleanly}
 use Rattle.rtsp_engine.specs.declared.conducting.SetUp.{SetUp}
-use Rattle.rtsp_engine.specs.declared.conducting.SetUp.TheVariants.{NoWord, NoNumber, Tried}
+use Rattle.rtsp_engine.specs.declared.conducting.SetUp.TheVariants.{NoShare, NoWord, NoNumber, Tried}
+use Rattle.rtsp_engine.specs.declared.desk.Asker.{Asker}
 use Rattle.rtsp_engine.specs.declared.desk.Desk.{Desk}
 use Rattle.rtsp_engine.specs.declared.drawing.Numbers.{Numbers}
 use Rattle.rtsp_engine.proofs.Keeping.{answered_keeps, fault_keeps, ends_keep}
@@ -55,7 +56,7 @@ unused_drawn (New expires startup) id n v u run own =
     (draws_give_unused run.between u n.admission first run.admission.looked run.admission.drew).1
 unused_drawn (Living key) id n v u run own = (draws_give_unused v u n.admission own run.1.looked run.1.drew).1
 
-module _ {B W C P : Type 0} (d : Devices B W C P) where
+module _ {B W C P S : Type 0} (d : Devices B W C P S) where
   numbers_kept : EachKeeps d.binder UsesDrawn
   numbers_kept = record {
     looked = λ v u looked own. looks_use_drawn v u own looked;
@@ -70,7 +71,8 @@ module _ {B W C P : Type 0} (d : Devices B W C P) where
     admitted = λ ask result s t admits drawn own. admissions_keep_all d.binder ask result s t admits drawn own;
   }
 
-  setup_leaves : (conn : ℕ) (plan : SetupPlan) (outcome : SetUp) (s t : State B W C P) (run : SetsUp d conn plan outcome s t) → OwnsAll s.view → SetupLeaves d conn plan outcome s t run
+  setup_leaves : (conn : ℕ) (plan : SetupPlan) (outcome : SetUp) (s t : State B W C P S) (run : SetsUp d conn plan outcome s t) → OwnsAll s.view → SetupLeaves d conn plan outcome s t run
+  setup_leaves conn plan NoShare s t run own = tt
   setup_leaves conn plan (NoWord at) s t run own = tt
   setup_leaves conn plan (NoNumber at) s t run own = tt
   setup_leaves conn plan (Tried n (Ok granted)) s t run own = tt
@@ -79,50 +81,50 @@ module _ {B W C P : Type 0} (d : Devices B W C P) where
       (keeps_numbers d OwnsAll all_kept plan.session run.given.id n s.view run.between run.numbers own).0
       (unused_drawn plan.session run.given.id n s.view run.between run.numbers own.drawn)
 
-  plan_leaves : (conn : ℕ) (uri : List ℕ) (plan : Plan) (response : Response) (s t : State B W C P) (run : Conducts d conn uri plan response s t) → OwnsAll s.view → PlanLeaves d conn uri plan response s t run
-  plan_leaves conn uri (plans.Answer given) response s t run own = tt
-  plan_leaves conn uri (plans.Step plan) response s t run own = tt
-  plan_leaves conn uri (plans.Admit plan) response s t run own = setup_leaves conn plan run.outcome s t run.comes own
+  plan_leaves : (asker : Asker) (uri : List ℕ) (plan : Plan) (response : Response) (s t : State B W C P S) (run : Conducts d asker uri plan response s t) → OwnsAll s.view → PlanLeaves d asker uri plan response s t run
+  plan_leaves asker uri (plans.Answer given) response s t run own = tt
+  plan_leaves asker uri (plans.Step plan) response s t run own = tt
+  plan_leaves asker uri (plans.Admit plan) response s t run own = setup_leaves asker.conn plan run.outcome s t run.comes own
 
   module _ (service : Service) where
-    found_leaves : (uri : List ℕ) (request : ParsedValue) (found : Option (ℕ × Session)) (moment : ℕ) (response : Response) (s t : State B W C P) (run : RespondsFound d service uri request found moment response s t)
+    found_leaves : (uri : List ℕ) (request : ParsedValue) (found : Option (ℕ × Session)) (moment : ℕ) (response : Response) (s t : State B W C P S) (run : RespondsFound d service uri request found moment response s t)
         → OwnsAll s.view → FoundLeaves d service uri request found moment response s t run
     found_leaves uri request found moment response s t (inl run) own =
-        plan_leaves service.asker.conn uri (decide service.table request run.again service.asker.peer moment) response run.mid t run.conducts
+        plan_leaves service.asker uri (decide service.table request run.again service.asker.peer moment) response run.mid t run.conducts
         (keeps_renewal d OwnsAll all_kept service request moment found run.again s.view run.mid.view run.renews.renews own)
     found_leaves uri request found moment response s t (inr refused) own = tt
 
-    response_leaves : (uri : List ℕ) (screened : Screen) (response : Response) (s t : State B W C P) (run : RespondsScreened d service uri screened response s t)
+    response_leaves : (uri : List ℕ) (screened : Screen) (response : Response) (s t : State B W C P S) (run : RespondsScreened d service uri screened response s t)
         → OwnsAll s.view → ResponseLeaves d service uri screened response s t run
     response_leaves uri (screens.Answered given) response s t run own = tt
     response_leaves uri (screens.Asks request) response s t run own =
         found_leaves uri request run.found run.moment response run.mid t run.goes_on (keeps_finds d OwnsAll all_kept service request run.found run.moment s run.mid run.finds own)
 
-    item_leaves : (item : Item) (bytes : List ℕ) (s t : State B W C P) (run : Answers d service item bytes s t) → OwnsAll s.view → ItemLeaves d service item bytes s t run
+    item_leaves : (item : Item) (bytes : List ℕ) (s t : State B W C P S) (run : Answers d service item bytes s t) → OwnsAll s.view → ItemLeaves d service item bytes s t run
     item_leaves (items.Request request) bytes s t run own = response_leaves request.uri (screen service.table request) run.0 s t run.1 own
     item_leaves (items.Response response) bytes s t run own = tt
     item_leaves (items.Frame frame) bytes s t run own = tt
 
   module _ {R : Type 0} where
-    numbers_self : (s : Desk R B W C P) → DeskKeepsNumbers s s
+    numbers_self : (s : Desk R B W C P S) → DeskKeepsNumbers s s
     numbers_self s own = own
 
-    numbers_then : (s t u : Desk R B W C P) → DeskKeepsNumbers s t → DeskKeepsNumbers t u → DeskKeepsNumbers s u
+    numbers_then : (s t u : Desk R B W C P S) → DeskKeepsNumbers s t → DeskKeepsNumbers t u → DeskKeepsNumbers s u
     numbers_then s t u h k own = k (h own)
 
-    numbers_answered : (s t : Desk R B W C P) (item : Item) (bytes : List ℕ) → AnswersAt d s item bytes t → DeskKeepsNumbers s t
+    numbers_answered : (s t : Desk R B W C P S) (item : Item) (bytes : List ℕ) → AnswersAt d s item bytes t → DeskKeepsNumbers s t
     numbers_answered s t item bytes h own = keeps_item d UsesDrawn numbers_kept (service s) item bytes (state s) (state t) h.0 own
 
-    numbers_lost : (s t : Desk R B W C P) (item : Item) → GivesUpAt d s item t → DeskKeepsNumbers s t
+    numbers_lost : (s t : Desk R B W C P S) (item : Item) → GivesUpAt d s item t → DeskKeepsNumbers s t
     numbers_lost s t item h own = keeps_lost d UsesDrawn numbers_kept (service s) item (state s) (state t) h.0 own
 
-    cleanly : (s t : Desk R B W C P) (item : Item) (bytes : List ℕ) → SeatOwnsAll s → AnswersAt d s item bytes t → AnswersCleanly d s item bytes t × SeatOwnsAll t
+    cleanly : (s t : Desk R B W C P S) (item : Item) (bytes : List ℕ) → SeatOwnsAll s → AnswersAt d s item bytes t → AnswersCleanly d s item bytes t × SeatOwnsAll t
     cleanly s t item bytes own h = (
       (h, item_leaves (service s) item bytes (state s) (state t) h.0 own),
       keeps_item d OwnsAll all_kept (service s) item bytes (state s) (state t) h.0 own,
     )
 
-    all_lost : (s t : Desk R B W C P) (item : Item) → SeatOwnsAll s → GivesUpAt d s item t → SeatOwnsAll t
+    all_lost : (s t : Desk R B W C P S) (item : Item) → SeatOwnsAll s → GivesUpAt d s item t → SeatOwnsAll t
     all_lost s t item own h = keeps_lost d OwnsAll all_kept (service s) item (state s) (state t) h.0 own
 
     pub served_keeps_numbers : ServedKeepsNumbers d R
@@ -141,9 +143,9 @@ module _ {B W C P : Type 0} (d : Devices B W C P) where
       ended = λ start end s t own run. ends_more (AnswersAt d) (AnswersCleanly d) (GivesUpAt d) SeatOwnsAll cleanly all_lost end start s t own run;
     }
 
-module _ {B W C P : Type 0} (d : Devices B W C P) (R : Type 0) where
+module _ {B W C P S : Type 0} (d : Devices B W C P S) (R : Type 0) where
   -- a piece that was taken
-  pub pushed_numbers : (pushed : Result (Unit {0}) MessageFault) (bytes rest : List ℕ) (s t : Output (Desk R B W C P)) → ServedKeepsNumbers d R
+  pub pushed_numbers : (pushed : Result (Unit {0}) MessageFault) (bytes rest : List ℕ) (s t : Output (Desk R B W C P S)) → ServedKeepsNumbers d R
       → OnOk pushed (Takes d bytes rest s t) → IfErr pushed (λ f. Faults d bytes f s t) → DeskKeepsNumbers s.answerer t.answerer
   pushed_numbers (Ok done) bytes rest s t law ok err = law.answered bytes rest s t ok
   pushed_numbers (Err fault) bytes rest s t law ok err = law.faulted bytes fault s t err

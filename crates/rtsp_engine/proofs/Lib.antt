@@ -1,5 +1,6 @@
 pub mod Known
 pub mod Going
+pub mod Sharing
 pub mod Sizes
 pub mod Keeping
 pub mod Parts

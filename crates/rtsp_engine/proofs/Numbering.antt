@@ -45,7 +45,8 @@ use Rattle.rtsp_engine.specs.Devices.{Devices}
 use Rattle.rtsp_engine.specs.Drawing.{DrawsNumbers, LacksNumber}
 use Rattle.rtsp_engine.specs.Renewing.{Looks, LooksAgain, RenewsBy, Renews, renewing, renewal_at}
 use Rattle.rtsp_engine.specs.declared.conducting.SetUp.{SetUp}
-use Rattle.rtsp_engine.specs.declared.conducting.SetUp.TheVariants.{NoWord, NoNumber, Tried}
+use Rattle.rtsp_engine.specs.declared.conducting.SetUp.TheVariants.{NoShare, NoWord, NoNumber, Tried}
+use Rattle.rtsp_engine.specs.declared.desk.Asker.{Asker}
 use Rattle.rtsp_engine.specs.declared.drawing.Numbers.{Numbers}
 use Rattle.rtsp_engine.specs.declared.drawing.Spent.{Spent}
 use Rattle.rtsp_engine.specs.declared.drawing.Spent.TheVariants as spent
@@ -89,7 +90,7 @@ pub record EachKeeps {B : Type 0} (calls : Calls B) (N : View → Type 0) : Type
   pub acted : (v u : View) (step : Step) (answer : Result (List Record) Refusal) → admission_of step ≡ None → Acted v u step answer → N v → N u
   pub admitted : (ask : Ask) (result : Result Admitted Refusal) (s t : runs.State B) → Admits calls ask result s t → Has s.view.drawn ask.admission → N s.view → N t.view
 
-module _ {B W C P : Type 0} (d : Devices B W C P) (N : View → Type 0) (each : EachKeeps d.binder N) where
+module _ {B W C P S : Type 0} (d : Devices B W C P S) (N : View → Type 0) (each : EachKeeps d.binder N) where
   still : (v u : View) → u ≡ v → N v → N u
   still v u same own = subst N (sym same) own
 
@@ -121,21 +122,22 @@ module _ {B W C P : Type 0} (d : Devices B W C P) (N : View → Type 0) (each : 
   keeps_spent (Lives key) spent.Session v u run own = absurd run
   keeps_spent (Lives key) spent.Admission v u run own = each.looked v u run.looked own
 
-  same_view : (s t : State B W C P) → t ≡ s → N s.view → N t.view
-  same_view s t same own = still s.view t.view (ap (λ (x : State B W C P). x.view) same) own
+  same_view : (s t : State B W C P S) → t ≡ s → N s.view → N t.view
+  same_view s t same own = still s.view t.view (ap (λ (x : State B W C P S). x.view) same) own
 
-  pub keeps_setup : (conn : ℕ) (plan : SetupPlan) (outcome : SetUp) (s t : State B W C P) → SetsUp d conn plan outcome s t → N s.view → N t.view
+  pub keeps_setup : (conn : ℕ) (plan : SetupPlan) (outcome : SetUp) (s t : State B W C P S) → SetsUp d conn plan outcome s t → N s.view → N t.view
+  keeps_setup conn plan NoShare s t run own = still s.view t.view run.view own
   keeps_setup conn plan (NoWord at) s t run own = still s.view t.view run.view own
   keeps_setup conn plan (NoNumber at) s t run own = keeps_spent plan.session at s.view t.view run.number own
   keeps_setup conn plan (Tried n made) s t run own =
       let drawn = keeps_numbers plan.session run.given.id n s.view run.between run.numbers own in
       each.admitted (ask_of plan (drawn_with conn run.given n)) made (record { view = run.between; binder = s.binder }) (record { view = t.view; binder = t.binder }) run.admits drawn.1 drawn.0
 
-  pub keeps_plan : (conn : ℕ) (uri : List ℕ) (plan : Plan) (response : Response) (s t : State B W C P)
-      → ((p : StepPlan) → plan ≡ plans.Step p → admission_of p.step ≡ None) → Conducts d conn uri plan response s t → N s.view → N t.view
-  keeps_plan conn uri (plans.Answer given) response s t none run own = same_view s t run.1 own
-  keeps_plan conn uri (plans.Step plan) response s t none run own = each.acted s.view t.view plan.step run.made (none plan refl) run.acted own
-  keeps_plan conn uri (plans.Admit plan) response s t none run own = keeps_setup conn plan run.outcome s t run.comes own
+  pub keeps_plan : (asker : Asker) (uri : List ℕ) (plan : Plan) (response : Response) (s t : State B W C P S)
+      → ((p : StepPlan) → plan ≡ plans.Step p → admission_of p.step ≡ None) → Conducts d asker uri plan response s t → N s.view → N t.view
+  keeps_plan asker uri (plans.Answer given) response s t none run own = same_view s t run.1 own
+  keeps_plan asker uri (plans.Step plan) response s t none run own = each.acted s.view t.view plan.step run.made (none plan refl) run.acted own
+  keeps_plan asker uri (plans.Admit plan) response s t none run own = keeps_setup asker.conn plan run.outcome s t run.comes own
 
   module _ (service : Service) where
     touches : (request : ParsedValue) (moment : ℕ) (found : Option (ℕ × Session)) (t : Step) → renewal_at service request moment found ≡ Some t → admission_of t ≡ None
@@ -146,43 +148,43 @@ module _ {B W C P : Type 0} (d : Devices B W C P) (N : View → Type 0) (each : 
     keeps_renewal request moment found again v u run own =
         keeps_touch service.asker.conn request.name (renewal_at service request moment found) found again v u (touches request moment found) run own
 
-    keeps_ends : (request : ParsedValue) (found : Option (ℕ × Session)) (moment : ℕ) (response : Response) (s t : State B W C P) → Ends d service request found moment response s t → N s.view → N t.view
+    keeps_ends : (request : ParsedValue) (found : Option (ℕ × Session)) (moment : ℕ) (response : Response) (s t : State B W C P S) → Ends d service request found moment response s t → N s.view → N t.view
     keeps_ends request found moment response s t run own =
         let r = run.refuses in
         each.acted s.view t.view (step.Touch r.session.0 r.until) (Err r.refused.refusal) refl r.refused.acted own
 
-    keeps_found : (uri : List ℕ) (request : ParsedValue) (found : Option (ℕ × Session)) (moment : ℕ) (response : Response) (s t : State B W C P)
+    keeps_found : (uri : List ℕ) (request : ParsedValue) (found : Option (ℕ × Session)) (moment : ℕ) (response : Response) (s t : State B W C P S)
         → RespondsFound d service uri request found moment response s t → N s.view → N t.view
     keeps_found uri request found moment response s t (inl run) own =
-        keeps_plan service.asker.conn uri (decide service.table request run.again service.asker.peer moment) response run.mid t (planned service.table request run.again service.asker.peer moment) run.conducts
+        keeps_plan service.asker uri (decide service.table request run.again service.asker.peer moment) response run.mid t (planned service.table request run.again service.asker.peer moment) run.conducts
         (keeps_renewal request moment found run.again s.view run.mid.view run.renews.renews own)
     keeps_found uri request found moment response s t (inr refused) own = keeps_ends request found moment response s t refused own
 
-    pub keeps_finds : (request : ParsedValue) (found : Option (ℕ × Session)) (moment : ℕ) (s t : State B W C P) → Finds d service request found moment s t → N s.view → N t.view
+    pub keeps_finds : (request : ParsedValue) (found : Option (ℕ × Session)) (moment : ℕ) (s t : State B W C P S) → Finds d service request found moment s t → N s.view → N t.view
     keeps_finds request found moment s t run own = keeps_looks service.asker.conn request.name found s.view t.view run.looks own
 
-    keeps_response : (uri : List ℕ) (screened : Screen) (response : Response) (s t : State B W C P) → RespondsScreened d service uri screened response s t → N s.view → N t.view
+    keeps_response : (uri : List ℕ) (screened : Screen) (response : Response) (s t : State B W C P S) → RespondsScreened d service uri screened response s t → N s.view → N t.view
     keeps_response uri (screens.Answered given) response s t run own = same_view s t run.1 own
     keeps_response uri (screens.Asks request) response s t run own =
         keeps_found uri request run.found run.moment response run.mid t run.goes_on (keeps_finds request run.found run.moment s run.mid run.finds own)
 
-    keeps_lack : (request : ParsedValue) (found : Option (ℕ × Session)) (moment : ℕ) (s t : State B W C P) → LacksFound d service request found moment s t → N s.view → N t.view
+    keeps_lack : (request : ParsedValue) (found : Option (ℕ × Session)) (moment : ℕ) (s t : State B W C P S) → LacksFound d service request found moment s t → N s.view → N t.view
     keeps_lack request found moment s t (inl run) own =
         still run.mid.view t.view run.nothing.view (keeps_renewal request moment found run.again s.view run.mid.view run.renews.renews own)
     keeps_lack request found moment s t (inr refused) own = keeps_ends request found moment refused.0 s t refused.1 own
 
-    keeps_screen : (screened : Screen) (s t : State B W C P) → LacksScreened d service screened s t → N s.view → N t.view
+    keeps_screen : (screened : Screen) (s t : State B W C P S) → LacksScreened d service screened s t → N s.view → N t.view
     keeps_screen (screens.Answered given) s t run own = same_view s t run own
     keeps_screen (screens.Asks request) s t run own = keeps_lack request run.found run.moment run.mid t run.goes_on (keeps_finds request run.found run.moment s run.mid run.finds own)
 
     -- an item that is answered
-    pub keeps_item : (item : Item) (bytes : List ℕ) (s t : State B W C P) → Answers d service item bytes s t → N s.view → N t.view
+    pub keeps_item : (item : Item) (bytes : List ℕ) (s t : State B W C P S) → Answers d service item bytes s t → N s.view → N t.view
     keeps_item (items.Request request) bytes s t run own = keeps_response request.uri (screen service.table request) run.0 s t run.1 own
     keeps_item (items.Response response) bytes s t run own = same_view s t run.1 own
     keeps_item (items.Frame frame) bytes s t run own = same_view s t run.1 own
 
     -- one that has no answer
-    pub keeps_lost : (item : Item) (s t : State B W C P) → GivesUp d service item s t → N s.view → N t.view
+    pub keeps_lost : (item : Item) (s t : State B W C P S) → GivesUp d service item s t → N s.view → N t.view
     keeps_lost (items.Request request) s t (inl same) own = same_view s t same own
     keeps_lost (items.Request request) s t (inr run) own = keeps_screen (screen service.table request) s t run own
     keeps_lost (items.Response response) s t run own = same_view s t run own

@@ -1,5 +1,5 @@
--- What the calls of a source of words, of a clock and of those who learn of plays do.
-use Rattle.std.specs.Prelude.{◌≡◌, ℕ, Bool, List, Option, Some, None}
+-- What the calls of a source of words, of a clock, of those who learn of plays and of those who count sessions by address do.
+use Rattle.std.specs.Prelude.{◌≡◌, ℕ, Bool, true, false, List, Option, Some, None}
 use Rattle.rtsp_admit.specs.Binder.{Calls, raised}
 
 -- a source of words before and after each word that it gives, and a call that fails; and how many have failed
@@ -45,12 +45,52 @@ module _ {P : Type 0} (calls : PlayCalls P) where
   Settled None accepted b c = c ≡ b
   Settled (Some session) accepted b c = calls.settles b accepted c
 
+-- those who count the sessions of each address before and after a place is taken by a player at an address, and one that is refused; before
+-- and after the place that was taken last is settled, with the number of the session that was opened, if one was; and how many were refused
+pub record ShareCalls (S : Type 0) : Type 1 where
+  pub takes : S → ℕ → S → Type 0
+  pub refuses : S → ℕ → S → Type 0
+  pub settles : S → Option ℕ → S → Type 0
+  pub refusals : S → ℕ
+
+module _ {S : Type 0} (calls : ShareCalls S) where
+  -- a place was taken, and no refusal was counted
+  pub record Took (peer : ℕ) (b c : S) : Type 0 where
+    pub call : calls.takes b peer c
+    pub count : calls.refusals c ≡ calls.refusals b
+
+  -- none is left to the address, and that was counted
+  pub record TurnedAway (peer : ℕ) (b c : S) : Type 0 where
+    pub call : calls.refuses b peer c
+    pub count : calls.refusals c ≡ raised (calls.refusals b)
+
+  -- no place is ever refused
+  abbrev pub RefusesNone : Type 0
+  RefusesNone = (b c : S) (peer : ℕ) → calls.refuses b peer c → ⊥
+
+  -- a place was taken, and then settled
+  pub record TookAndSettled (peer : ℕ) (opened : Option ℕ) (b c : S) : Type 0 where
+    pub between : S
+    pub took : Took peer b between
+    pub settled : calls.settles between opened c
+
+  -- so it was where a session was to be opened; else no place was taken
+  abbrev pub UsesPlace : Bool → ℕ → Option ℕ → S → S → Type 0
+  UsesPlace true peer opened b c = TookAndSettled peer opened b c
+  UsesPlace false peer opened b c = c ≡ b
+
+  -- a session was to be opened, and there was no place for it
+  abbrev pub LacksPlace : Bool → ℕ → S → S → Type 0
+  LacksPlace true peer b c = TurnedAway peer b c
+  LacksPlace false peer b c = ⊥
+
 -- what the calls of all devices do
-pub record Devices (B W C P : Type 0) : Type 1 where
+pub record Devices (B W C P S : Type 0) : Type 1 where
   pub binder : Calls B
   pub words : WordCalls W
   pub clock : C → ℕ → C → Type 0
   pub plays : PlayCalls P
+  pub shares : ShareCalls S
 
-abbrev pub devices : {B W C P : Type 0} → Calls B → WordCalls W → (C → ℕ → C → Type 0) → PlayCalls P → Devices B W C P
-devices b w c p = record { binder = b; words = w; clock = c; plays = p }
+abbrev pub devices : {B W C P S : Type 0} → Calls B → WordCalls W → (C → ℕ → C → Type 0) → PlayCalls P → ShareCalls S → Devices B W C P S
+devices b w c p s = record { binder = b; words = w; clock = c; plays = p; shares = s }

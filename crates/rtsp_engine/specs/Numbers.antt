@@ -27,7 +27,8 @@ use Rattle.rtsp_engine.specs.DeskAnswers.{AnswersAt, GivesUpAt, Takes, Faults}
 use Rattle.rtsp_engine.specs.Devices.{Devices}
 use Rattle.rtsp_engine.specs.Served.{Output, Line, Parts, Answered, FaultedAfter, EndsFrom, Ends}
 use Rattle.rtsp_engine.specs.declared.conducting.SetUp.{SetUp}
-use Rattle.rtsp_engine.specs.declared.conducting.SetUp.TheVariants.{NoWord, NoNumber, Tried}
+use Rattle.rtsp_engine.specs.declared.conducting.SetUp.TheVariants.{NoShare, NoWord, NoNumber, Tried}
+use Rattle.rtsp_engine.specs.declared.desk.Asker.{Asker}
 use Rattle.rtsp_engine.specs.declared.desk.Desk.{Desk}
 use Rattle.rtsp_engine.specs.declared.serving.ServeEnd.{ServeEnd}
 
@@ -35,76 +36,77 @@ use Rattle.rtsp_engine.specs.declared.serving.ServeEnd.{ServeEnd}
 abbrev pub KeepsNumbers : View → View → Type 0
 KeepsNumbers v u = UsesDrawn v → UsesDrawn u
 
-module _ {R B W C P : Type 0} where
+module _ {R B W C P S : Type 0} where
   -- the desk's seat is the only one of its lock, and owns all that stands
-  abbrev pub SeatOwnsAll : Desk R B W C P → Type 0
+  abbrev pub SeatOwnsAll : Desk R B W C P S → Type 0
   SeatOwnsAll desk = OwnsAll (seat_view desk.seat.now)
 
   -- the desk's seat holds and adds under drawn numbers still
-  abbrev pub DeskKeepsNumbers : Desk R B W C P → Desk R B W C P → Type 0
+  abbrev pub DeskKeepsNumbers : Desk R B W C P S → Desk R B W C P S → Type 0
   DeskKeepsNumbers s t = KeepsNumbers (seat_view s.seat.now) (seat_view t.seat.now)
 
-module _ {B W C P : Type 0} (d : Devices B W C P) where
+module _ {B W C P S : Type 0} (d : Devices B W C P S) where
   -- of a track that was to be set up nothing is left where its admission was refused
-  abbrev pub SetupLeaves : (conn : ℕ) (plan : SetupPlan) (outcome : SetUp) (s t : State B W C P) → SetsUp d conn plan outcome s t → Type 0
+  abbrev pub SetupLeaves : (conn : ℕ) (plan : SetupPlan) (outcome : SetUp) (s t : State B W C P S) → SetsUp d conn plan outcome s t → Type 0
+  SetupLeaves conn plan NoShare s t run = Unit {0}
   SetupLeaves conn plan (NoWord at) s t run = Unit {0}
   SetupLeaves conn plan (NoNumber at) s t run = Unit {0}
   SetupLeaves conn plan (Tried n (Ok granted)) s t run = Unit {0}
   SetupLeaves conn plan (Tried n (Err refusal)) s t run = LeftNothing (ask_of plan (drawn_with conn run.given n)) run.between t.view
 
   -- so it is with a plan
-  abbrev pub PlanLeaves : (conn : ℕ) (uri : List ℕ) (plan : Plan) (response : Response) (s t : State B W C P)
-      → Conducts d conn uri plan response s t → Type 0
-  PlanLeaves conn uri (plans.Answer given) response s t run = Unit {0}
-  PlanLeaves conn uri (plans.Step plan) response s t run = Unit {0}
-  PlanLeaves conn uri (plans.Admit plan) response s t run = SetupLeaves conn plan run.outcome s t run.comes
+  abbrev pub PlanLeaves : (asker : Asker) (uri : List ℕ) (plan : Plan) (response : Response) (s t : State B W C P S)
+      → Conducts d asker uri plan response s t → Type 0
+  PlanLeaves asker uri (plans.Answer given) response s t run = Unit {0}
+  PlanLeaves asker uri (plans.Step plan) response s t run = Unit {0}
+  PlanLeaves asker uri (plans.Admit plan) response s t run = SetupLeaves asker.conn plan run.outcome s t run.comes
 
   module _ (service : Service) where
     -- with a request whose session was found
-    abbrev pub FoundLeaves : (uri : List ℕ) (request : ParsedValue) (found : Option (ℕ × Session)) (moment : ℕ) (response : Response) (s t : State B W C P)
+    abbrev pub FoundLeaves : (uri : List ℕ) (request : ParsedValue) (found : Option (ℕ × Session)) (moment : ℕ) (response : Response) (s t : State B W C P S)
         → RespondsFound d service uri request found moment response s t → Type 0
     FoundLeaves uri request found moment response s t (inl run) =
-        PlanLeaves service.asker.conn uri (decide service.table request run.again service.asker.peer moment) response run.mid t run.conducts
+        PlanLeaves service.asker uri (decide service.table request run.again service.asker.peer moment) response run.mid t run.conducts
     FoundLeaves uri request found moment response s t (inr refused) = Unit {0}
 
     -- with a request
-    abbrev pub ResponseLeaves : (uri : List ℕ) (screened : Screen) (response : Response) (s t : State B W C P)
+    abbrev pub ResponseLeaves : (uri : List ℕ) (screened : Screen) (response : Response) (s t : State B W C P S)
         → RespondsScreened d service uri screened response s t → Type 0
     ResponseLeaves uri (screens.Answered given) response s t run = Unit {0}
     ResponseLeaves uri (screens.Asks request) response s t run = FoundLeaves uri request run.found run.moment response run.mid t run.goes_on
 
     -- with an item
-    abbrev pub ItemLeaves : (item : Item) (bytes : List ℕ) (s t : State B W C P) → Answers d service item bytes s t → Type 0
+    abbrev pub ItemLeaves : (item : Item) (bytes : List ℕ) (s t : State B W C P S) → Answers d service item bytes s t → Type 0
     ItemLeaves (items.Request request) bytes s t run = ResponseLeaves request.uri (screen service.table request) run.0 s t run.1
     ItemLeaves (items.Response response) bytes s t run = Unit {0}
     ItemLeaves (items.Frame frame) bytes s t run = Unit {0}
 
   module _ {R : Type 0} where
     -- an item is answered with these bytes, and nothing is left of a SETUP that is refused
-    abbrev pub AnswersCleanly : Desk R B W C P → Item → List ℕ → Desk R B W C P → Type 0
+    abbrev pub AnswersCleanly : Desk R B W C P S → Item → List ℕ → Desk R B W C P S → Type 0
     AnswersCleanly old item bytes new =
         (run : AnswersAt d old item bytes new) × ItemLeaves (service old) item bytes (state old) (state new) run.0
 
     -- the same of all items of a connection, of which this is the end
-    abbrev pub EndsCleanly : {I O : Type 0} → (I → Option (List ℕ)) → (O → Option (List ℕ)) → ServeEnd → Parts I O (Desk R B W C P) → Parts I O (Desk R B W C P) → Type 0
+    abbrev pub EndsCleanly : {I O : Type 0} → (I → Option (List ℕ)) → (O → Option (List ℕ)) → ServeEnd → Parts I O (Desk R B W C P S) → Parts I O (Desk R B W C P S) → Type 0
     EndsCleanly remaining contents end s t = Ends AnswersCleanly (GivesUpAt d) remaining contents end s t
 
-module _ {B W C P : Type 0} (d : Devices B W C P) (R : Type 0) where
+module _ {B W C P S : Type 0} (d : Devices B W C P S) (R : Type 0) where
   -- over a request that is answered, or for which memory ran out, and over a connection its seat holds and adds under drawn numbers still
   pub record ServedKeepsNumbers : Type 0 where
-    pub responded : (service : Service) (request : Request) (response : Response) (s t : State B W C P)
+    pub responded : (service : Service) (request : Request) (response : Response) (s t : State B W C P S)
         → Responds d service request response s t → KeepsNumbers s.view t.view
-    pub lacked : (service : Service) (request : Request) (s t : State B W C P) → Lacks d service request s t → KeepsNumbers s.view t.view
-    pub answered : (bytes rest : List ℕ) (s t : Output (Desk R B W C P)) → Takes d bytes rest s t → DeskKeepsNumbers s.answerer t.answerer
-    pub faulted : (bytes : List ℕ) (fault : MessageFault) (s t : Output (Desk R B W C P)) → Faults d bytes fault s t → DeskKeepsNumbers s.answerer t.answerer
-    pub ended : (start : List ℕ) (end : ServeEnd) (s t : Line (Desk R B W C P)) → EndsFrom (AnswersAt d) (GivesUpAt d) start end s t
+    pub lacked : (service : Service) (request : Request) (s t : State B W C P S) → Lacks d service request s t → KeepsNumbers s.view t.view
+    pub answered : (bytes rest : List ℕ) (s t : Output (Desk R B W C P S)) → Takes d bytes rest s t → DeskKeepsNumbers s.answerer t.answerer
+    pub faulted : (bytes : List ℕ) (fault : MessageFault) (s t : Output (Desk R B W C P S)) → Faults d bytes fault s t → DeskKeepsNumbers s.answerer t.answerer
+    pub ended : (start : List ℕ) (end : ServeEnd) (s t : Line (Desk R B W C P S)) → EndsFrom (AnswersAt d) (GivesUpAt d) start end s t
         → DeskKeepsNumbers s.output.answerer t.output.answerer
 
   -- over a connection whose seat is the only one of its lock nothing is left of the SETUPs that are refused
   pub record ServedCleanly : Type 0 where
-    pub answered : (bytes rest : List ℕ) (s t : Output (Desk R B W C P)) → SeatOwnsAll s.answerer → Takes d bytes rest s t
+    pub answered : (bytes rest : List ℕ) (s t : Output (Desk R B W C P S)) → SeatOwnsAll s.answerer → Takes d bytes rest s t
         → Answered (AnswersCleanly d) (GivesUpAt d) bytes rest s t × SeatOwnsAll t.answerer
-    pub faulted : (bytes : List ℕ) (fault : MessageFault) (s t : Output (Desk R B W C P)) → SeatOwnsAll s.answerer → Faults d bytes fault s t
+    pub faulted : (bytes : List ℕ) (fault : MessageFault) (s t : Output (Desk R B W C P S)) → SeatOwnsAll s.answerer → Faults d bytes fault s t
         → FaultedAfter (AnswersCleanly d) (GivesUpAt d) bytes fault s t × SeatOwnsAll t.answerer
-    pub ended : (start : List ℕ) (end : ServeEnd) (s t : Line (Desk R B W C P)) → SeatOwnsAll s.output.answerer → EndsFrom (AnswersAt d) (GivesUpAt d) start end s t
+    pub ended : (start : List ℕ) (end : ServeEnd) (s t : Line (Desk R B W C P S)) → SeatOwnsAll s.output.answerer → EndsFrom (AnswersAt d) (GivesUpAt d) start end s t
         → EndsFrom (AnswersCleanly d) (GivesUpAt d) start end s t × SeatOwnsAll t.output.answerer

@@ -53,6 +53,10 @@ abbrev pub RenewsBy : ℕ → Option Name → Option Step → Option (ℕ × Ses
 RenewsBy conn name None found again v u = (again ≡ found) × (u ≡ v)
 RenewsBy conn name (Some touch) found again v u = Renewed conn name touch found again v u
 
+-- the session is renewed to this moment
+abbrev pub RenewsTo : ℕ → Option Name → ℕ × Session → ℕ → Option (ℕ × Session) → Option (ℕ × Session) → View → View → Type 0
+RenewsTo conn name session until found again v u = RenewsBy conn name (Some (step.Touch session.0 until)) found again v u
+
 abbrev pub Renews : Service → ParsedValue → ℕ → Option (ℕ × Session) → Option (ℕ × Session) → View → View → Type 0
 Renews service request moment found again v u =
     RenewsBy service.asker.conn request.name (renewal_at service request moment found) found again v u

@@ -22,14 +22,14 @@ abbrev pub serving_of : TableValue → Asker → BookSeat → Serving
 serving_of table asker seat = record { service = served table asker; view = seat_view seat }
 
 -- the same of a desk
-abbrev pub desk_serving : {R B W C P : Type 0} → Desk R B W C P → Serving
+abbrev pub desk_serving : {R B W C P S : Type 0} → Desk R B W C P S → Serving
 desk_serving desk = record { service = service desk; view = seat_view desk.seat.now }
 
-module _ {B W C P : Type 0} (d : Devices B W C P) where
+module _ {B W C P S : Type 0} (d : Devices B W C P S) where
   -- an item is answered with these bytes, from devices as they are then
   pub record AnswersFrom (old : Serving) (item : Item) (bytes : List ℕ) (new : Serving) : Type 0 where
-    pub before : State B W C P
-    pub after : State B W C P
+    pub before : State B W C P S
+    pub after : State B W C P S
     pub seen : before.view ≡ old.view
     pub sees : after.view ≡ new.view
     pub same : new.service ≡ old.service
@@ -37,8 +37,8 @@ module _ {B W C P : Type 0} (d : Devices B W C P) where
 
   -- memory ran out over an item
   pub record GivesUpFrom (old : Serving) (item : Item) (new : Serving) : Type 0 where
-    pub before : State B W C P
-    pub after : State B W C P
+    pub before : State B W C P S
+    pub after : State B W C P S
     pub seen : before.view ≡ old.view
     pub sees : after.view ≡ new.view
     pub same : new.service ≡ old.service

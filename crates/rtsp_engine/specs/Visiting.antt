@@ -31,10 +31,6 @@ ReadsCounted old new reading.Broken = new ≡ raised old
 abbrev pub sides : {I O A : Type 0} → (I → Option (List ℕ)) → (O → Option (List ℕ)) → (A → Serving) → Parts I O A → Line Serving
 sides remaining contents serving p = record { unread = remaining p.reader; output = record { text = contents p.writer; answerer = serving p.answerer } }
 
--- answers are gathered in one text
-abbrev pub gathers : List ℕ → Serving → Output Serving
-gathers text serving = record { text = Some text; answerer = serving }
-
 -- answers that were gathered are written, or they wait on
 abbrev pub Moves : Option (List ℕ) → List ℕ → Option (List ℕ) → List ℕ → Type 0
 Moves wrote text writes left = ((writes ≡ wrote) × (left ≡ text)) ⊎ (Appends wrote writes text × (left ≡ []))

@@ -10,15 +10,16 @@ ghost use Rattle.rtsp_admit.specs.Binder.{UnboundAll};
 ghost use Rattle.rtsp_state.specs.Answer.{setup_answer};
 ghost use Rattle.rtsp_state.specs.Bounds.{setup_room};
 ghost use Rattle.rtsp_state.specs.Conduct.{IsConducted};
-ghost use Rattle.rtsp_engine.specs.Conducting.{played, freed_by, drawn_with, setup_response, SetsUp, DoesNothing};
-ghost use Rattle.rtsp_engine.specs.Desk.{state, scene, SameParts};
+ghost use Rattle.rtsp_engine.specs.Conducting.{played, freed_by, drawn_with, opened, setup_response, HasPlace, SetsUp, AsksShare};
+ghost use Rattle.rtsp_engine.specs.Desk.{state, SameParts};
 ghost use Rattle.rtsp_engine.specs.Devices.{devices, Noted, NotNoted, Settled};
-ghost use Rattle.rtsp_engine.specs.Writing.{WritesStep, WritesSetup, WritesOutcome};
+ghost use Rattle.rtsp_engine.specs.Writing.{WritesStep, WritesSetup, WritesOutcome, WantsOutcome};
 
 use crate::clock::Clock;
 use crate::desk::Desk;
 use crate::drawing::{GivenWords, Lacking, Numbers, Spent, draw_numbers, draw_words, opens};
 use crate::plays::Plays;
+use crate::shares::{ShareSpent, Shares};
 use crate::words::Words;
 use rtsp_admit::{Binder, admit, unbind_freed};
 use rtsp_book::{Admitted, Receipt, Refusal, Step};
@@ -30,6 +31,8 @@ use std::sync::Wait;
 // How far a track that is to be set up comes.
 #[derive(Clone, Copy)]
 pub(crate) enum SetUp {
+    // The asker has its share of the sessions.
+    NoShare,
     NoWord(Lacking),
     NoNumber(Spent),
     // What came of its admission.
@@ -47,7 +50,7 @@ fn played(step: &Step) -> Option<u64>
 }
 
 // Notes the play that a step begins.
-fn note<P: Plays>(
+fn note<P: Plays, S: Shares>(
     alloc: Global,
     plays: &mut P,
     step: &Step,
@@ -64,7 +67,7 @@ fn note<P: Plays>(
 }
 
 // Settles it.
-fn settle<P: Plays>(plays: &mut P, step: &Step, accepted: bool)
+fn settle<P: Plays, S: Shares>(plays: &mut P, step: &Step, accepted: bool)
     ensures { Settled P.calls (played step.now) accepted plays.old plays.new }
 {
     if played(step).is_some() {
@@ -99,17 +102,17 @@ fn act_step<R: Wait, B: Binder>(
 // Notes a play, acts the step, writes what came of it, and settles the play. It stands apart, so
 // that what is answered at once doesn't pay for the room of the records.
 #[inline(never)]
-fn conduct_step<R: Wait, B: Binder, W: Words, C: Clock, P: Plays>(
+fn conduct_step<R: Wait, B: Binder, W: Words, C: Clock, P: Plays, S: Shares>(
     alloc: Global,
-    desk: &mut Desk<'_, R, B, W, C, P>,
+    desk: &mut Desk<'_, R, B, W, C, P, S>,
     uri: &[u8],
     plan: &StepPlan,
     room: &mut Room,
 ) -> Result<(), AllocError>
     requires { IsAskable plan.now.step }
     ensures same { SameParts desk.old desk.new }
-    ensures ok { OnOk result (WritesStep (devices B.calls W.calls C.tells P.calls) uri.now plan.now (scene desk.old room.old) (scene desk.new room.new)) }
-    ensures err { OnErr result (DoesNothing (devices B.calls W.calls C.tells P.calls) (state desk.old) (state desk.new)) }
+    ensures ok { OnOk result (WritesStep (devices B.calls W.calls C.tells P.calls S.calls) uri.now plan.now desk.old room.old desk.new room.new) }
+    ensures err { OnErr result (WantsOutcome (devices B.calls W.calls C.tells P.calls S.calls) desk.old desk.new) }
     ensures mute { OnErr result (room.new.text ≡ room.old.text) }
 {
     plan.make_room(room)?;
@@ -148,15 +151,17 @@ fn drawn_with(conn: u64, given: GivenWords, numbers: Numbers) -> Drawn
     }
 }
 
-// Sets a track up: words are drawn first, then numbers, and the admission is made with them.
-fn set_up<R: Wait, B: Binder, W: Words, C: Clock, P: Plays>(
-    desk: &mut Desk<'_, R, B, W, C, P>,
+// Draws words, then numbers, and makes the admission with them.
+fn admit_drawn<R: Wait, B: Binder, W: Words, C: Clock, P: Plays, S: Shares>(
+    desk: &mut Desk<'_, R, B, W, C, P, S>,
     plan: &SetupPlan,
 ) -> SetUp
     ensures same { SameParts desk.old desk.new }
-    ensures comes { SetsUp (devices B.calls W.calls C.tells P.calls) desk.old.asker.conn plan.now result (state desk.old) (state desk.new) }
+    ensures comes { SetsUp (devices B.calls W.calls C.tells P.calls S.calls) desk.old.asker.conn plan.now result (state desk.old) (state desk.new) }
+    ensures place { HasPlace result }
     ensures clock { desk.new.clock.now ≡ desk.old.clock.now }
     ensures plays { desk.new.plays.now ≡ desk.old.plays.now }
+    ensures shares { desk.new.shares.now ≡ desk.old.shares.now }
 {
     let given = match draw_words(desk.words, opens(plan.session)) {
         Ok(given) => given,
@@ -171,6 +176,41 @@ fn set_up<R: Wait, B: Binder, W: Words, C: Clock, P: Plays>(
             )
         }
         Err(at) => SetUp::NoNumber(at),
+    }
+}
+
+// The session of an admission that was granted.
+fn opened(outcome: SetUp) -> Option<u64>
+    ensures { result ≡ opened outcome }
+{
+    match outcome {
+        SetUp::Tried(numbers, Ok(_)) => Some(numbers.key.session),
+        _ => None,
+    }
+}
+
+// Sets a track up. Where that is to open a session, a place for it is taken before any word or
+// number is drawn, and settled once it is known what came of it.
+fn set_up<R: Wait, B: Binder, W: Words, C: Clock, P: Plays, S: Shares>(
+    desk: &mut Desk<'_, R, B, W, C, P, S>,
+    plan: &SetupPlan,
+) -> SetUp
+    ensures same { SameParts desk.old desk.new }
+    ensures comes { SetsUp (devices B.calls W.calls C.tells P.calls S.calls) desk.old.asker.conn plan.now result (state desk.old) (state desk.new) }
+    ensures shares { AsksShare (devices B.calls W.calls C.tells P.calls S.calls) desk.old.asker.peer plan.now result (state desk.old) (state desk.new) }
+    ensures clock { desk.new.clock.now ≡ desk.old.clock.now }
+    ensures plays { desk.new.plays.now ≡ desk.old.plays.now }
+{
+    if !opens(plan.session) {
+        return admit_drawn(desk, plan);
+    }
+    match desk.shares.take(desk.asker.peer) {
+        Ok(()) => {
+            let outcome = admit_drawn(desk, plan);
+            desk.shares.settle(opened(outcome));
+            outcome
+        }
+        Err(ShareSpent) => SetUp::NoShare,
     }
 }
 
@@ -196,6 +236,7 @@ fn answer_setup(plan: &SetupPlan, outcome: SetUp, room: &mut Room)
     ensures { room.new.text ≡ room.old.text ++ response_text (setup_response plan.now outcome) }
 {
     match outcome {
+        SetUp::NoShare => plan.refuse(room, Status::Unavailable),
         SetUp::NoWord(_) => plan.refuse(room, Status::ServerError),
         SetUp::NoNumber(_) => plan.refuse(room, Status::Unavailable),
         SetUp::Tried(numbers, made) => answer_admission(plan, numbers.key, made, room),
@@ -203,13 +244,13 @@ fn answer_setup(plan: &SetupPlan, outcome: SetUp, room: &mut Room)
 }
 
 #[inline(never)]
-fn conduct_setup<R: Wait, B: Binder, W: Words, C: Clock, P: Plays>(
-    desk: &mut Desk<'_, R, B, W, C, P>,
+fn conduct_setup<R: Wait, B: Binder, W: Words, C: Clock, P: Plays, S: Shares>(
+    desk: &mut Desk<'_, R, B, W, C, P, S>,
     plan: &SetupPlan,
     room: &mut Room,
 ) -> Result<(), AllocError>
     ensures same { SameParts desk.old desk.new }
-    ensures ok { OnOk result (WritesSetup (devices B.calls W.calls C.tells P.calls) plan.now (scene desk.old room.old) (scene desk.new room.new)) }
+    ensures ok { OnOk result (WritesSetup (devices B.calls W.calls C.tells P.calls S.calls) plan.now desk.old room.old desk.new room.new) }
     ensures err { OnErr result (state desk.new ≡ state desk.old) }
     ensures mute { OnErr result (room.new.text ≡ room.old.text) }
 {
@@ -231,17 +272,17 @@ pub(crate) fn reply_with(reply: &Reply, room: &mut Room) -> Result<(), AllocErro
 
 /// Conducts the plan of a request. Memory is taken for its response, and to note a play, before
 /// anything else is done.
-pub(crate) fn conduct<R: Wait, B: Binder, W: Words, C: Clock, P: Plays>(
+pub(crate) fn conduct<R: Wait, B: Binder, W: Words, C: Clock, P: Plays, S: Shares>(
     alloc: Global,
-    desk: &mut Desk<'_, R, B, W, C, P>,
+    desk: &mut Desk<'_, R, B, W, C, P, S>,
     uri: &[u8],
     plan: &Plan,
     room: &mut Room,
 ) -> Result<(), AllocError>
     requires { IsConducted plan.now }
     ensures same { SameParts desk.old desk.new }
-    ensures ok { OnOk result (WritesOutcome (devices B.calls W.calls C.tells P.calls) uri.now plan.now (scene desk.old room.old) (scene desk.new room.new)) }
-    ensures err { OnErr result (DoesNothing (devices B.calls W.calls C.tells P.calls) (state desk.old) (state desk.new)) }
+    ensures ok { OnOk result (WritesOutcome (devices B.calls W.calls C.tells P.calls S.calls) uri.now plan.now desk.old room.old desk.new room.new) }
+    ensures err { OnErr result (WantsOutcome (devices B.calls W.calls C.tells P.calls S.calls) desk.old desk.new) }
     ensures mute { OnErr result (room.new.text ≡ room.old.text) }
 {
     match plan {

@@ -1,12 +1,10 @@
 //! How one request is answered.
 
 ghost use Rattle.std.specs.Prelude.{◌≡◌, OnOk, OnErr, option_map};
-ghost use Rattle.rtsp_engine.specs.Conducting.{DoesNothing};
-ghost use Rattle.rtsp_engine.specs.Conversing.{LacksFound, OnlyFinds, Lacks};
 ghost use Rattle.rtsp_engine.specs.DeskAnswers.{AnswersAt, GivesUpAt};
-ghost use Rattle.rtsp_engine.specs.Desk.{state, service, scene, SameParts};
+ghost use Rattle.rtsp_engine.specs.Desk.{SameParts};
 ghost use Rattle.rtsp_engine.specs.Devices.{devices};
-ghost use Rattle.rtsp_engine.specs.Writing.{WritesRenewed, WritesFound, WritesParsed, WritesResponse};
+ghost use Rattle.rtsp_engine.specs.Writing.{WritesRenewed, WritesFound, WritesParsed, WritesResponse, WantsOutcome, WantsFound, WantsParsed, WantsResponse};
 
 use crate::clock::Clock;
 use crate::conducting::{conduct, reply_with};
@@ -14,6 +12,7 @@ use crate::connection::Answerer;
 use crate::desk::Desk;
 use crate::plays::Plays;
 use crate::renewing::{look, renew};
+use crate::shares::Shares;
 use crate::words::Words;
 use rtsp_admit::Binder;
 use rtsp_book::SessionView;
@@ -23,9 +22,9 @@ use std::alloc::{AllocError, Global};
 use std::sync::Wait;
 
 // Conducts a request with its session as it is after its renewal.
-fn respond_renewed<R: Wait, B: Binder, W: Words, C: Clock, P: Plays>(
+fn respond_renewed<R: Wait, B: Binder, W: Words, C: Clock, P: Plays, S: Shares>(
     alloc: Global,
-    desk: &mut Desk<'_, R, B, W, C, P>,
+    desk: &mut Desk<'_, R, B, W, C, P, S>,
     uri: &[u8],
     request: ParsedRequest<'_>,
     moment: u64,
@@ -33,8 +32,9 @@ fn respond_renewed<R: Wait, B: Binder, W: Words, C: Clock, P: Plays>(
     room: &mut Room,
 ) -> Result<(), AllocError>
     ensures same { SameParts desk.old desk.new }
-    ensures ok { OnOk result (WritesRenewed (devices B.calls W.calls C.tells P.calls) uri.now request.entry (option_map (λ v. v.now) view.entry) moment (scene desk.old room.old) (scene desk.new room.new)) }
-    ensures err { OnErr result (DoesNothing (devices B.calls W.calls C.tells P.calls) (state desk.old) (state desk.new)) }
+    ensures ok { OnOk result (WritesRenewed (devices B.calls W.calls C.tells P.calls S.calls)
+        uri.now request.entry (option_map (λ v. v.now) view.entry) moment desk.old room.old desk.new room.new) }
+    ensures err { OnErr result (WantsOutcome (devices B.calls W.calls C.tells P.calls S.calls) desk.old desk.new) }
     ensures mute { OnErr result (room.new.text ≡ room.old.text) }
 {
     match decide(alloc, request, view, desk.table, desk.asker.peer, moment) {
@@ -44,9 +44,9 @@ fn respond_renewed<R: Wait, B: Binder, W: Words, C: Clock, P: Plays>(
 }
 
 // Answers a request with the session that was found at this moment.
-fn respond_found<R: Wait, B: Binder, W: Words, C: Clock, P: Plays>(
+fn respond_found<R: Wait, B: Binder, W: Words, C: Clock, P: Plays, S: Shares>(
     alloc: Global,
-    desk: &mut Desk<'_, R, B, W, C, P>,
+    desk: &mut Desk<'_, R, B, W, C, P, S>,
     uri: &[u8],
     request: ParsedRequest<'_>,
     moment: u64,
@@ -54,8 +54,9 @@ fn respond_found<R: Wait, B: Binder, W: Words, C: Clock, P: Plays>(
     room: &mut Room,
 ) -> Result<(), AllocError>
     ensures same { SameParts desk.old desk.new }
-    ensures ok { OnOk result (WritesFound (devices B.calls W.calls C.tells P.calls) uri.now request.entry found.old moment (scene desk.old room.old) (scene desk.new room.new)) }
-    ensures err { OnErr result (LacksFound (devices B.calls W.calls C.tells P.calls) (service desk.old) request.entry found.old moment (state desk.old) (state desk.new)) }
+    ensures ok { OnOk result (WritesFound (devices B.calls W.calls C.tells P.calls S.calls)
+        uri.now request.entry found.old moment desk.old room.old desk.new room.new) }
+    ensures err { OnErr result (WantsFound (devices B.calls W.calls C.tells P.calls S.calls) request.entry found.old moment desk.old desk.new) }
     ensures mute { OnErr result (room.new.text ≡ room.old.text) }
 {
     let asker = desk.asker;
@@ -70,16 +71,16 @@ fn respond_found<R: Wait, B: Binder, W: Words, C: Clock, P: Plays>(
 // Answers a request that names a session, or may name one. It stands apart, so that a request that
 // names none doesn't pay for the room of a session.
 #[inline(never)]
-fn respond_named<R: Wait, B: Binder, W: Words, C: Clock, P: Plays>(
+fn respond_named<R: Wait, B: Binder, W: Words, C: Clock, P: Plays, S: Shares>(
     alloc: Global,
-    desk: &mut Desk<'_, R, B, W, C, P>,
+    desk: &mut Desk<'_, R, B, W, C, P, S>,
     uri: &[u8],
     request: ParsedRequest<'_>,
     room: &mut Room,
 ) -> Result<(), AllocError>
     ensures same { SameParts desk.old desk.new }
-    ensures ok { OnOk result (WritesParsed (devices B.calls W.calls C.tells P.calls) uri.now request.entry (scene desk.old room.old) (scene desk.new room.new)) }
-    ensures err { OnErr result (OnlyFinds (devices B.calls W.calls C.tells P.calls) (service desk.old) request.entry (state desk.old) (state desk.new)) }
+    ensures ok { OnOk result (WritesParsed (devices B.calls W.calls C.tells P.calls S.calls) uri.now request.entry desk.old room.old desk.new room.new) }
+    ensures err { OnErr result (WantsParsed (devices B.calls W.calls C.tells P.calls S.calls) request.entry desk.old desk.new) }
     ensures mute { OnErr result (room.new.text ≡ room.old.text) }
 {
     let mut found = None;
@@ -91,16 +92,16 @@ fn respond_named<R: Wait, B: Binder, W: Words, C: Clock, P: Plays>(
 }
 
 // Answers a request that nothing refuses before its session is looked up.
-fn respond_parsed<R: Wait, B: Binder, W: Words, C: Clock, P: Plays>(
+fn respond_parsed<R: Wait, B: Binder, W: Words, C: Clock, P: Plays, S: Shares>(
     alloc: Global,
-    desk: &mut Desk<'_, R, B, W, C, P>,
+    desk: &mut Desk<'_, R, B, W, C, P, S>,
     uri: &[u8],
     request: ParsedRequest<'_>,
     room: &mut Room,
 ) -> Result<(), AllocError>
     ensures same { SameParts desk.old desk.new }
-    ensures ok { OnOk result (WritesParsed (devices B.calls W.calls C.tells P.calls) uri.now request.entry (scene desk.old room.old) (scene desk.new room.new)) }
-    ensures err { OnErr result (OnlyFinds (devices B.calls W.calls C.tells P.calls) (service desk.old) request.entry (state desk.old) (state desk.new)) }
+    ensures ok { OnOk result (WritesParsed (devices B.calls W.calls C.tells P.calls S.calls) uri.now request.entry desk.old room.old desk.new room.new) }
+    ensures err { OnErr result (WantsParsed (devices B.calls W.calls C.tells P.calls S.calls) request.entry desk.old desk.new) }
     ensures mute { OnErr result (room.new.text ≡ room.old.text) }
 {
     match request.session_name() {
@@ -115,15 +116,15 @@ fn respond_parsed<R: Wait, B: Binder, W: Words, C: Clock, P: Plays>(
 /// Answers a request: its response is written behind what is in the room. Where memory runs out,
 /// nothing has happened, or the session that the request names was renewed and nothing else was
 /// done.
-pub fn respond<R: Wait, B: Binder, W: Words, C: Clock, P: Plays>(
+pub fn respond<R: Wait, B: Binder, W: Words, C: Clock, P: Plays, S: Shares>(
     alloc: Global,
-    desk: &mut Desk<'_, R, B, W, C, P>,
+    desk: &mut Desk<'_, R, B, W, C, P, S>,
     request: &Request,
     room: &mut Room,
 ) -> Result<(), AllocError>
     ensures same { SameParts desk.old desk.new }
-    ensures ok { OnOk result (WritesResponse (devices B.calls W.calls C.tells P.calls) request.now (scene desk.old room.old) (scene desk.new room.new)) }
-    ensures err { OnErr result (Lacks (devices B.calls W.calls C.tells P.calls) (service desk.old) request.now (state desk.old) (state desk.new)) }
+    ensures ok { OnOk result (WritesResponse (devices B.calls W.calls C.tells P.calls S.calls) request.now desk.old room.old desk.new room.new) }
+    ensures err { OnErr result (WantsResponse (devices B.calls W.calls C.tells P.calls S.calls) request.now desk.old desk.new) }
     ensures mute { OnErr result (room.new.text ≡ room.old.text) }
 {
     match screen(alloc, request, desk.table)? {
@@ -134,10 +135,11 @@ pub fn respond<R: Wait, B: Binder, W: Words, C: Clock, P: Plays>(
     }
 }
 
-impl<R: Wait, B: Binder, W: Words, C: Clock, P: Plays> Answerer for Desk<'_, R, B, W, C, P> {
-    ghost answers = { AnswersAt (devices B.calls W.calls C.tells P.calls) };
+impl<R: Wait, B: Binder, W: Words, C: Clock, P: Plays, S: Shares> Answerer
+    for Desk<'_, R, B, W, C, P, S> {
+    ghost answers = { AnswersAt (devices B.calls W.calls C.tells P.calls S.calls) };
 
-    ghost gives_up = { GivesUpAt (devices B.calls W.calls C.tells P.calls) };
+    ghost gives_up = { GivesUpAt (devices B.calls W.calls C.tells P.calls S.calls) };
 
     fn answer(&mut self, alloc: Global, item: &Item, room: &mut Room) -> Result<(), AllocError> {
         match item {

@@ -13,9 +13,10 @@ pub struct Asker {
 }
 
 /// The parts that are lent to a connection: its seat of the lock, the binder of its ports, the
-/// source of its words, the clock, who learns of its plays, the content, and who asks.
+/// source of its words, the clock, who learns of its plays, who counts the sessions of each address,
+/// the content, and who asks.
 #[derive(Drop)]
-pub struct Desk<'a, R, B, W, C, P> {
+pub struct Desk<'a, R, B, W, C, P, S> {
     pub rt: &'a R,
     pub seat: &'a mut BookSeat,
     pub lock: &'a BookLock,
@@ -23,6 +24,7 @@ pub struct Desk<'a, R, B, W, C, P> {
     pub words: &'a mut W,
     pub clock: &'a mut C,
     pub plays: &'a mut P,
+    pub shares: &'a mut S,
     pub table: &'a Table,
     pub asker: Asker,
     ghost ours: { IsSeatOf seat.now lock.now },

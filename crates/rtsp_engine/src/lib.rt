@@ -4,8 +4,8 @@
 //! gathers what is to be written; `serving` is the loop around it that reads and writes.
 //! `conversing` answers one request from a `Desk`, the parts that are lent to a connection.
 //!
-//! The definitions of `specs/` read in this order: Devices (what clocks, words and plays do), Desk
-//! (what is before and after a request), Renewing, Conducting, Conversing (how one item is
+//! The definitions of `specs/` read in this order: Devices (what clocks, words, plays and shares do),
+//! Desk (what is before and after a request), Renewing, Conducting, Conversing (how one item is
 //! answered), Writing (the same, in a room), Served (what a connection has written), DeskAnswers
 //! (the same from a desk), Additions (what it has recorded), Numbers (under which numbers, and what
 //! a refused SETUP leaves), Causes (faults are told where they were counted).
@@ -20,11 +20,11 @@ mod desk;
 mod drawing;
 mod fault_responses;
 mod laws;
-mod lending;
 mod piece_reader;
 mod plays;
 mod renewing;
 mod serving;
+mod shares;
 mod streams;
 mod visiting;
 mod visits;
@@ -35,12 +35,14 @@ pub use connection::{Answerer, Connection};
 pub use conversing::respond;
 pub use desk::{Asker, Desk};
 pub use fault_responses::fault_response;
-pub use laws::{law_served_cleanly, law_served_grows, law_served_keeps_numbers};
-pub use lending::push_lent;
+pub use laws::{
+    law_never_wants_place, law_served_cleanly, law_served_grows, law_served_keeps_numbers,
+};
 pub use piece_reader::PieceReader;
 pub use plays::Plays;
 pub use rtsp_admit::{BindFault, Binder, law_owns_all};
 pub use serving::{ServeEnd, TURNS, serve, serve_turns};
+pub use shares::{ShareSpent, Shares};
 pub use streams::{ByteIn, ByteOut, CountedReader, CountedWriter, StreamFault};
 pub use visiting::{PieceAnswerer, PieceIn, Reading, VisitEnd, law_visits, visit};
 pub use words::{Words, WordsFault};

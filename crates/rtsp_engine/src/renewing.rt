@@ -1,10 +1,9 @@
 //! Looks the session of a request up, and renews it.
 
-ghost use Rattle.std.specs.Prelude.{◌≡◌, Some, IsSome, IfSome, OnOk, IfErr};
-ghost use Rattle.rtsp_book.specs.declared.steps.Step.TheVariants.{Touch};
+ghost use Rattle.std.specs.Prelude.{◌≡◌, IsSome, IfSome, OnOk, IfErr};
 ghost use Rattle.rtsp_lock.specs.Calls.{seat_view, IsSeatOf, SameSeat};
 ghost use Rattle.rtsp_engine.specs.Desk.{served};
-ghost use Rattle.rtsp_engine.specs.Renewing.{lock_name, Looks, RenewsBy, Renews, RefusedRenewal, RefusesRenewal};
+ghost use Rattle.rtsp_engine.specs.Renewing.{lock_name, Looks, RenewsTo, Renews, RefusedRenewal, RefusesRenewal};
 
 use crate::desk::Asker;
 use rtsp_book::{Receipt, SessionView, Startup, Step};
@@ -57,7 +56,8 @@ fn renew_until<R: Wait>(
     requires own { IsSeatOf seat.old lock.now }
     requires lives { IsSome found.old }
     ensures same { SameSeat seat.old seat.new }
-    ensures ok { IfSome found.old (λ view. OnOk result (RenewsBy conn request.now.name (Some (Touch view.0 until)) found.old found.new (seat_view seat.old) (seat_view seat.new))) }
+    ensures ok { IfSome found.old (λ view. OnOk result (
+        RenewsTo conn request.now.name view until found.old found.new (seat_view seat.old) (seat_view seat.new))) }
     ensures err { IfSome found.old (λ view. IfErr result (λ r. RefusedRenewal request.now view until r (seat_view seat.old) (seat_view seat.new))) }
 {
     let Some(view) = found.as_ref() else {

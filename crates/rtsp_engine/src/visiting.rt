@@ -4,10 +4,10 @@ ghost use Rattle.std.specs.Prelude.{◌≡◌, ◌++◌, ℕ, List, [], length, 
 ghost use Rattle.std.specs.Io.KnownBytes.{Appends};
 ghost use Rattle.rtsp_grammar.specs.Answer.{IsUndecided};
 ghost use Rattle.rtsp_grammar.specs.declared.message.Item.{Item};
-ghost use Rattle.rtsp_engine.specs.Served.{Answered, FaultedAfter, Written, parts};
+ghost use Rattle.rtsp_engine.specs.Served.{Answered, FaultedAfter, Written, at, parts};
 ghost use Rattle.rtsp_engine.specs.Serving.{Serving};
 ghost use Rattle.rtsp_engine.specs.Streams.{HasCause, WritesPart};
-ghost use Rattle.rtsp_engine.specs.Visiting.{Reads, ReadsCounted, sides, gathers, ended, serve_end, Delivers, CountsWrite, CountsRead, CountsDelivery, ClosesAtEnd, ReadsPieces, Visits, VisitsChain};
+ghost use Rattle.rtsp_engine.specs.Visiting.{Reads, ReadsCounted, sides, ended, serve_end, Delivers, CountsWrite, CountsRead, CountsDelivery, ClosesAtEnd, ReadsPieces, Visits, VisitsChain};
 
 use crate::connection::Connection;
 use crate::fault_responses::fault_response;
@@ -62,9 +62,11 @@ pub trait PieceAnswerer {
         piece: &[u8],
         room: &mut Room,
     ) -> Result<(), MessageFault>
-        ensures goes_on { OnOk result (Answered answers gives_up (input.old ++ piece.now) input.new (gathers room.old.text (serving self.old)) (gathers room.new.text (serving self.new))) }
+        ensures goes_on { OnOk result (Answered answers gives_up (input.old ++ piece.now) input.new
+            (at room.old (serving self.old)) (at room.new (serving self.new))) }
         ensures undecided { OnOk result (IsUndecided input.new) }
-        ensures ends { IfErr result (λ f. FaultedAfter answers gives_up (input.old ++ piece.now) f (gathers room.old.text (serving self.old)) (gathers room.new.text (serving self.new))) };
+        ensures ends { IfErr result (λ f. FaultedAfter answers gives_up (input.old ++ piece.now) f
+            (at room.old (serving self.old)) (at room.new (serving self.new))) };
 
     /// Whether the answers so far, of so many bytes, are to be written at once.
     fn is_due(&self, gathered: usize) -> bool;
@@ -173,7 +175,9 @@ pub fn visit<A: PieceAnswerer, I: PieceIn, O: ByteOut>(
     pieces: usize,
     reads_all: bool,
 ) -> VisitEnd
-    ensures visited { Visits A.answers A.gives_up input.old input.new result (sides I.remaining O.contents A.serving (parts reader.old writer.old answerer.old)) (sides I.remaining O.contents A.serving (parts reader.new writer.new answerer.new)) }
+    ensures visited { Visits A.answers A.gives_up input.old input.new result
+        (sides I.remaining O.contents A.serving (parts reader.old writer.old answerer.old))
+        (sides I.remaining O.contents A.serving (parts reader.new writer.new answerer.new)) }
     // Faults of the reader and of the writer are told where they were counted.
     ensures read_fault { CountsRead result (I.failures reader.old) (I.failures reader.new) }
     ensures write_fault { CountsWrite result (O.failures writer.old) (O.failures writer.new) }

@@ -16,6 +16,7 @@ use crate::desk::Desk;
 use crate::laws::{law_served_cleanly, law_served_grows, law_served_keeps_numbers};
 use crate::plays::Plays;
 use crate::serving::{ServeEnd, serve_turns};
+use crate::shares::Shares;
 use crate::streams::{ByteIn, ByteOut};
 use crate::words::Words;
 use rtsp_admit::Binder;
@@ -24,7 +25,7 @@ use rtsp_state::Room;
 use std::alloc::Global;
 use std::sync::Wait;
 
-impl<R: Wait, B: Binder, W: Words, C: Clock, P: Plays> Desk<'_, R, B, W, C, P> {
+impl<R: Wait, B: Binder, W: Words, C: Clock, P: Plays, S: Shares> Desk<'_, R, B, W, C, P, S> {
     /// Takes a piece of a connection's input as `Connection::push` does. The entries of the seat
     /// grow by what is recorded for the requests that are answered, as `law_served_grows` has it.
     pub fn push(
@@ -36,14 +37,16 @@ impl<R: Wait, B: Binder, W: Words, C: Clock, P: Plays> Desk<'_, R, B, W, C, P> {
     ) -> Result<(), MessageFault>
         ensures same { SameParts self.old self.new }
         ensures seat { self.new.seat.ghost_name ≡ self.old.seat.ghost_name }
-        ensures grows { Grows (devices B.calls W.calls C.tells P.calls) R self.old self.new }
-        ensures goes_on { OnOk result (Takes (devices B.calls W.calls C.tells P.calls) (connection.old ++ piece.now) connection.new (at room.old self.old) (at room.new self.new)) }
+        ensures grows { Grows (devices B.calls W.calls C.tells P.calls S.calls) R self.old self.new }
+        ensures goes_on { OnOk result (Takes (devices B.calls W.calls C.tells P.calls S.calls)
+            (connection.old ++ piece.now) connection.new (at room.old self.old) (at room.new self.new)) }
         ensures undecided { OnOk result (IsUndecided connection.new) }
-        ensures ends { IfErr result (λ f. Faults (devices B.calls W.calls C.tells P.calls) (connection.old ++ piece.now) f (at room.old self.old) (at room.new self.new)) }
+        ensures ends { IfErr result (λ f. Faults (devices B.calls W.calls C.tells P.calls S.calls)
+            (connection.old ++ piece.now) f (at room.old self.old) (at room.new self.new)) }
         ensures numbers { DeskKeepsNumbers self.old self.new }
     {
-        law_served_grows::<R, B, W, C, P>();
-        law_served_keeps_numbers::<R, B, W, C, P>();
+        law_served_grows::<R, B, W, C, P, S>();
+        law_served_keeps_numbers::<R, B, W, C, P, S>();
         connection.push(alloc, self, piece, room)
     }
 
@@ -58,19 +61,22 @@ impl<R: Wait, B: Binder, W: Words, C: Clock, P: Plays> Desk<'_, R, B, W, C, P> {
     ) -> ServeEnd
         ensures same { SameParts self.old self.new }
         ensures seat { self.new.seat.ghost_name ≡ self.old.seat.ghost_name }
-        ensures grows { Grows (devices B.calls W.calls C.tells P.calls) R self.old self.new }
-        ensures served { EndsAt (devices B.calls W.calls C.tells P.calls) I.remaining O.contents result (parts reader.old writer.old self.old) (parts reader.new writer.new self.new) }
+        ensures grows { Grows (devices B.calls W.calls C.tells P.calls S.calls) R self.old self.new }
+        ensures served { EndsAt (devices B.calls W.calls C.tells P.calls S.calls) I.remaining O.contents result
+            (parts reader.old writer.old self.old) (parts reader.new writer.new self.new) }
         ensures read_fault { ReadFails result (I.failures reader.old) (I.failures reader.new) }
         ensures write_fault { WriteFails result (O.failures writer.old) (O.failures writer.new) }
         ensures closed { ClosesAtEnd result (I.remaining reader.new) }
         ensures spent { SpendsTurns result turns (I.remaining reader.old) (I.remaining reader.new) }
         ensures numbers { DeskKeepsNumbers self.old self.new }
         ensures owns { SeatOwnsAll self.old → SeatOwnsAll self.new }
-        ensures cleanly { SeatOwnsAll self.old → EndsCleanly (devices B.calls W.calls C.tells P.calls) I.remaining O.contents result (parts reader.old writer.old self.old) (parts reader.new writer.new self.new) }
+        ensures cleanly { SeatOwnsAll self.old
+            → EndsCleanly (devices B.calls W.calls C.tells P.calls S.calls) I.remaining O.contents result
+            (parts reader.old writer.old self.old) (parts reader.new writer.new self.new) }
     {
-        law_served_grows::<R, B, W, C, P>();
-        law_served_keeps_numbers::<R, B, W, C, P>();
-        law_served_cleanly::<R, B, W, C, P>();
+        law_served_grows::<R, B, W, C, P, S>();
+        law_served_keeps_numbers::<R, B, W, C, P, S>();
+        law_served_cleanly::<R, B, W, C, P, S>();
         serve_turns(alloc, self, reader, writer, turns)
     }
 }

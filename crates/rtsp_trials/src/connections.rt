@@ -119,6 +119,22 @@ impl Plays for Device {
     }
 }
 
+impl Shares for Device {
+    ghost use Rattle.std.specs.Prelude.{⊤};
+
+    ghost calls = { record { takes = λ b peer c. ⊤; refuses = λ b peer c. ⊤; settles = λ b opened c. ⊤; refusals = λ b. b.failures } };
+
+    fn take(&mut self, _peer: u32) -> Result<(), ShareSpent> {
+        if self.works {
+            return Ok(());
+        }
+        self.failures = self.failures.saturating_add(1);
+        Err(ShareSpent)
+    }
+
+    fn settle(&mut self, _opened: Option<u64>) {}
+}
+
 impl Binder for Device {
     ghost use Rattle.std.specs.Prelude.{⊤};
 
@@ -164,6 +180,7 @@ fn converse<R: AllocGlobal + Wait>(
     let mut words = Device::new(words);
     let mut clock = Device::new(true);
     let mut plays = Device::new(plays);
+    let mut shares = Device::new(true);
     let mut room = Room::new(rt.alloc());
     let mut connection = Connection::new(rt.alloc());
     let mut pushed = Ok(());
@@ -176,6 +193,7 @@ fn converse<R: AllocGlobal + Wait>(
             words: &mut words,
             clock: &mut clock,
             plays: &mut plays,
+            shares: &mut shares,
             table: &table,
             asker: Asker { conn: 1, peer: 0 },
         };
@@ -211,7 +229,7 @@ fn a_play_that_can_t_be_noted_is_not_begun(rt: HostRuntime) -> Result<(), Fail> 
     let answer = b"Media-Range: npt=0.000-10.000\r\n\r\n";
     assert!(rt; conversation.room.as_bytes().ends_with(answer.as_slice()));
     assert!(rt; conversation.plays.settled.is_none());
-    law_served_grows::<HostRuntime, Device, Device, Device, Device>();
+    law_served_grows::<HostRuntime, Device, Device, Device, Device, Device>();
     let told = fault_response(MessageFault::OutOfMemory);
     assert!(rt; told == b"RTSP/2.0 500 Internal Server Error\r\n\r\n".as_slice());
     Ok(())
@@ -256,6 +274,7 @@ fn ask_each_second<R: AllocGlobal + Wait>(
         words: &mut Device::new(true),
         clock: &mut Device::new(true),
         plays: &mut Device::new(true),
+        shares: &mut Device::new(true),
         table,
         asker: Asker { conn: 1, peer: 0 },
     };

@@ -24,6 +24,8 @@ mod responses;
 #[cfg(test)]
 mod servers;
 #[cfg(test)]
+mod shares;
+#[cfg(test)]
 mod state_table;
 #[cfg(test)]
 mod world;

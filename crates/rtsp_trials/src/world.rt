@@ -12,7 +12,7 @@ use rtsp_grammar::{HeadersBuilder, Method, Request, Text, Version};
 use rtsp_lock::{BookLock, BookSeat};
 use rtsp_record::{Id, Stream, Whole};
 use rtsp_state::{Room, SessionKey, SetupPlan, Status, StepPlan};
-use rtspd::{EXAMPLE, NoPlays, StandingClock};
+use rtspd::{EXAMPLE, NoPlays, NoShares, StandingClock};
 use std::alloc::{AllocError, Global};
 use std::sync::Wait;
 use std::test::Fail;
@@ -75,6 +75,7 @@ pub fn serve<'a, R: Wait, B: Binder, W: Words, I: ByteIn, O: ByteOut>(
         words,
         clock: &mut StandingClock,
         plays: &mut NoPlays,
+        shares: &mut NoShares,
         table,
         asker,
     };

@@ -14,5 +14,5 @@ mod serving;
 pub use example::EXAMPLE;
 pub use reasons::tell_reasons;
 pub use rtsp_command_line::{CommandLine, Exit, read_words};
-pub use rtsp_devices::{CountedWords, NoPlays, PortSet, StandingClock};
+pub use rtsp_devices::{CountedWords, NoPlays, NoShares, PortSet, StandingClock};
 pub use running::{run_program, run_words};

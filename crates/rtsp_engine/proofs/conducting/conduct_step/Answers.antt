@@ -18,6 +18,7 @@ returns-in-Ok-clause-ok g c =
         answer = refl;
         words = refl;
         clock = refl;
+        shares = refl;
       };
       text = c.answer.ensures.text ∙ ap (λ (t : List ℕ). t ++ response_text (step_answer c.args.plan.now made)) c.in_ok-make_room.ensures.text;
     }

@@ -3,10 +3,10 @@ use Rattle.rtsp_engine.proofs.Parts.{ended_same}
 use Rattle.rtsp_engine.proofs.desk.Desk.serve.Goals as goal
 
 pub returns-clause-same : goal.returns-clause-same
-returns-clause-same g c = ended_same (devices g.B.Binder.calls g.W.Words.calls g.C.Clock.tells g.P.Plays.calls) c.serve_turns.result _ _ _ c.serve_turns.ensures.served
+returns-clause-same g c = ended_same (devices g.B.Binder.calls g.W.Words.calls g.C.Clock.tells g.P.Plays.calls g.S.Shares.calls) c.serve_turns.result _ _ _ c.serve_turns.ensures.served
 
 pub returns-clause-seat : goal.returns-clause-seat
-returns-clause-seat g c = (ended_same (devices g.B.Binder.calls g.W.Words.calls g.C.Clock.tells g.P.Plays.calls) c.serve_turns.result _ _ _ c.serve_turns.ensures.served).seat
+returns-clause-seat g c = (ended_same (devices g.B.Binder.calls g.W.Words.calls g.C.Clock.tells g.P.Plays.calls g.S.Shares.calls) c.serve_turns.result _ _ _ c.serve_turns.ensures.served).seat
 
 pub returns-clause-grows : goal.returns-clause-grows
 returns-clause-grows g c = (_, c.law_served_grows.ensures.ended _ c.serve_turns.result _ _ c.serve_turns.ensures.served)

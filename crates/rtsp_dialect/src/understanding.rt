@@ -1,0 +1,38 @@
+//! Takes the input of a player, and has answered what it means to the players of the configuration.
+
+ghost use Rattle.std.specs.Prelude.{◌≡◌, ◌++◌, IfErr, OnOk};
+ghost use Rattle.rtsp_grammar.specs.Answer.{IsUndecided};
+ghost use Rattle.rtsp_engine.specs.Desk.{SameParts};
+ghost use Rattle.rtsp_engine.specs.Devices.{devices};
+ghost use Rattle.rtsp_dialect.specs.Understanding.{TakesPiece, FaultsPiece, serves};
+
+use crate::visits::push;
+use rtsp_content::Players;
+use rtsp_engine::{Binder, Clock, Connection, Desk, Plays, Shares, Words};
+use rtsp_grammar::MessageFault;
+use rtsp_state::Room;
+use std::alloc::Global;
+use std::sync::Wait;
+
+/// Takes a piece of a connection's input as `Desk::push` does, and has answered what its items mean
+/// to the players of the configuration. What stays of the desk for the next piece is what its seat
+/// knows then, so each piece may have devices that are lent for it alone.
+pub fn push_understood<R: Wait, B: Binder, W: Words, C: Clock, P: Plays, S: Shares>(
+    alloc: Global,
+    desk: &mut Desk<'_, R, B, W, C, P, S>,
+    input: &mut Connection,
+    piece: &[u8],
+    room: &mut Room,
+) -> Result<(), MessageFault>
+    ensures same { SameParts desk.old desk.new }
+    ensures goes_on { OnOk result (TakesPiece (devices B.calls W.calls C.tells P.calls S.calls)
+        (input.old ++ piece.now) input.new (serves desk.old room.old) (serves desk.new room.new)) }
+    ensures undecided { OnOk result (IsUndecided input.new) }
+    ensures ends { IfErr result (λ f. FaultsPiece (devices B.calls W.calls C.tells P.calls S.calls)
+        (input.old ++ piece.now) f (serves desk.old room.old) (serves desk.new room.new)) }
+{
+    match desk.table.server().players {
+        Players::Strict => desk.push(alloc, input, piece, room),
+        Players::Gstreamer => push(alloc, desk, input, piece, room),
+    }
+}
