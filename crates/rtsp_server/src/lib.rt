@@ -14,6 +14,7 @@ mod answering;
 mod client;
 mod connection_shares;
 mod gate;
+mod lane_shares;
 mod leaving;
 mod limits;
 mod relieving;
