@@ -48,6 +48,6 @@ one_gone a b c old mid new place x gone y ended exchanged = record {
     arith,
     (kept_on a b c old mid gone y).living test living,
     exchanged test,
-    ap (λ t. cond t 1 0) (fails (test place) (λ passes. living place passes (wider a b c c place x ended none)))
+    ap (λ t. cond t 1 0) (fails (test place) (λ passes. living place passes (wider a b c c place x ended none))),
   );
 }

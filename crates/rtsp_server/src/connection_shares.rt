@@ -1,6 +1,6 @@
 //! The connections of each address.
 
-ghost use Rattle.std.specs.Prelude.{◌≡◌, ◌++◌, ◌∷◌, ◌≤◌, ◌<◌, ◌+◌, ◌⊎◌, [], length, IfOk, IfSome, IfNone, slice_get, Some};
+ghost use Rattle.std.specs.Prelude.{◌≡◌, ◌++◌, ◌∷◌, ◌≤◌, ◌<◌, ◌+◌, ◌⊎◌, ◌↔◌, [], length, IsTrue, IfOk, IfSome, IfNone, slice_get, Some};
 ghost use Rattle.std.specs.Bool.{OnTrue, OnFalse};
 ghost use Rattle.rtsp_server.specs.Shares.{Exchanges, connections_of};
 
@@ -56,7 +56,11 @@ fn position_of(peers: &[u32], peer: u32) -> Option<usize>
 
 impl ConnectionShares {
     /// No connection is open, of at most so many from one address, and so many in all.
-    pub(crate) fn new(alloc: Global, share: usize, most: usize) -> Result<ConnectionShares, AllocError>
+    pub(crate) fn new(
+        alloc: Global,
+        share: usize,
+        most: usize,
+    ) -> Result<ConnectionShares, AllocError>
         ensures { IfOk result (λ s. s ≡ record { share = share; most = most; open_from = [] }) }
     {
         Ok(ConnectionShares {
@@ -66,6 +70,13 @@ impl ConnectionShares {
         })
     }
 
+    // Whether an address may have one more.
+    fn has_room(&self, peer: u32) -> bool
+        ensures { IsTrue result ↔ (connections_of peer self.now.open_from < self.now.share) × (length self.now.open_from < self.now.most) }
+    {
+        connections_of(&self.open_from, peer) < self.share && self.open_from.len() < self.most
+    }
+
     /// A connection is opened from an address, if its share isn't spent. Each that is has to be
     /// closed by `close`.
     pub(crate) fn open(&mut self, peer: u32) -> bool
@@ -73,9 +84,11 @@ impl ConnectionShares {
         ensures refused { OnFalse result (self.new ≡ self.old) }
         ensures spent { OnFalse result ((self.old.share ≤ connections_of peer self.old.open_from) ⊎ (self.old.most ≤ length self.old.open_from)) }
     {
-        connections_of(&self.open_from, peer) < self.share
-            && self.open_from.len() < self.most
-            && self.open_from.push(peer).is_ok()
+        if !self.has_room(peer) {
+            return false;
+        }
+        self.open_from.push_reserved(peer);
+        true
     }
 
     /// A connection from an address is closed.

@@ -18,7 +18,10 @@ pub(crate) struct Gate {
 }
 
 // What addresses have of the connections, where each has at most so many.
-fn shares_of(alloc: Global, share: Option<u16>) -> Result<Option<Mutex<ConnectionShares>>, AllocError> {
+fn shares_of(
+    alloc: Global,
+    share: Option<u16>,
+) -> Result<Option<Mutex<ConnectionShares>>, AllocError> {
     let Some(share) = share else {
         return Ok(None);
     };

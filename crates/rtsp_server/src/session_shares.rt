@@ -106,6 +106,13 @@ impl SessionShares {
         })
     }
 
+    // Whether an address may have one more.
+    fn has_room(&self, peer: u32) -> bool
+        ensures { IsTrue result ↔ (places_of peer self.now.taken < self.now.share) × (length self.now.taken < self.now.most) }
+    {
+        places_of(&self.taken, peer) < self.share && self.taken.len() < self.most
+    }
+
     /// An address takes a place for a session that is to be opened, if its share isn't spent. Each
     /// that is taken has to be settled.
     pub(crate) fn take(&mut self, peer: u32) -> bool
@@ -113,13 +120,14 @@ impl SessionShares {
         ensures refused { OnFalse result (self.new ≡ self.old) }
         ensures spent { OnFalse result ((self.old.share ≤ places_of peer self.old.taken) ⊎ (self.old.most ≤ length self.old.taken)) }
     {
-        let place = Place {
+        if !self.has_room(peer) {
+            return false;
+        }
+        self.taken.push_reserved(Place {
             peer,
             session: None,
-        };
-        places_of(&self.taken, peer) < self.share
-            && self.taken.len() < self.most
-            && self.taken.push(place).is_ok()
+        });
+        true
     }
 
     /// Whether no address can take a place.
@@ -170,13 +178,9 @@ impl SessionShares {
             None => self.drop_at(at),
         }
     }
+
     /// Gives the places back of those sessions of an address, or of all, that don't live any more.
-    pub(crate) fn drop_ended<R: Wait>(
-        &mut self,
-        rt: &R,
-        handle: &mut BookHandle,
-        peer: Option<u32>,
-    )
+    pub(crate) fn drop_ended<R: Wait>(&mut self, rt: &R, handle: &mut BookHandle, peer: Option<u32>)
         ensures numbers { (self.new.share ≡ self.old.share) × (self.new.most ≡ self.old.most) }
         ensures looks { Looks (seat_view handle.old.seat) (seat_view handle.new.seat) }
         ensures ended { OnlyEndedGone (seat_view handle.old.seat) (seat_view handle.new.seat) self.old.taken self.new.taken }

@@ -10,9 +10,9 @@ use rtsp_content::{Server, Table};
 use rtsp_pacing::Bells;
 use rtsp_sockets::{Outlets, PortTable};
 use std::alloc::{AllocError, Global};
-use std::{io, rt};
 use std::sync::{Mutex, Wait};
 use std::time::Instant;
+use std::{io, rt};
 
 /// What the threads of a server share beside the book.
 #[derive(Drop)]

@@ -1,4 +1,4 @@
-use Rattle.std.proofs.Common.{◌≡◌, ◌≤◌, take}
+use Rattle.std.proofs.Common.{◌≡◌, take}
 use Rattle.rtsp_server.specs.Shares.{connections_of}
 use Rattle.rtsp_server.proofs.connection_shares.position_of.Given as goal
 
