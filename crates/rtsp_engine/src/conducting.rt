@@ -50,7 +50,7 @@ fn played(step: &Step) -> Option<u64>
 }
 
 // Notes the play that a step begins.
-fn note<P: Plays, S: Shares>(
+fn note<P: Plays>(
     alloc: Global,
     plays: &mut P,
     step: &Step,
@@ -67,7 +67,7 @@ fn note<P: Plays, S: Shares>(
 }
 
 // Settles it.
-fn settle<P: Plays, S: Shares>(plays: &mut P, step: &Step, accepted: bool)
+fn settle<P: Plays>(plays: &mut P, step: &Step, accepted: bool)
     ensures { Settled P.calls (played step.now) accepted plays.old plays.new }
 {
     if played(step).is_some() {
