@@ -1,6 +1,7 @@
 //! Has the input of a connection answered by the engine, a piece at a time.
 
 ghost use Rattle.std.specs.Prelude.{◌≡◌};
+ghost use Rattle.rtsp_lock.specs.Calls.{IsSeatOf};
 ghost use Rattle.rtsp_engine.specs.Devices.{devices};
 ghost use Rattle.rtsp_engine.specs.Serving.{serving_of};
 ghost use Rattle.rtsp_dialect.specs.Understanding.{AnswersUnderstood, GivesUpUnderstood};
@@ -15,6 +16,7 @@ use rtsp_dialect::push_understood;
 use rtsp_engine::{Asker, Binder, Clock, Connection, Desk, PieceAnswerer, Plays, Shares, Words};
 use rtsp_grammar::MessageFault;
 use rtsp_lanes::BookHandle;
+use rtsp_lock::{BookLock, BookSeat};
 use rtsp_pacing::NotedPlays;
 use rtsp_sockets::{Outlet, PieceClock, PortBinder, RandomWords};
 use rtsp_state::Room;
@@ -23,14 +25,15 @@ use std::net::{Ipv4Addr, Net};
 use std::rt;
 use std::sync::{Arc, Wait};
 
-/// What answers the pieces of a connection: its handle of the book, and what its lane lends it.
+/// What answers the pieces of a connection: its seat of the book, and what its lane lends it.
 #[derive(Drop)]
 pub(crate) struct Front<'a, R> {
     pub(crate) rt: &'a R,
     pub(crate) shared: &'a Shared,
     pub(crate) table: &'a Table,
     pub(crate) now: u64,
-    pub(crate) handle: &'a mut BookHandle,
+    pub(crate) seat: &'a mut BookSeat,
+    pub(crate) lock: &'a BookLock,
     /// The lane's own handle, for the room of the journal and for what an address has.
     pub(crate) lane: &'a mut BookHandle,
     pub(crate) asker: Asker,
@@ -40,10 +43,11 @@ pub(crate) struct Front<'a, R> {
     pub(crate) words: &'a mut RandomWords,
     pub(crate) plays: &'a mut NotedPlays,
     pub(crate) activity: &'a mut Activity,
+    ghost ours: { IsSeatOf seat.now lock.now },
 }
 
 impl<R: Wait + Net + rt::Clock> PieceAnswerer for Front<'_, R> {
-    ghost serving = { λ f. serving_of f.table.now f.asker f.handle.now.seat };
+    ghost serving = { λ f. serving_of f.table.now f.asker f.seat.now };
 
     ghost answers = { AnswersUnderstood (devices ⟦<PortBinder<'static, R> as Binder>⟧.calls
         ⟦<RandomWords as Words>⟧.calls ⟦<PieceClock<'static, R> as Clock>⟧.tells
@@ -53,9 +57,9 @@ impl<R: Wait + Net + rt::Clock> PieceAnswerer for Front<'_, R> {
         ⟦<RandomWords as Words>⟧.calls ⟦<PieceClock<'static, R> as Clock>⟧.tells
         ⟦<NotedPlays as Plays>⟧.calls ⟦<LaneShares<'static, R> as Shares>⟧.calls) };
 
-    // The piece is answered at a desk over the connection's handle of the book, with the server's
-    // sockets, and its clock, which is read once at most. Each item is answered as the players of
-    // the configuration mean it.
+    // The piece is answered at a desk over the connection's seat, with the server's sockets, and its
+    // clock, which is read once at most. Each item is answered as the players of the configuration
+    // mean it.
     fn push(
         &mut self,
         alloc: Global,
@@ -68,8 +72,8 @@ impl<R: Wait + Net + rt::Clock> PieceAnswerer for Front<'_, R> {
         let given = self.words.given();
         let mut desk = Desk {
             rt: self.rt,
-            seat: &mut self.handle.seat,
-            lock: &self.handle.lock,
+            seat: self.seat,
+            lock: self.lock,
             binder: &mut PortBinder::new(self.rt, &self.shared.ports, self.host),
             words: self.words,
             clock: &mut PieceClock::new(self.rt, self.shared.begun),
