@@ -27,6 +27,10 @@ max_timeout = 86400
 abbrev pub max_journal : ℕ
 max_journal = 1000000
 
+-- connections that are open at once
+abbrev pub max_connections : ℕ
+max_connections = 16384
+
 abbrev pub max_workers : ℕ
 max_workers = 64
 

@@ -1,5 +1,5 @@
 -- The numbers of the server.
-use Rattle.std.specs.Prelude.{◌≡◌, ◌==◌, ◌+◌, ◌-◌, ◌*◌, ◌%◌, ◌≤◌, ◌<◌, nat_le, codes, Option, Some, None, Ok, Err, bytes_eq, if◌then◌else◌}
+use Rattle.std.specs.Prelude.{◌≡◌, ◌==◌, ◌+◌, ◌-◌, ◌*◌, ◌%◌, ◌≤◌, ◌<◌, nat_le, codes, Option, Some, None, IfSome, Ok, Err, bytes_eq, if◌then◌else◌}
 use Rattle.toml.specs.Data.{Data, Members, string, get_member}
 use Rattle.rtsp_content.specs.declared.fault.TableFault.TheVariants.{BadValue}
 use Rattle.rtsp_content.specs.declared.server.Players.{Players}
@@ -7,8 +7,8 @@ use Rattle.rtsp_content.specs.declared.server.Players.TheVariants.{Strict, Gstre
 use Rattle.rtsp_content.specs.declared.server.Server.{Server}
 use Rattle.rtsp_content.specs.Fault.{Read, must}
 use Rattle.rtsp_text.specs.Results.{◌>>=◌}
-use Rattle.rtsp_content.specs.Limits.{least_port, greatest_port, max_pairs, max_uplink, max_sessions, max_timeout, max_journal, max_workers}
-use Rattle.rtsp_content.specs.Keys.{number_at, number_at_or}
+use Rattle.rtsp_content.specs.Limits.{least_port, greatest_port, max_pairs, max_uplink, max_sessions, max_timeout, max_journal, max_workers, max_connections}
+use Rattle.rtsp_content.specs.Keys.{number_at, number_at_or, optional_number_at}
 
 -- the players that a word names
 abbrev pub as_players : Data → Read Players
@@ -21,7 +21,7 @@ players_in None = Ok Strict
 players_in (Some d) = as_players d
 
 -- what the table `[server]` says; all ports of all pairs are at most 65,535, and the step of renewals, in milliseconds,
--- is below the timeout, in seconds
+-- is below the timeout, in seconds; an address has at most all sessions and all connections
 abbrev pub server_of : Members → Read Server
 server_of ms = do
   first_port ← number_at (codes "first_port") least_port greatest_port ms
@@ -34,8 +34,10 @@ server_of ms = do
   renewal_step ← number_at_or (codes "renewal_step") 1 (timeout * 1000 - 1) 1 ms
   journal ← number_at_or (codes "journal") 1 max_journal max_journal ms
   workers ← number_at_or (codes "workers") 1 max_workers 4 ms
+  sessions_per_address ← optional_number_at (codes "sessions_per_address") 1 sessions ms
+  connections_per_address ← optional_number_at (codes "connections_per_address") 1 max_connections ms
   players ← players_in (get_member (codes "players") ms)
-  Ok (record { first_port = first_port; pairs = pairs; uplink = uplink; sessions = sessions; timeout = timeout; renewal_step = renewal_step; journal = journal; workers = workers; players = players })
+  Ok (record { first_port = first_port; pairs = pairs; uplink = uplink; sessions = sessions; timeout = timeout; renewal_step = renewal_step; journal = journal; workers = workers; sessions_per_address = sessions_per_address; connections_per_address = connections_per_address; players = players })
 
 -- the limits of these numbers
 pub record IsWithinLimits (server : Server) : Type 0 where
@@ -54,3 +56,5 @@ pub record IsWithinLimits (server : Server) : Type 0 where
   pub journal_most : server.journal ≤ max_journal
   pub workers_least : 1 ≤ server.workers
   pub workers_most : server.workers ≤ max_workers
+  pub sessions_share : IfSome server.sessions_per_address (λ share. (1 ≤ share) × (share ≤ server.sessions))
+  pub connections_share : IfSome server.connections_per_address (λ share. (1 ≤ share) × (share ≤ max_connections))

@@ -17,6 +17,7 @@ mod track;
 
 pub use fault::TableFault;
 pub use found::Found;
+pub use limits::MAX_CONNECTIONS;
 pub use presentation::Presentation;
 pub use server::{Players, Server};
 pub use table::Table;

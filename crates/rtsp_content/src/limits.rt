@@ -19,6 +19,8 @@ pub const DEFAULT_TIMEOUT: u64 = 60;
 pub const DEFAULT_RENEWAL_STEP: u64 = 1;
 /// The most entries of the journal, and as many where the configuration doesn't say.
 pub const MAX_JOURNAL: u64 = 1_000_000;
+/// The most connections that are open at once.
+pub const MAX_CONNECTIONS: u64 = 16_384;
 /// The most threads that serve connections.
 pub const MAX_WORKERS: u64 = 64;
 /// The threads that serve them where the configuration doesn't say.

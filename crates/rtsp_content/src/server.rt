@@ -1,15 +1,16 @@
 //! The numbers of the server.
 
-ghost use Rattle.std.specs.Prelude.{◌≡◌, IfOk};
+ghost use Rattle.std.specs.Prelude.{◌≡◌, ◌≤◌, ◌<◌, ◌^◌, IfOk, IfSome};
 ghost use Rattle.toml.specs.Data.{get_member};
 ghost use Rattle.toml.specs.View.{view, table_view};
+ghost use Rattle.rtsp_content.specs.Keys as keys;
 ghost use Rattle.rtsp_content.specs.Server.{as_players, players_in, server_of, IsWithinLimits};
 
 use crate::fault::{TableFault, must};
-use crate::keys::{number_at, number_at_or, value_at};
+use crate::keys::{number_at, number_at_or, optional_number_at, value_at};
 use crate::limits::{
-    DEFAULT_RENEWAL_STEP, DEFAULT_TIMEOUT, DEFAULT_WORKERS, GREATEST_PORT, LEAST_PORT, MAX_JOURNAL,
-    MAX_PAIRS, MAX_SESSIONS, MAX_TIMEOUT, MAX_UPLINK, MAX_WORKERS,
+    DEFAULT_RENEWAL_STEP, DEFAULT_TIMEOUT, DEFAULT_WORKERS, GREATEST_PORT, LEAST_PORT,
+    MAX_CONNECTIONS, MAX_JOURNAL, MAX_PAIRS, MAX_SESSIONS, MAX_TIMEOUT, MAX_UPLINK, MAX_WORKERS,
 };
 use toml::{Table, Value};
 
@@ -51,8 +52,26 @@ pub struct Server {
     /// How many threads serve connections.
     pub workers: u8,
 
+    /// How many sessions of one address there may be at once, where that is less than all.
+    pub sessions_per_address: Option<u16>,
+
+    /// How many connections of one address may be open at once.
+    pub connections_per_address: Option<u16>,
+
     /// Whose requests it understands.
     pub players: Players,
+}
+
+// What one address may have, of so much, if the key is there.
+fn share_at(table: &Table, key: &str, most: u64) -> Result<Option<u16>, TableFault>
+    requires { most < 2 ^ 16 }
+    ensures value { result ≡ keys.optional_number_at key.now 1 most (table_view table.now) }
+    ensures range { IfOk result (λ o. IfSome o (λ n. (1 ≤ n) × (n ≤ most))) }
+{
+    match optional_number_at(table, key, 1, most)? {
+        Some(share) => Ok(Some(share as u16)),
+        None => Ok(None),
+    }
 }
 
 fn players_named(value: &Value) -> Result<Players, TableFault>
@@ -98,6 +117,8 @@ pub(crate) fn read_server(table: &Table) -> Result<Server, TableFault>
     let renewal_step = number_at_or(table, "renewal_step", 1, most_step, DEFAULT_RENEWAL_STEP)?;
     let journal = number_at_or(table, "journal", 1, MAX_JOURNAL, MAX_JOURNAL)?;
     let workers = number_at_or(table, "workers", 1, MAX_WORKERS, DEFAULT_WORKERS)?;
+    let sessions_per_address = share_at(table, "sessions_per_address", sessions)?;
+    let connections_per_address = share_at(table, "connections_per_address", MAX_CONNECTIONS)?;
     let players = players_at(table, "players")?;
     Ok(Server {
         first_port: first_port as u16,
@@ -108,6 +129,8 @@ pub(crate) fn read_server(table: &Table) -> Result<Server, TableFault>
         renewal_step: renewal_step as u32,
         journal: journal as u32,
         workers: workers as u8,
+        sessions_per_address,
+        connections_per_address,
         players,
     })
 }

@@ -62,6 +62,8 @@ const SERVER: Server = Server {
     renewal_step: 1,
     journal: 1_000_000,
     workers: 4,
+    sessions_per_address: None,
+    connections_per_address: None,
     players: Players::Strict,
 };
 
@@ -74,13 +76,16 @@ fn reads_the_example(rt: HostRuntime) -> Result<(), Fail> {
     Ok(())
 }
 
-// A configuration of stereo sound, whose players are GStreamer and whose media has a folder.
+// A configuration of stereo sound, whose addresses have shares, whose players are GStreamer and whose
+// media has a folder.
 const STEREO: &str = "\
 [server]
 first_port = 5000
 pairs = 2
 uplink = 2000000
 sessions = 4
+sessions_per_address = 2
+connections_per_address = 8
 players = \"gstreamer\"
 media = \"films\"
 [[presentation]]
@@ -118,6 +123,8 @@ a=control:s\r
 fn reads_the_optional_keys(rt: HostRuntime) -> Result<(), Fail> {
     let table = Table::read(rt.alloc(), STEREO.as_bytes())?;
     assert!(rt; table.server().players == Players::Gstreamer);
+    assert!(rt; table.server().sessions_per_address == Some(2));
+    assert!(rt; table.server().connections_per_address == Some(8));
     let presentation = table.presentation(0);
     assert!(rt; matches!(presentation, Some(it) if it.sdp() == STEREO_SDP.as_bytes()));
     assert!(rt; matches!(first_track(&table), Some(it) if has_the_optional_keys(it)));
@@ -351,6 +358,26 @@ const LIMITS: [(&str, &str, &str); 50] = [
     ("timeout = 60", "journal = 1000000", "journal = 1000001"),
     ("timeout = 60", "workers = 1", "workers = 0"),
     ("timeout = 60", "workers = 64", "workers = 65"),
+    (
+        "timeout = 60",
+        "sessions_per_address = 1",
+        "sessions_per_address = 0",
+    ),
+    (
+        "timeout = 60",
+        "sessions_per_address = 4",
+        "sessions_per_address = 5",
+    ),
+    (
+        "timeout = 60",
+        "connections_per_address = 1",
+        "connections_per_address = 0",
+    ),
+    (
+        "timeout = 60",
+        "connections_per_address = 16384",
+        "connections_per_address = 16385",
+    ),
     ("timeout = 60", "colour = \"red\"", "timeout = \"60\""),
     (
         "timeout = 60",

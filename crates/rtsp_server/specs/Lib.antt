@@ -1,1 +1,4 @@
 pub mod Watermark
+pub mod Shares
+pub mod Looks
+pub mod Places

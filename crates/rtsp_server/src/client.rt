@@ -1,5 +1,7 @@
 //! A connection of a lane.
 
+ghost use Rattle.rtsp_lock.specs.Calls.{IsSeatOf};
+
 use crate::activity::Activity;
 use crate::answering::Front;
 use crate::leaving::take_leave;
@@ -13,6 +15,7 @@ use mio::net::TcpStream;
 use rtsp_content::Table;
 use rtsp_engine::{Asker, Connection, PieceIn, PieceReader, Reading, VisitEnd, visit};
 use rtsp_lanes::BookHandle;
+use rtsp_lock::{BookLock, BookSeat};
 use rtsp_pacing::NotedPlays;
 use rtsp_sockets::{Outlet, RandomWords, prepare};
 use rtsp_state::Room;
@@ -80,7 +83,8 @@ fn visit_lent<'a, R: Wait + Net + rt::Clock>(
     shared: &'a Shared,
     table: &'a Table,
     now: u64,
-    handle: &'a mut BookHandle,
+    seat: &'a mut BookSeat,
+    lock: &'a BookLock,
     lane: &'a mut BookHandle,
     asker: Asker,
     host: Ipv4Addr,
@@ -92,13 +96,16 @@ fn visit_lent<'a, R: Wait + Net + rt::Clock>(
     room: &mut Room,
     piece: &mut [u8],
     reads_all: bool,
-) -> (VisitEnd, bool) {
+) -> (VisitEnd, bool)
+    requires { IsSeatOf seat.old lock.now }
+{
     let mut front = Front {
         rt,
         shared,
         table,
         now,
-        handle,
+        seat,
+        lock,
         lane,
         asker,
         host,
@@ -252,7 +259,8 @@ impl Client {
             service.shared,
             service.table,
             service.now,
-            handle,
+            &mut handle.seat,
+            &handle.lock,
             lane,
             *asker,
             *host,
@@ -343,6 +351,6 @@ impl Client {
         outlet.close(rt);
         shared.outlets.remove(rt, asker.conn);
         take_leave(rt, &mut handle, shared, asker.conn);
-        shared.gate.leave();
+        shared.gate.leave(rt, asker.peer);
     }
 }

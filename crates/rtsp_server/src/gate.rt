@@ -1,9 +1,12 @@
 //! How many connections there are, and how many there may be.
 
+use crate::connection_shares::ConnectionShares;
 use crate::limits::CONNECTIONS;
+use std::alloc::{AllocError, Global};
 use std::sync::atomic::{AtomicBool, AtomicU64, Ordering};
+use std::sync::{Mutex, Wait};
 
-/// Counts the connections of all lanes.
+/// Counts the connections of all lanes, and of each address where it has a share of them.
 #[derive(Drop)]
 pub(crate) struct Gate {
     // How many connections are served in all, where that is limited.
@@ -11,25 +14,56 @@ pub(crate) struct Gate {
     entered: AtomicU64,
     open: AtomicU64,
     is_shut: AtomicBool,
+    shares: Option<Mutex<ConnectionShares>>,
+}
+
+// What addresses have of the connections, where each has at most so many.
+fn shares_of(
+    alloc: Global,
+    share: Option<u16>,
+) -> Result<Option<Mutex<ConnectionShares>>, AllocError> {
+    let Some(share) = share else {
+        return Ok(None);
+    };
+    let shares = ConnectionShares::new(alloc, usize::from(share), CONNECTIONS as usize)?;
+    Ok(Some(Mutex::new(shares)))
 }
 
 impl Gate {
-    /// A gate through which so many connections go, or any number of them.
-    pub(crate) fn new(limit: Option<u64>) -> Gate {
-        Gate {
+    /// A gate through which so many connections go, or any number of them, and of each address so
+    /// many at once, or any number.
+    pub(crate) fn new(
+        alloc: Global,
+        limit: Option<u64>,
+        share: Option<u16>,
+    ) -> Result<Gate, AllocError> {
+        Ok(Gate {
             limit,
             entered: AtomicU64::new(0),
             open: AtomicU64::new(0),
             is_shut: AtomicBool::new(limit == Some(0)),
-        }
+            shares: shares_of(alloc, share)?,
+        })
     }
 
-    /// Whether a connection may be served. Each that may is taken leave of by `leave`.
-    pub(crate) fn enter(&self) -> bool {
-        if self.open.fetch_add(1, Ordering::SeqCst) >= CONNECTIONS {
-            self.leave();
+    /// Whether a connection from this address may be served. Each that may is taken leave of by
+    /// `leave`.
+    pub(crate) fn enter<R: Wait>(&self, rt: &R, peer: u32) -> bool {
+        if let Some(shares) = &self.shares
+            && !shares.lock(rt).open(peer)
+        {
             return false;
         }
+        let before = self.open.fetch_add(1, Ordering::SeqCst);
+        let may_enter = before < CONNECTIONS && self.is_within_limit();
+        if !may_enter {
+            self.leave(rt, peer);
+        }
+        may_enter
+    }
+
+    // Whether one more connection is served in all, which is counted.
+    fn is_within_limit(&self) -> bool {
         let Some(limit) = self.limit else {
             return true;
         };
@@ -37,16 +71,15 @@ impl Gate {
         if before.saturating_add(1) >= limit {
             self.shut();
         }
-        if before >= limit {
-            self.leave();
-            return false;
-        }
-        true
+        before < limit
     }
 
-    /// A connection has ended.
-    pub(crate) fn leave(&self) {
+    /// A connection from this address has ended.
+    pub(crate) fn leave<R: Wait>(&self, rt: &R, peer: u32) {
         self.open.fetch_sub(1, Ordering::SeqCst);
+        if let Some(shares) = &self.shares {
+            shares.lock(rt).close(peer);
+        }
     }
 
     /// No more connections are served.

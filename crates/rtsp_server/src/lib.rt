@@ -3,7 +3,8 @@
 //!
 //! `server` starts all of them and joins them. `socket_lane` is a lane of sockets, `client` a
 //! connection of it, `acceptor` where connections come from. `answering` and `leaving` are what is
-//! done by a thread's handle of the book. `watermark` says how far sweeps may go.
+//! done by a thread's handle of the book. `watermark` says how far sweeps may go, `connection_shares`
+//! and `session_shares` what one address may have.
 
 #![tactic(auto)]
 
@@ -11,12 +12,15 @@ mod acceptor;
 mod activity;
 mod answering;
 mod client;
+mod connection_shares;
 mod gate;
+mod lane_shares;
 mod leaving;
 mod limits;
 mod relieving;
 mod server;
 mod service;
+mod session_shares;
 mod shared;
 mod socket_lane;
 mod stop_bell;

@@ -1,7 +1,9 @@
 //! The limits of a server. Moments and times are in milliseconds.
 
+use rtsp_content::MAX_CONNECTIONS;
+
 /// The most connections that are open at once. One more is accepted and closed at once.
-pub const CONNECTIONS: u64 = 16_384;
+pub const CONNECTIONS: u64 = MAX_CONNECTIONS;
 
 /// The most connections that a lane accepts in one turn.
 pub const ACCEPTS: usize = 64;

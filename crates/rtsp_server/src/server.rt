@@ -3,17 +3,15 @@
 ghost use Rattle.std.specs.Prelude.{◌≡◌};
 ghost use Rattle.rtsp_lock.specs.Calls.{IsSeatOf};
 
-use crate::gate::Gate;
 use crate::shared::Shared;
 use crate::socket_lane::SocketLane;
 use crate::sweeper::run_sweeper;
-use crate::watermark::Watermark;
 use mio::net::TcpListener;
 use rtsp_content::Table;
 use rtsp_lanes::{BookHandle, PoolEnd, open_book, run_pool, whole_of};
 use rtsp_lock::{BookLock, BookSeat};
-use rtsp_pacing::{Bell, Bells, PacerParts, PacerPlays, pace};
-use rtsp_sockets::{Media, MediaFault, PortTable};
+use rtsp_pacing::{Bell, PacerParts, PacerPlays, pace};
+use rtsp_sockets::{Media, MediaFault};
 use std::alloc::{AllocError, Global};
 use std::fs::File;
 use std::io::ErrorKind;
@@ -21,7 +19,6 @@ use std::net::{Net, SocketAddr};
 use std::rt::Files;
 use std::sync::{Arc, Wait};
 use std::thread::Threads;
-use std::time::Instant;
 use std::{io, net, rt, thread};
 use thiserror::Error;
 
@@ -239,16 +236,8 @@ fn share<R: Net + rt::Clock>(
     connections: Option<u64>,
     pacers: usize,
 ) -> Result<Arc<Shared>, ServerFault> {
-    let numbers = table.server();
-    let shared = Shared::new(
-        alloc,
-        TcpListener::from_std(listener),
-        Gate::new(connections),
-        PortTable::open(alloc, numbers.first_port, numbers.pairs)?,
-        Bells::new(alloc, pacers, numbers.sessions)?,
-        Instant::now(rt)?,
-        Watermark::new(alloc, usize::from(numbers.workers))?,
-    );
+    let listener = TcpListener::from_std(listener);
+    let shared = Shared::open(rt, alloc, table, listener, connections, pacers)?;
     match Arc::new(alloc, shared) {
         Ok(shared) => Ok(shared),
         Err(_) => Err(ServerFault::OutOfMemory),

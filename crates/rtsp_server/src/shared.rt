@@ -1,22 +1,26 @@
 //! What the threads of a server share.
 
 use crate::gate::Gate;
+use crate::session_shares::SessionShares;
 use crate::stop_bell::StopBell;
 use crate::watermark::Watermark;
 use mio::Waker;
 use mio::net::TcpListener;
+use rtsp_content::{Server, Table};
 use rtsp_pacing::Bells;
 use rtsp_sockets::{Outlets, PortTable};
 use std::alloc::{AllocError, Global};
-use std::rt;
 use std::sync::{Mutex, Wait};
 use std::time::Instant;
+use std::{io, rt};
 
 /// What the threads of a server share beside the book.
 #[derive(Drop)]
 pub(crate) struct Shared {
     pub(crate) listener: TcpListener,
     pub(crate) gate: Gate,
+    /// What addresses have of the sessions, where each has a share of them.
+    pub(crate) session_shares: Option<Mutex<SessionShares>>,
     pub(crate) outlets: Outlets,
     pub(crate) ports: PortTable,
     /// The pacers', by which they learn of plays.
@@ -29,27 +33,46 @@ pub(crate) struct Shared {
     wakers: Mutex<Vec<Waker>>,
 }
 
+// What addresses have of the sessions, where each has at most so many. There is room for all that live
+// and for one more of each lane, and for as many that don't live any more: so it is seldom that these
+// have to be looked for.
+fn session_shares(
+    alloc: Global,
+    numbers: Server,
+) -> Result<Option<Mutex<SessionShares>>, AllocError> {
+    let Some(share) = numbers.sessions_per_address else {
+        return Ok(None);
+    };
+    let most = 2 * usize::from(numbers.sessions) + usize::from(numbers.workers);
+    let shares = SessionShares::new(alloc, usize::from(share), most)?;
+    Ok(Some(Mutex::new(shares)))
+}
+
 impl Shared {
-    pub(crate) fn new(
+    /// What the threads of a server of this configuration share, which serves so many connections of
+    /// this listener, or any number, and has so many pacers.
+    pub(crate) fn open<R: rt::Clock>(
+        rt: &R,
         alloc: Global,
+        table: &Table,
         listener: TcpListener,
-        gate: Gate,
-        ports: PortTable,
-        bells: Bells,
-        begun: Instant,
-        watermark: Watermark,
-    ) -> Shared {
-        Shared {
+        connections: Option<u64>,
+        pacers: usize,
+    ) -> io::Result<Shared> {
+        let numbers = table.server();
+        let watermark = Watermark::new(alloc, usize::from(numbers.workers))?;
+        Ok(Shared {
             listener,
-            gate,
+            gate: Gate::new(alloc, connections, numbers.connections_per_address)?,
+            session_shares: session_shares(alloc, numbers)?,
             outlets: Outlets::new(alloc),
-            ports,
-            bells,
+            ports: PortTable::open(alloc, numbers.first_port, numbers.pairs)?,
+            bells: Bells::new(alloc, pacers, numbers.sessions)?,
             stop_bell: StopBell::new(),
-            begun,
+            begun: Instant::now(rt)?,
             watermark: Mutex::new(watermark),
             wakers: Mutex::new(Vec::new(alloc)),
-        }
+        })
     }
 
     /// The present moment, in milliseconds since the beginning, or 0 where the system can't tell.

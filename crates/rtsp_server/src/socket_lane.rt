@@ -160,18 +160,19 @@ impl Clients {
         stream: TcpStream,
         peer: u32,
     ) {
-        if !service.shared.gate.enter() {
+        let gate = &service.shared.gate;
+        if !gate.enter(service.rt, peer) {
             return;
         }
-        if service.shared.gate.is_shut() {
+        if gate.is_shut() {
             service.shared.wake_lanes(service.rt);
         }
-        let Some(client) = Client::open(service, handle, stream, peer) else {
-            service.shared.gate.leave();
-            return;
+        let is_taken_in = match Client::open(service, handle, stream, peer) {
+            Some(client) => self.take_in(service, client),
+            None => false,
         };
-        if !self.take_in(service, client) {
-            service.shared.gate.leave();
+        if !is_taken_in {
+            gate.leave(service.rt, peer);
         }
     }
 

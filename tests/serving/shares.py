@@ -1,0 +1,233 @@
+"""What one address may have: its share of the sessions and of the connections, and nothing of another's."""
+import contextlib
+import socket
+import threading
+import time
+from typing import Iterator, List, Optional, Tuple
+
+from checks import Checks, Failed
+from rtsp_client.messages import Message, Reader, written
+
+from .crowds import is_closed_by_server
+from .runner import serving_test
+from .server import HERE, Presentation, Server, is_alive, lease, leases
+
+# Players' addresses: all of 127.0.0.0/8 are the loopback's.
+ONE, OTHER, THIRD = "127.0.0.2", "127.0.0.3", "127.0.0.4"
+ONE_TRACK = Presentation(tracks=Presentation().tracks[:1])
+SHARE = 4
+ROUNDS = 200
+TRANSPORTS = {
+    'RTP/AVP;unicast;dest_addr=":9"/":9"': 503,
+    'RTP/AVP;unicast;RTCP-mux;dest_addr=":9"': 503,
+    "RTP/AVP/TCP;unicast;interleaved=0-1": 503,
+    # What the request itself is refused for comes first.
+    "RTP/AVP;multicast": 461,
+    'RTP/AVP;unicast;dest_addr="127.0.0.9:9"/"127.0.0.9:9"': 463,
+}
+
+
+def socket_from(server: Server, address: str) -> socket.socket:
+    return socket.create_connection((HERE, server.port), timeout=10, source_address=(address, 0))
+
+
+class Talk:
+    """A connection from an address of the loopback."""
+
+    def __init__(self, server: Server, address: str) -> None:
+        self.socket = socket_from(server, address)
+        self.reader = Reader()
+        self.cseq = 0
+
+    def send(self, method: str, uri: str, headers: List[Tuple[str, str]]) -> None:
+        self.cseq += 1
+        self.socket.sendall(written(f"{method} {uri} RTSP/2.0", [("CSeq", str(self.cseq)), *headers]))
+
+    def answer(self) -> Message:
+        while True:
+            piece = self.socket.recv(65536)
+            if not piece:
+                raise Failed("the server closed a connection")
+            for item in self.reader.take(piece):
+                if isinstance(item, Message) and item.status is not None:
+                    return item
+
+    def ask(self, method: str, uri: str, headers: List[Tuple[str, str]] = []) -> Message:
+        self.send(method, uri, headers)
+        return self.answer()
+
+    def close(self) -> None:
+        self.socket.close()
+
+
+@contextlib.contextmanager
+def talks_from(server: Server, *addresses: str) -> Iterator[List[Talk]]:
+    talks = [Talk(server, address) for address in addresses]
+    yield talks
+    for talk in talks:
+        talk.close()
+
+
+def tear_down(talk: Talk, server: Server, session: str) -> int:
+    return talk.ask("TEARDOWN", server.uri, [("Session", session)]).status or 0
+
+
+def frees_up(talk: Talk, server: Server, within: float) -> Optional[str]:
+    """A session that an address may open within so many seconds."""
+    until = time.monotonic() + within
+    while time.monotonic() < until:
+        made = lease(talk, f"{server.uri}/a")
+        if made:
+            return made.session
+        time.sleep(0.02)
+    return None
+
+
+def settings(share: int, **others: int) -> dict:
+    """Room for all that a test opens, but for the shares."""
+    many = 40
+    return {"pairs": many, "uplink": many * ONE_TRACK.whole_rate * 2, "sessions": many, "sessions_per_address": share, **others}
+
+
+@serving_test(limit=30)
+def an_address_has_its_share_of_sessions(checks: Checks) -> None:
+    """A SETUP beyond it is 503 and leaves nothing; what the address has goes on, and the other address has its own."""
+    with Server(checks, **settings(SHARE)) as server, talks_from(server, ONE, OTHER) as (one, other):
+        track = f"{server.uri}/a"
+        held = leases(one, track, SHARE)
+        checks.same("sessions of its share", SHARE, len(held))
+        for transport, status in TRANSPORTS.items():
+            answer = one.ask("SETUP", track, [("Transport", transport)])
+            checks.same(f"beyond it, {transport}", (status, None), (answer.status, answer.header("Session")))
+        pipelined = [("Transport", 'RTP/AVP;unicast;dest_addr=":9"/":9"'), ("Pipelined-Requests", "7")]
+        checks.same("beyond it, by a startup number", 503, one.ask("SETUP", track, pipelined).status)
+        checks.same("that number names no session", 454, one.ask("OPTIONS", "*", pipelined[1:]).status)
+        more = lease(one, f"{server.uri}/b", held[0].session)
+        checks.that("a further track of a session is granted", more is not None)
+        checks.that("a track is set up anew", lease(one, track, held[1].session) is not None)
+        theirs = leases(other, track, SHARE + 1)
+        checks.same("sessions of the other address", SHARE, len(theirs))
+        ports = sorted(it.port for it in [*held, *theirs])
+        checks.that("ports are all different", len(set(ports)) == 2 * SHARE, ports)
+        for it in [*held, *theirs]:
+            checks.that("it lives", is_alive(one, server.uri, it.session))
+            checks.same("it is ended", 200, tear_down(one, server, it.session))
+        all_again = [len(leases(talk, track, SHARE + 1)) for talk in (one, other)]
+        checks.same("each has its share again", [SHARE, SHARE], all_again)
+
+
+@serving_test(limit=60)
+def a_share_is_given_back(checks: Checks) -> None:
+    """However a session ends: by TEARDOWN over and over, from another address, with its connection, or by its time."""
+    with Server(checks, **settings(SHARE, timeout=6)) as server:
+        with talks_from(server, ONE, OTHER) as (one, other):
+            track = f"{server.uri}/a"
+            held = leases(one, track, SHARE - 1)
+            fell_short = 0
+            for _ in range(ROUNDS):
+                last = lease(one, track)
+                fell_short += last is None or lease(one, track) is not None or tear_down(one, server, last.session) != 200
+            checks.same(f"rounds of {ROUNDS} in which its last session wasn't to be had, or more than that", 0, fell_short)
+            held += leases(one, track, 1)
+            checks.same("its sessions", SHARE, len(held))
+            checks.same("another address ends one", 200, tear_down(other, server, held[0].session))
+            checks.that("its place is free", lease(one, track) is not None)
+            checks.same("and that alone", None, lease(one, track))
+            checks.same("the other address hasn't lost any", SHARE, len(leases(other, track, SHARE + 1)))
+        with talks_from(server, ONE) as (one,):
+            took = time.monotonic()
+            checks.that("its sessions expire, and it may open one", frees_up(one, server, 12.0) is not None)
+            checks.that("no sooner than they may", time.monotonic() - took < 9.0)
+        with talks_from(server, THIRD) as (third,):
+            wanted = [("Transport", "RTP/AVP/TCP;unicast;interleaved=0-1")]
+            for number in range(SHARE):
+                statuses = third.ask("SETUP", f"{server.uri}/a", wanted).status
+                checks.same(f"session {number} over the connection", 200, statuses)
+            checks.same("beyond them", None, lease(third, f"{server.uri}/a"))
+        with talks_from(server, THIRD) as (third,):
+            checks.that("they end with it, and one may be opened", frees_up(third, server, 2.0) is not None)
+
+
+@serving_test(limit=40)
+def lanes_keep_a_share_together(checks: Checks) -> None:
+    """Connections of one address ask at once, over and over: never more than its share is granted, and never less."""
+    connections, each, rounds = 12, 8, 25
+    asked = [("Transport", 'RTP/AVP;unicast;dest_addr=":9"/":9"')]
+    with Server(checks, **settings(SHARE, workers=8)) as server:
+        with talks_from(server, *[ONE] * connections) as talks, talks_from(server, OTHER) as (other,):
+            theirs = lease(other, f"{server.uri}/a")
+            came = []
+            for _ in range(rounds):
+                begin = threading.Barrier(connections)
+                made: List[str] = []
+
+                def ask_all(talk: Talk) -> None:
+                    request = [("CSeq", "1"), *asked]
+                    data = written(f"SETUP {server.uri}/a RTSP/2.0", request) * each
+                    begin.wait()
+                    talk.socket.sendall(data)
+                    items: List[Message] = []
+                    while len(items) < each:
+                        items += [it for it in talk.reader.take(talk.socket.recv(65536)) if isinstance(it, Message)]
+                    made.extend((it.header("Session") or "").partition(";")[0] for it in items if it.status == 200)
+
+                threads = [threading.Thread(target=ask_all, args=(talk,)) for talk in talks]
+                for thread in threads:
+                    thread.start()
+                for thread in threads:
+                    thread.join()
+                came.append(len(made))
+                for session in made:
+                    tear_down(talks[0], server, session)
+            checks.same("sessions that were granted in each round", [SHARE] * rounds, came)
+            checks.that("another address's session lives", theirs is not None and is_alive(other, server.uri, theirs.session))
+
+
+@serving_test(limit=60)
+def addresses_without_end(checks: Checks) -> None:
+    """Many addresses open sessions that end, more than there are places to remember them in: the next one may too."""
+    many = 500
+    small = {"pairs": 8, "uplink": 8 * ONE_TRACK.whole_rate * 2, "sessions": 8, "sessions_per_address": 2, "workers": 2}
+    with Server(checks, **small) as server, talks_from(server, ONE) as (one,):
+        held = leases(one, f"{server.uri}/a", 2)
+        refused = 0
+        for number in range(many):
+            with talks_from(server, f"127.1.{number // 250}.{number % 250 + 1}") as (talk,):
+                made = leases(talk, f"{server.uri}/a", 3)
+                refused += len(made) != 2
+                for it in made:
+                    # Half of them are ended by somebody else.
+                    tear_down(talk if number % 2 else one, server, it.session)
+        checks.same(f"addresses of {many} that hadn't their share", 0, refused)
+        checks.same("the first one's sessions live", 2, sum(is_alive(one, server.uri, it.session) for it in held))
+        checks.same("and are its share still", None, lease(one, f"{server.uri}/a"))
+
+
+@serving_test(limit=30)
+def an_address_has_its_share_of_connections(checks: Checks) -> None:
+    """One beyond it is closed at once, one that is closed makes room, and another address connects as ever."""
+    with Server(checks, connections_per_address=SHARE, workers=8) as server:
+        before = server.descriptors_at_rest()
+        with talks_from(server, *[ONE] * SHARE) as talks:
+            for talk in talks:
+                checks.same("one of its share is answered", 200, talk.ask("OPTIONS", "*").status)
+            more = [socket_from(server, ONE) for _ in range(20)]
+            checks.same("beyond it each is closed at once", [True] * 20, [is_closed_by_server(it, 3.0) for it in more])
+            with talks_from(server, *[OTHER] * SHARE) as theirs:
+                statuses = [talk.ask("OPTIONS", "*").status for talk in theirs]
+                checks.same("the other address's are answered", [200] * SHARE, statuses)
+            for talk in talks:
+                checks.same("those that are there are answered", 200, talk.ask("OPTIONS", "*").status)
+            for talk in more:
+                talk.close()
+        rests = server.descriptors_fall_to(before, 5.0)
+        checks.same("the descriptors afterwards", before, rests)
+        fell_short = 0
+        for _ in range(ROUNDS):
+            with talks_from(server, *[ONE] * SHARE) as talks:
+                with contextlib.suppress(Failed, OSError):
+                    fell_short -= sum(talk.ask("OPTIONS", "*").status == 200 for talk in talks) == SHARE
+                fell_short += 1
+            # The server reads the ends of connections after they have gone.
+            server.descriptors_fall_to(before, 5.0)
+        checks.same(f"rounds of {ROUNDS} in which its share wasn't to be had", 0, fell_short)
