@@ -9,6 +9,7 @@ use rtsp_pacing::Bells;
 use rtsp_sockets::{Outlets, PortTable};
 use std::alloc::{AllocError, Global};
 use std::rt;
+use std::sync::atomic::{AtomicU64, Ordering};
 use std::sync::{Mutex, Wait};
 use std::time::Instant;
 
@@ -27,6 +28,8 @@ pub(crate) struct Shared {
     pub(crate) begun: Instant,
     watermark: Mutex<Watermark>,
     wakers: Mutex<Vec<Waker>>,
+    // The moment from which on no connection is waited for, the greatest while the server serves.
+    stop_by: AtomicU64,
 }
 
 impl Shared {
@@ -49,6 +52,7 @@ impl Shared {
             begun,
             watermark: Mutex::new(watermark),
             wakers: Mutex::new(Vec::new(alloc)),
+            stop_by: AtomicU64::new(u64::MAX),
         }
     }
 
@@ -90,6 +94,22 @@ impl Shared {
         let wakers = self.wakers.lock(rt);
         for waker in wakers.iter() {
             let _ = waker.wake();
+        }
+    }
+
+    /// Has the lanes end: no connection is let in any more, and those that are open are answered
+    /// what they have asked, and hung up, at the latest at this moment.
+    pub(crate) fn begin_stop<R: Wait>(&self, rt: &R, by: u64) {
+        self.stop_by.fetch_min(by, Ordering::SeqCst);
+        self.gate.shut();
+        self.wake_lanes(rt);
+    }
+
+    /// The moment from which on no connection is waited for, where the server is at its end.
+    pub(crate) fn stop_by(&self) -> Option<u64> {
+        match self.stop_by.load(Ordering::SeqCst) {
+            u64::MAX => None,
+            by => Some(by),
         }
     }
 
