@@ -1,3 +1,3 @@
 pub mod Finding
 pub mod Runs
-pub mod Emptying
+pub mod Emptied

@@ -1,15 +1,17 @@
 -- One session more is ended, until none lives.
-use Rattle.std.proofs.Common.{◌≡◌, ℕ, Bool, true, false, List, [], ◌∷◌, ◌++◌, cond, refl, ap, sym, ◌∙◌, subst, ⊎_elim, append-nil, append_assoc, Option, Some, None, Result, Ok, Err}
-use Rattle.std.specs.Prelude.{flat_map, is_none, length}
+use Rattle.std.proofs.Common.{◌≡◌, ℕ, Bool, true, false, List, [], ◌∷◌, ◌++◌, cond, refl, ap, sym, ◌∙◌, subst, ⊎_elim, append-nil, append_assoc, arith, Option, Some, None, Result, Ok, Err}
+use Rattle.std.specs.Prelude.{flat_map, is_none, length, nat_le, option_map}
 use Rattle.std.proofs.lemmas.Grind.{flat_map-append}
 use Rattle.std.proofs.lemmas.List.{map-append}
-use Rattle.std.specs.FinMap.{get, entries, empty, empty_of_len}
+use Rattle.std.proofs.lemmas.Bool.{leb-false}
+use Rattle.std.specs.FinMap.{get, entries, empty, empty_of_len, len-entries}
 use Rattle.rtsp_record.specs.declared.changes.Entry.{Entry}
 use Rattle.rtsp_record.specs.declared.changes.Record.{Record}
 use Rattle.rtsp_record.specs.declared.holdings.Whole.{Whole}
 use Rattle.rtsp_record.specs.Books.{Book, Session, book_of}
 use Rattle.rtsp_record.specs.Rules.{if_living}
 use Rattle.rtsp_sessions.specs.Lookups.{first_from}
+use Rattle.rtsp_sessions.specs.Searches.{first_with}
 use Rattle.rtsp_book.specs.declared.refusals.Refusal.{Refusal}
 use Rattle.rtsp_book.specs.declared.refusals.Refusal.TheVariants.{NoSession}
 use Rattle.rtsp_book.specs.declared.steps.Step.TheVariants as step
@@ -57,13 +59,20 @@ one_more actor old h s made was answers =
       noted = ap (λ (g : History). extended g actor made) was.noted ∙ ap (λ (j : List Entry). history old.whole j old.next old.rounds) joined ∙ ap (λ (l : List Record). extended old actor l) (sym all);
     }
 
+-- so it is after any answer
+pub one_act : (actor : ℕ) (old h : History) (s : ℕ) (answer : Result (List Record) Refusal) → EndsAll actor old h → Answers h.whole h.journal (step.End s) answer
+    → EndsAll actor old (noted_by actor h answer)
+one_act actor old h s (Ok made) was answers = one_more actor old h s made was answers
+one_act actor old h s (Err refusal) was answers = was
+
 -- where no session is found none lives
 no_rows : (es : List (ℕ × Session)) → first_from 0 es ≡ None → length es ≡ 0
-no_rows es none =
-    elim es as (λ es. first_from 0 es ≡ None → length es ≡ 0) [
-      | [] ↦ λ is. refl
-      | e ∷ es ↦ λ is. absurd cc
-    ] none
+no_rows [] none = refl
+no_rows (e ∷ es) none =
+    elim (nat_le 0 e.0) as (λ t. nat_le 0 e.0 ≡ t → option_map (λ (e : ℕ × Session). e.0) (cond t (Some e) (first_with (λ (e : ℕ × Session). nat_le 0 e.0) es)) ≡ None → length (e ∷ es) ≡ 0) [
+      | true ↦ λ _ is. absurd cc
+      | false ↦ λ fails _. absurd (omega (arith, leb-false 0 e.0 fails))
+    ] refl none
 
 pub nobody : (b : Book) → first_from 0 (entries b) ≡ None → b ≡ empty
-nobody b none = empty_of_len b (no_rows (entries b) none)
+nobody b none = empty_of_len b (len-entries b ∙ no_rows (entries b) none)
