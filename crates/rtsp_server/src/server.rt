@@ -8,6 +8,7 @@ ghost use Rattle.rtsp_lock.specs.Calls.{IsSeatOf};
 use crate::gate::Gate;
 use crate::leaving::end_expired;
 use crate::shared::Shared;
+use crate::signals::OwnStatus;
 use crate::socket_lane::SocketLane;
 use crate::stopping::watch_signals;
 use crate::sweeper::run_sweeper;
@@ -173,9 +174,11 @@ impl Parts {
         run_sweeper(rt, handle, &self.shared);
     }
 
-    // The body of the thread that looks for signals.
-    fn watch<R: Wait + rt::Clock + Files<File = File>>(&self, rt: &R) {
-        watch_signals(rt, &self.shared);
+    // The body of the thread that looks for signals, where the system tells of them.
+    fn watch<R: Wait + rt::Clock>(&self, rt: &R, status: Option<OwnStatus>) {
+        if let Some(status) = status {
+            watch_signals(rt, &status, &self.shared);
+        }
     }
 
     // Runs all threads, until the lanes are over.
@@ -184,7 +187,6 @@ impl Parts {
             + Wait
             + Net<Listener = net::TcpListener, Stream = net::TcpStream>
             + rt::Clock
-            + Files<File = File>
             + Sync,
     >(
         &self,
@@ -193,6 +195,7 @@ impl Parts {
         handle: BookHandle,
         lanes: Vec<SocketLane>,
         pacers: Vec<PacerPlays>,
+        status: Option<OwnStatus>,
     ) -> Result<PoolEnd, ServerFault> {
         thread::scope(thread::scope_env(), rt, move |scope| {
             let mut own = handle;
@@ -215,7 +218,7 @@ impl Parts {
             if scope.spawn(move || self.sweep(rt, theirs)).is_err() {
                 missing = missing.saturating_add(1);
             }
-            if scope.spawn(move || self.watch(rt)).is_err() {
+            if scope.spawn(move || self.watch(rt, status)).is_err() {
                 missing = missing.saturating_add(1);
             }
             let ended = if missing == 0 {
@@ -388,7 +391,8 @@ impl Server {
         let Some(last) = handle.split(rt) else {
             return Err(ServerFault::NoThread);
         };
-        let pool = parts.run(rt, alloc, handle, lanes, pacers)?;
+        let status = OwnStatus::open(rt).ok();
+        let pool = parts.run(rt, alloc, handle, lanes, pacers, status)?;
         let book = close_book(rt, &parts.shared, last);
         Ok(ServerEnd { pool, book })
     }

@@ -3,19 +3,14 @@
 use crate::limits::{SIGNALS_EVERY, STOP_LIMIT};
 use crate::shared::Shared;
 use crate::signals::{OwnStatus, StopAsked};
-use std::fs::File;
 use std::rt;
-use std::rt::Files;
 use std::sync::Wait;
 use std::time::Duration;
 
 /// Looks from time to time whether the process is asked to end, and then has the lanes hang up:
 /// within `STOP_LIMIT`, or at once where it is asked twice. Where such signals aren't held back the
-/// system ends the process by itself, and where it doesn't tell of them they do nothing.
-pub(crate) fn watch_signals<R: Wait + rt::Clock + Files<File = File>>(rt: &R, shared: &Shared) {
-    let Ok(status) = OwnStatus::open(rt) else {
-        return;
-    };
+/// system ends the process by itself.
+pub(crate) fn watch_signals<R: Wait + rt::Clock>(rt: &R, status: &OwnStatus, shared: &Shared) {
     for _ in rt.forever() {
         if shared
             .stop_bell
