@@ -102,9 +102,11 @@ class Server:
         descriptors: Optional[int] = None,
         text: Optional[str] = None,
         host: str = HERE,
+        holds_signals: bool = False,
         **server: Any,
     ) -> None:
         self.checks = checks
+        self.holds_signals = holds_signals
         self.presentation = presentation
         self.words = words
         self.descriptors_allowed = descriptors
@@ -132,12 +134,15 @@ class Server:
             if not path.exists():
                 path.write_bytes(b"".join(map(track.unit, range(self.presentation.units))))
 
+    def command(self) -> List[str]:
+        return [str(TRIED), "serve", "--config", "server.toml", "--listen", f"{self.host}:{self.port}", *self.words]
+
     def start(self) -> "subprocess.Popen[bytes]":
         (self.path / "server.toml").write_text(self.text)
-        command = [TRIED, "serve", "--config", "server.toml", "--listen", f"{self.host}:{self.port}", *self.words]
         limit = self.descriptors_allowed or "$(ulimit -Hn)"
-        given = [f"{name}={value}" for name, value in self.environment.items()]
-        shell = ["bash", "-c", f'ulimit -n {limit} && exec "$0" "$@"', "env", *given, *command]
+        held = ["--block-signal=TERM,INT"] if self.holds_signals else []
+        given = [*held, *(f"{name}={value}" for name, value in self.environment.items())]
+        shell = ["bash", "-c", f'ulimit -n {limit} && exec "$0" "$@"', "env", *given, *self.command()]
         pipes = {"stdout": subprocess.PIPE, "stderr": subprocess.PIPE, "stdin": subprocess.DEVNULL}
         return subprocess.Popen(shell, cwd=self.path, **pipes)
 

@@ -45,8 +45,8 @@ def without_threads(checks: Checks, first: int, last: int) -> Tuple[int, Tuple[b
 
 @serving_test(limit=60)
 def every_thread_refused_in_turn(checks: Checks) -> None:
-    """Without a pacer, the sweeper or all lanes the program ends; it serves where only some lane has no thread."""
-    others = max(len(os.sched_getaffinity(0)) // 2, 1) + 1
+    """Without a pacer, the sweeper, the watcher or all lanes the program ends; it serves where only some lane has no thread."""
+    others = max(len(os.sched_getaffinity(0)) // 2, 1) + 2
     why = b"rtspd: files and address are right; a thread, a descriptor or the output failed\n"
     ends, serves = (False, 4, b"rtspd: read or write failed\n" + why), (True, 0, b"")
     for number in range(1, others + LANES + 1):

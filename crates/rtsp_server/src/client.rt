@@ -319,6 +319,21 @@ impl Client {
         }
     }
 
+    /// Has answered what has come, and hangs up once it is written: the server is at its end.
+    pub(crate) fn stop<R: Wait + Net + rt::Clock>(
+        &mut self,
+        service: &Service<'_, R>,
+        tools: &mut Tools,
+        lane: &mut BookHandle,
+    ) -> Visit {
+        self.is_writable = true;
+        self.is_readable = true;
+        match self.visit(service, tools, lane) {
+            Visit::Done => self.drain(service),
+            goes_on => goes_on,
+        }
+    }
+
     /// Closes the connection where up to a moment the player took nothing of what waits for it; then
     /// the system tells of its end. Whether it has to be put into the queue: it is over, or what
     /// waits is to be offered to the system, which tells late that it takes some.

@@ -46,3 +46,10 @@ pub const SWEEP_EVERY: u64 = 1_000;
 
 /// The most sessions that a sweep ends before others get the lock.
 pub const SWEEP_SESSIONS: u32 = 64;
+
+/// The time between two looks at the signals that ask for an end.
+pub const SIGNALS_EVERY: u64 = 100;
+
+/// How long connections have, once the server stops, to take what waits for them. The lanes then
+/// hang up, so that all is over within 3 s.
+pub const STOP_LIMIT: u64 = 2_500;

@@ -1,15 +1,22 @@
 //! A server: all its threads, from their start until they are joined.
 
-ghost use Rattle.std.specs.Prelude.{◌≡◌};
+ghost use Rattle.std.specs.Prelude.{◌≡◌, IfOk, IfSome};
+ghost use Rattle.std.specs.FinMap.{empty};
+ghost use Rattle.rtsp_record.specs.Books.{book_of};
 ghost use Rattle.rtsp_lock.specs.Calls.{IsSeatOf};
 
+use crate::leaving::end_expired;
 use crate::shared::Shared;
+use crate::signals::OwnStatus;
 use crate::socket_lane::SocketLane;
+use crate::stopping::watch_signals;
 use crate::sweeper::run_sweeper;
 use mio::net::TcpListener;
+use rtsp_book::Kept;
 use rtsp_content::Table;
+use rtsp_expiry::end_all;
 use rtsp_lanes::{BookHandle, PoolEnd, open_book, run_pool, whole_of};
-use rtsp_lock::{BookLock, BookSeat};
+use rtsp_lock::{BookLock, BookSeat, LockBook};
 use rtsp_pacing::{Bell, PacerParts, PacerPlays, pace};
 use rtsp_sockets::{Media, MediaFault};
 use std::alloc::{AllocError, Global};
@@ -62,6 +69,14 @@ impl From<MediaFault> for ServerFault {
             MediaFault::OutOfMemory => ServerFault::OutOfMemory,
         }
     }
+}
+
+/// How a server has ended.
+#[derive(Drop)]
+pub struct ServerEnd {
+    pub pool: PoolEnd,
+    /// The book with its last journal, where all threads have let go of it.
+    pub book: Option<Kept<LockBook>>,
 }
 
 // What all threads of a server are lent.
@@ -156,6 +171,13 @@ impl Parts {
         run_sweeper(rt, handle, &self.shared);
     }
 
+    // The body of the thread that looks for signals, where the system tells of them.
+    fn watch<R: Wait + rt::Clock>(&self, rt: &R, status: Option<OwnStatus>) {
+        if let Some(status) = status {
+            watch_signals(rt, &status, &self.shared);
+        }
+    }
+
     // Runs all threads, until the lanes are over.
     fn run<
         R: Threads
@@ -170,6 +192,7 @@ impl Parts {
         handle: BookHandle,
         lanes: Vec<SocketLane>,
         pacers: Vec<PacerPlays>,
+        status: Option<OwnStatus>,
     ) -> Result<PoolEnd, ServerFault> {
         thread::scope(thread::scope_env(), rt, move |scope| {
             let mut own = handle;
@@ -190,6 +213,9 @@ impl Parts {
                 return Err(ServerFault::NoThread);
             };
             if scope.spawn(move || self.sweep(rt, theirs)).is_err() {
+                missing = missing.saturating_add(1);
+            }
+            if scope.spawn(move || self.watch(rt, status)).is_err() {
                 missing = missing.saturating_add(1);
             }
             let ended = if missing == 0 {
@@ -225,6 +251,23 @@ impl Parts {
             Err(ServerFault::NoThread)
         }
     }
+}
+
+// Ends the sessions that are left, once no thread serves them any more, and gives the book up.
+fn close_book<R: Wait + Net>(
+    rt: &R,
+    shared: &Shared,
+    mut handle: BookHandle,
+) -> Option<Kept<LockBook>>
+    ensures { IfSome result (λ k. book_of k.journal ≡ empty) }
+{
+    end_expired(rt, &mut handle, shared, u64::MAX);
+    let actor = handle.draw(rt)?;
+    let BookHandle { lock, mut seat } = handle;
+    let lock = Arc::into_inner(lock)?;
+    let mut kept = seat.finish(rt, lock);
+    end_all(rt, &mut kept, actor);
+    Some(kept)
 }
 
 // What the threads of a server share, where this address can be listened on.
@@ -313,22 +356,33 @@ impl Server {
         self.address
     }
 
-    /// Runs the server until it ends, and joins all threads.
+    /// Runs the server until it ends, and joins all threads: once it has served as many connections
+    /// as it was opened for, or where the process is asked to end. Then no session lives in the last
+    /// journal, so that nothing is held.
     pub fn run<
         R: Threads
             + Wait
             + Net<Listener = net::TcpListener, Stream = net::TcpStream>
             + rt::Clock
+            + Files<File = File>
             + Sync,
-    >(self, rt: &R) -> Result<PoolEnd, ServerFault> {
+    >(self, rt: &R) -> Result<ServerEnd, ServerFault>
+        ensures { IfOk result (λ end. IfSome end.book (λ k. book_of k.journal ≡ empty)) }
+    {
         let Server {
             alloc,
             parts,
-            handle,
+            mut handle,
             lanes,
             pacers,
             ..
         } = self;
-        parts.run(rt, alloc, handle, lanes, pacers)
+        let Some(last) = handle.split(rt) else {
+            return Err(ServerFault::NoThread);
+        };
+        let status = OwnStatus::open(rt).ok();
+        let pool = parts.run(rt, alloc, handle, lanes, pacers, status)?;
+        let book = close_book(rt, &parts.shared, last);
+        Ok(ServerEnd { pool, book })
     }
 }

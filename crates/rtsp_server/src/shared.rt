@@ -10,6 +10,7 @@ use rtsp_content::{Server, Table};
 use rtsp_pacing::Bells;
 use rtsp_sockets::{Outlets, PortTable};
 use std::alloc::{AllocError, Global};
+use std::sync::atomic::{AtomicU64, Ordering};
 use std::sync::{Mutex, Wait};
 use std::time::Instant;
 use std::{io, rt};
@@ -31,6 +32,8 @@ pub(crate) struct Shared {
     pub(crate) begun: Instant,
     watermark: Mutex<Watermark>,
     wakers: Mutex<Vec<Waker>>,
+    // The moment from which on no connection is waited for, the greatest while the server serves.
+    stop_by: AtomicU64,
 }
 
 // What addresses have of the sessions, where each has at most so many. There is room for all that live
@@ -72,6 +75,7 @@ impl Shared {
             begun: Instant::now(rt)?,
             watermark: Mutex::new(watermark),
             wakers: Mutex::new(Vec::new(alloc)),
+            stop_by: AtomicU64::new(u64::MAX),
         })
     }
 
@@ -113,6 +117,22 @@ impl Shared {
         let wakers = self.wakers.lock(rt);
         for waker in wakers.iter() {
             let _ = waker.wake();
+        }
+    }
+
+    /// Has the lanes end: no connection is let in any more, and those that are open are answered
+    /// what they have asked, and hung up, at the latest at this moment.
+    pub(crate) fn begin_stop<R: Wait>(&self, rt: &R, by: u64) {
+        self.stop_by.fetch_min(by, Ordering::SeqCst);
+        self.gate.shut();
+        self.wake_lanes(rt);
+    }
+
+    /// The moment from which on no connection is waited for, where the server is at its end.
+    pub(crate) fn stop_by(&self) -> Option<u64> {
+        match self.stop_by.load(Ordering::SeqCst) {
+            u64::MAX => None,
+            by => Some(by),
         }
     }
 

@@ -266,6 +266,27 @@ impl Clients {
         }
     }
 
+    // Has answered what has come, and hangs up; from the moment `by` on whatever waits.
+    fn hang_up_all<R: Wait + Net + rt::Clock>(
+        &mut self,
+        service: &Service<'_, R>,
+        handle: &mut BookHandle,
+        by: u64,
+    ) {
+        for key in 0..self.of.capacity() {
+            let Clients { of, tools, .. } = &mut *self;
+            let Some(client) = of.get_mut(key) else {
+                continue;
+            };
+            let visited = client.stop(service, tools, handle);
+            if visited == Visit::Ended || by <= service.now {
+                self.end(service.rt, service.shared, key);
+            } else if visited == Visit::More {
+                self.queue(key);
+            }
+        }
+    }
+
     // Tells that all that had come up to a moment was read.
     fn tell_read<R: Wait>(&mut self, service: &Service<'_, R>, moment: u64) {
         if moment > self.read {
@@ -316,6 +337,9 @@ impl Clients {
         self.gather();
         let is_none_new = self.accept_some(&service, handle);
         self.visit_ready(&service, handle);
+        if let Some(by) = shared.stop_by() {
+            self.hang_up_all(&service, handle, by);
+        }
         if is_all_told && is_none_new && self.ready.is_empty() {
             self.tell_read(&service, begun);
         }

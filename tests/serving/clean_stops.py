@@ -1,0 +1,183 @@
+"""A server that is asked to end, by SIGTERM or SIGINT that it holds back: what is in hand is answered, everything is hung
+up, and it ends with status 0 within 3 s, whatever players do."""
+import os
+import shutil
+import signal
+import socket
+import subprocess
+import time
+from typing import Iterator, List
+
+from checks import Checks
+from rtsp_client.connection import Refused
+from rtsp_client.messages import written
+from rtsp_client.player import Way
+
+from .plays import set_up_all
+from .runner import serving_test
+from .server import Presentation, Server, is_free
+
+LONG = Presentation(units=3000)
+OPTIONS = written("OPTIONS * RTSP/2.0", [("CSeq", "7")])
+WITHIN = 3.0
+# So many requests are sent on one connection before the server is asked to end, all of which are in its hand then.
+PIPELINED = 2_000
+
+
+def is_hung_up(talk: socket.socket) -> bool:
+    talk.settimeout(5)
+    try:
+        while talk.recv(65_536):
+            pass
+    except ConnectionResetError:
+        pass
+    except OSError:
+        return False
+    return True
+
+
+def ports_of(server: Server) -> Iterator[bool]:
+    """Whether each port that the server had can be bound."""
+    yield is_free(socket.SOCK_STREAM, server.port)
+    for port in range(server.first_port, server.first_port + 2 * server.pairs):
+        yield is_free(socket.SOCK_DGRAM, port)
+
+
+def ends_cleanly(checks: Checks, server: Server, within: float = WITHIN) -> None:
+    began = time.monotonic()
+    checks.same("the status", 0, server.ends(within + 5))
+    took = time.monotonic() - began
+    checks.that(f"it ends within {within} s", took <= within, took)
+    checks.that("its ports can be bound at once", all(ports_of(server)))
+
+
+def stops(checks: Checks, asked: signal.Signals) -> None:
+    with Server(checks, LONG, holds_signals=True) as server:
+        players = [server.player(way) for way in (Way.UDP, Way.TCP)]
+        for player in players:
+            set_up_all(player)
+            player.play(0.0)
+        idle, half, in_hand = server.socket(), server.socket(), server.socket()
+        half.sendall(OPTIONS[:10])
+        time.sleep(0.5)
+        in_hand.sendall(OPTIONS * PIPELINED)
+        server.process.send_signal(asked)
+        in_hand.settimeout(5)
+        answers = b""
+        while piece := in_hand.recv(65_536):
+            answers += piece
+        checks.same("the requests in hand that are answered", PIPELINED, answers.count(b"RTSP/2.0 200 OK"))
+        for name, talk in ("an idle connection", idle), ("half a request", half):
+            checks.that(f"{name} is hung up", is_hung_up(talk))
+        ends_cleanly(checks, server)
+        for player in players:
+            try:
+                player.teardown()
+                checks.that("a player's connection is hung up", False)
+            except (Refused, OSError):
+                pass
+
+
+@serving_test(limit=30, is_timed=True)
+def stops_at_sigterm(checks: Checks) -> None:
+    """SIGTERM beside players over UDP and TCP, an idle connection, half a request, and requests in hand."""
+    stops(checks, signal.SIGTERM)
+
+
+@serving_test(limit=30, is_timed=True)
+def stops_at_sigint(checks: Checks) -> None:
+    """The same by SIGINT."""
+    stops(checks, signal.SIGINT)
+
+
+def deaf_readers(server: Server) -> List[socket.socket]:
+    """Players that ask for much and read nothing."""
+    talks = []
+    for _ in range(8):
+        talk = socket.socket()
+        talk.setsockopt(socket.SOL_SOCKET, socket.SO_RCVBUF, 2048)
+        talk.connect((server.host, server.port))
+        talk.setblocking(False)
+        request = written(f"DESCRIBE {server.uri} RTSP/2.0", [("CSeq", "1")])
+        try:
+            while True:
+                talk.send(request * 100)
+        except BlockingIOError:
+            pass
+        talks.append(talk)
+    return talks
+
+
+@serving_test(limit=30, is_timed=True)
+def stops_beside_deaf_readers(checks: Checks) -> None:
+    """Players that read nothing, and fill what waits for them, hold nothing up for longer than 3 s."""
+    with Server(checks, holds_signals=True) as server:
+        talks = deaf_readers(server)
+        time.sleep(0.5)
+        server.process.send_signal(signal.SIGTERM)
+        ends_cleanly(checks, server)
+        for talk in talks:
+            talk.close()
+
+
+@serving_test(limit=30, is_timed=True)
+def stops_at_once(checks: Checks) -> None:
+    """Another signal of the two behind the first ends it at once, beside players that read nothing."""
+    with Server(checks, holds_signals=True) as server:
+        talks = deaf_readers(server)
+        time.sleep(0.5)
+        server.process.send_signal(signal.SIGTERM)
+        server.process.send_signal(signal.SIGINT)
+        ends_cleanly(checks, server, 1.0)
+        for talk in talks:
+            talk.close()
+
+
+@serving_test(limit=30)
+def stops_without_descriptors(checks: Checks) -> None:
+    """A server that has no descriptor left ends as well."""
+    with Server(checks, descriptors=64, holds_signals=True) as server:
+        talks = []
+        for _ in range(80):
+            talks.append(server.socket())
+        time.sleep(0.5)
+        server.process.send_signal(signal.SIGTERM)
+        checks.same("the status", 0, server.ends(WITHIN + 5))
+        for talk in talks:
+            talk.close()
+
+
+@serving_test(limit=30)
+def ends_where_signals_are_not_held(checks: Checks) -> None:
+    """Where nobody holds the signals back the system ends the server at once, as it does any program."""
+    with Server(checks) as server:
+        server.answers("before")
+        server.process.send_signal(signal.SIGTERM)
+        checks.same("the status", -signal.SIGTERM, server.ends(WITHIN))
+
+
+@serving_test(limit=30)
+def stops_as_process_1(checks: Checks) -> None:
+    """As process 1 of a namespace, where a signal that isn't handled is ignored: as in a container."""
+    tried = ["unshare", "--pid", "--fork", "--mount-proc", "true"]
+    if not shutil.which("unshare") or subprocess.run(tried, stderr=subprocess.DEVNULL).returncode:
+        checks.that("left out: no namespace of processes can be made here", True)
+        return
+    with Server(checks, holds_signals=True) as server:
+        # The one that the harness has started is done with; its configuration and ports are used again.
+        server.process.send_signal(signal.SIGTERM)
+        server.ends(WITHIN + 5)
+        command = ["unshare", "--pid", "--fork", "--kill-child", "--mount-proc", "env", "--block-signal=TERM,INT"]
+        with subprocess.Popen(
+            [*command, *server.command()], cwd=server.path, stdout=subprocess.PIPE, stdin=subprocess.DEVNULL
+        ) as outer:
+            outer.stdout.readline()
+            children = f"/proc/{outer.pid}/task/{outer.pid}/children"
+            with open(children) as file:
+                inner = int(file.read().split()[0])
+            server.answers("as process 1")
+            began = time.monotonic()
+            os.kill(inner, signal.SIGTERM)
+            checks.same("the status", 0, outer.wait(timeout=WITHIN + 5))
+            took = time.monotonic() - began
+            checks.that(f"it ends within {WITHIN} s", took <= WITHIN, took)
