@@ -8,7 +8,7 @@
 //! The definitions of `specs/` read in this order: Startup (a number that is too long), ClientPort
 //! (ports in the terms of 1.0 and of 2.0), PartText and ClientPortText (the same in the text of a
 //! Transport header), Repair (a request), Within (what is within RFC 7826), Laws, Repairing (how
-//! repaired items are answered), Understanding (items over lent parts, by the players), Goodbye.
+//! repaired items are answered), Understanding (items over lent parts, by the players).
 
 #![tactic(auto)]
 
@@ -19,7 +19,6 @@ mod names;
 mod parts;
 mod repairing;
 mod request;
-mod rtcp;
 mod startup;
 mod transport;
 mod visits;
@@ -28,4 +27,3 @@ pub use laws::{law_repaired_is_within, law_repairs_to_itself, law_rest_stays, la
 pub use lending::push_lent;
 pub use repairing::{push_repaired, serve_repaired};
 pub use request::repair;
-pub use rtcp::goodbye;
