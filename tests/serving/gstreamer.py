@@ -12,9 +12,11 @@ import time
 from typing import Any, List, NamedTuple, Sequence, Tuple
 
 from checks import Checks
+from rtsp_client.player import Way
 
+from .plays import side_by_side
 from .runner import serving_test
-from .server import TONE, Presentation, Server
+from .server import TONE, Presentation, Server, is_alive
 
 PLAYERS = '"gstreamer"'
 # So many plays over each way, and so many of them at once.
@@ -74,7 +76,8 @@ class Play(NamedTuple):
             self.process.wait()
         if self.process.returncode == 0 and self.is_whole():
             return True
-        print(f"{self.folder.name}: {how}, status {self.process.returncode}, units {self.units()}\n{self.said()}", end="")
+        print(f"{self.folder.name}: {how}, status {self.process.returncode}, units {self.units()}")
+        print(self.said(), end="")
         return False
 
 
@@ -83,8 +86,8 @@ def begun(server: Server, way: str, number: int) -> Play:
     folder.mkdir()
     words = ["gst-launch-1.0", "-q", "rtspsrc", "name=source", f"location={server.uri}"]
     words += ["default-rtsp-version=2-0", f"protocols={way}", f"latency={1000 * LATENCY:.0f}"]
-    # Each depayloader takes the pad whose payload it knows. With a filter of capabilities before it, gst-launch links and
-    # unlinks the depayloaders of other pads to try them, and pads that appear at once miss theirs.
+    # Each depayloader takes the pad whose payload it knows. With a filter of capabilities before them gst-launch tries
+    # each on each pad, and where two pads appear at once, one misses its own.
     for track in server.presentation.tracks:
         words += ["source.", "!", f"rtp{track.encoding.lower()}depay", "!", "filesink", f"location={track.name}"]
     pipes = {"stdout": (folder / "said").open("wb"), "stderr": subprocess.STDOUT, "stdin": subprocess.DEVNULL}
@@ -116,6 +119,63 @@ def gstreamer_plays_over_tcp(checks: Checks) -> None:
 @serving_test(limit=110, is_timed=True, is_by_name=True)
 def gstreamer_plays_over_udp(checks: Checks) -> None:
     plays_of(checks, "udp")
+
+
+# A timeout above the longest time between two reports of GStreamer, 7.5 s, and media for three times that.
+PATIENT, LONG = 10, Presentation(units=1_550)
+
+
+@serving_test(limit=60, is_timed=True, is_by_name=True)
+def gstreamer_plays_longer_than_the_timeout(checks: Checks) -> None:
+    """Over the connection, where it sends nothing but RTCP while it plays."""
+    if is_here("gst-launch-1.0"):
+        with Server(checks, LONG, timeout=PATIENT, players=PLAYERS) as server:
+            checks.that(f"{seconds_of(LONG)} s with a timeout of {PATIENT} s", begun(server, "tcp", 0).ends_whole())
+
+
+# A receiver report without blocks, as a frame of a channel.
+def report_on(channel: int) -> bytes:
+    return bytes((0x24, channel, 0, 8, 0x80, 201, 0, 1, 0, 0, 0, 9))
+
+
+class Reporting(NamedTuple):
+    """A session over a connection that plays, and sends nothing more but frames of a channel."""
+
+    where: str
+    players: str
+    channel: int
+    lives: bool
+
+
+REPORTING = (
+    Reporting("reports of GStreamer", PLAYERS, 1, True),
+    Reporting("frames on the channel of RTP", PLAYERS, 0, False),
+    Reporting("frames on a channel of nobody", PLAYERS, 9, False),
+    Reporting("reports of another player", '"strict"', 1, False),
+)
+# In seconds; a report comes so often.
+IMPATIENT, EVERY = 2, 0.3
+
+
+def keeps_reporting(checks: Checks, it: Reporting) -> None:
+    with Server(checks, timeout=IMPATIENT, players=it.players) as server:
+        player = server.player(Way.TCP)
+        for track in player.describe():
+            player.set_up(track)
+        player.play(0.0)
+        until = time.monotonic() + 3 * IMPATIENT
+        while time.monotonic() < until:
+            player.connection.send_bytes(report_on(it.channel))
+            player.connection.wait(EVERY)
+        talk = server.connect()
+        checks.same(f"{it.where}: the session lives", it.lives, is_alive(talk, server.uri, player.session or ""))
+        talk.close()
+
+
+@serving_test(limit=40, is_timed=True)
+def reports_are_signs_of_life(checks: Checks) -> None:
+    """Frames on the channel of RTCP keep a session of GStreamer alive; nothing else does."""
+    side_by_side(checks, *(lambda it=it: keeps_reporting(checks, it) for it in REPORTING))
 
 
 class Watched(NamedTuple):

@@ -1,6 +1,5 @@
 use rtsp_dialect::{
-    law_repaired_is_within, law_repairs_to_itself, law_rest_stays, law_says_the_same,
-    repair,
+    law_repaired_is_within, law_repairs_to_itself, law_rest_stays, law_says_the_same, repair,
 };
 use rtsp_grammar::{Item, MessageFault, Request, read_item, write_request};
 use std::alloc::{AllocError, Global};

@@ -137,13 +137,7 @@ impl Ways {
     }
 
     // Sends an RTCP packet of a track.
-    pub(crate) fn send_control<R: Wait>(
-        &self,
-        rt: &R,
-        now: u64,
-        track: u16,
-        packet: &mut Packet,
-    ) {
+    pub(crate) fn send_control<R: Wait>(&self, rt: &R, now: u64, track: u16, packet: &mut Packet) {
         if let Some(way) = self.ways.get(usize::from(track)) {
             way.send_control(rt, now, packet);
         }

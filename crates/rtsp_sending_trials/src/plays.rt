@@ -46,8 +46,8 @@ file = \"rtsp_sending_plays.raw\"
 
 // A report without blocks, the canonical name and the goodbye of the source 7.
 const GOODBYE: [u8; 32] = [
-    0x80, 201, 0, 1, 0, 0, 0, 7, 0x81, 202, 0, 3, 0, 0, 0, 7, 1, 5, b'r', b't', b's', b'p', b'd', 0,
-    0x81, 203, 0, 1, 0, 0, 0, 7,
+    0x80, 201, 0, 1, 0, 0, 0, 7, 0x81, 202, 0, 3, 0, 0, 0, 7, 1, 5, b'r', b't', b's', b'p', b'd',
+    0, 0x81, 203, 0, 1, 0, 0, 0, 7,
 ];
 
 // What came of a play: the last bytes of its packets, how many bytes the report has, and RTCP.
@@ -186,7 +186,9 @@ fn receive(player: &Player, packet: &mut [u8; 14]) -> bool {
     }
     let mut head = [0; 4];
     let mut from = &player.connection;
-    from.read_exact(&mut head).is_ok() && head == [0x24, 0, 0, 14] && from.read_exact(packet).is_ok()
+    from.read_exact(&mut head).is_ok()
+        && head == [0x24, 0, 0, 14]
+        && from.read_exact(packet).is_ok()
 }
 
 // Receives a packet of RTCP, if one comes.
@@ -314,7 +316,16 @@ fn played(rt: &HostRuntime, players: &str, is_interleaved: bool) -> Result<(Pace
         is_interleaved,
     };
     let begun = Instant::now(rt)?;
-    assert!(rt; begin(rt, &lock, &mut seat, pair, stream_to(&player)?, is_interleaved));
+    assert!(rt;
+        begin(
+            rt,
+            &lock,
+            &mut seat,
+            pair,
+            stream_to(&player)?,
+            is_interleaved
+        )
+    );
     let outlet = Arc::new(rt.alloc(), outlet)?;
     let bells = Bells::new(rt.alloc(), 1, 4)?;
     hand_over(rt, &bells, 1)?;
@@ -365,9 +376,7 @@ fn is_whole(heard: &Heard) -> bool {
     let units = [
         *b"aa", *b"bb", *b"cc", *b"dd", *b"ee", *b"ff", *b"gg", *b"hh",
     ];
-    heard.units == units
-        && heard.seqs == [250, 251, 252, 253, 254, 255, 0, 1]
-        && heard.report > 100
+    heard.units == units && heard.seqs == [250, 251, 252, 253, 254, 255, 0, 1] && heard.report > 100
 }
 
 fn is_done(paced: &Paced) -> bool {

@@ -12,6 +12,7 @@ mod activity;
 mod answering;
 mod client;
 mod gate;
+mod hearing;
 mod leaving;
 mod limits;
 mod relieving;
