@@ -1,20 +1,21 @@
 -- The goodbyes of sources, one after another.
-use Rattle.std.proofs.Common.{◌≡◌, ℕ, zero, suc, ◌+◌, ◌≤◌, List, [], ◌∷◌, length, drop, slice_get, Some, refl, sym, ap, ◌∙◌, subst, arith}
+use Rattle.std.proofs.Common.{◌≡◌, ℕ, zero, suc, ◌+◌, ◌<◌, ◌≤◌, List, [], ◌∷◌, length, drop, slice_index_or, refl, sym, ap, ◌∙◌, subst, arith}
 use Rattle.std.proofs.lemmas.List.{drop_all}
 use Rattle.rtsp_rtp.specs.declared.source.Source.{Source}
 use Rattle.rtsp_rtp.specs.Goodbyes.{goodbye_of, SaysGoodbye}
 
-drop_by : (xs : List Source) (i : ℕ) (x : Source) → slice_get xs i ≡ Some x → drop i xs ≡ x ∷ drop (suc i) xs
-drop_by [] i x e = absurd cc
-drop_by (y ∷ xs) zero x e = let p : y ≡ x = cc in ap (λ (z : Source). z ∷ xs) p
-drop_by (y ∷ xs) (suc i) x e = drop_by xs i x e
+drop_by : (xs : List Source) (i : ℕ) (x : Source) → i < length xs → drop i xs ≡ slice_index_or xs i x ∷ drop (suc i) xs
+drop_by [] i x within = absurd (omega (arith, within))
+drop_by (y ∷ xs) zero x within = refl
+drop_by (y ∷ xs) (suc i) x within = drop_by xs i x (omega (arith, within))
 
 module _ {S : Type 0} (sends : S → ℕ → List ℕ → S → Type 0) (xs : List Source) where
-  -- what is missing after one more goodbye
-  pub said_more : (i : ℕ) (x : Source) (s d u : S) → slice_get xs i ≡ Some x → sends s x.track (goodbye_of x.ssrc) d → SaysGoodbye sends (drop (i + 1) xs) d u → SaysGoodbye sends (drop i xs) s u
-  said_more i x s d u at sent rest =
+  -- what is missing before one more goodbye
+  pub said_more : (i : ℕ) (x : Source) (s d u : S) → i < length xs → sends s (slice_index_or xs i x).track (goodbye_of (slice_index_or xs i x).ssrc) d
+      → SaysGoodbye sends (drop (i + 1) xs) d u → SaysGoodbye sends (drop i xs) s u
+  said_more i x s d u within sent rest =
       let n : suc i ≡ i + 1 = omega arith in
-      let here : drop i xs ≡ x ∷ drop (i + 1) xs = drop_by xs i x at ∙ ap (λ (k : ℕ). x ∷ drop k xs) n in
+      let here : drop i xs ≡ slice_index_or xs i x ∷ drop (i + 1) xs = drop_by xs i x within ∙ ap (λ (k : ℕ). slice_index_or xs i x ∷ drop k xs) n in
       subst (λ (l : List Source). SaysGoodbye sends l s u) (sym here) (d, sent, rest)
 
   -- nothing is missing at the end
