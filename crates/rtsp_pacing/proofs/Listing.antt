@@ -1,8 +1,7 @@
 -- Whether any of a list is such, one after another.
-use Rattle.std.proofs.Common.{◌≡◌, ℕ, zero, suc, ◌+◌, ◌≤◌, Bool, true, false, List, [], ◌∷◌, length, drop, slice_get, Some, refl, sym, ap, ◌∙◌, arith}
+use Rattle.std.proofs.Common.{◌≡◌, ℕ, zero, suc, ◌+◌, Bool, true, false, List, [], ◌∷◌, drop, slice_get, Some, sym, ap, ◌∙◌, arith}
 use Rattle.std.specs.Prelude.{◌||◌}
 use Rattle.std.specs.List.{list_any}
-use Rattle.std.proofs.lemmas.List.{drop_all}
 
 module _ {X : Type 0} where
   drop_by : (xs : List X) (i : ℕ) (x : X) → slice_get xs i ≡ Some x → drop i xs ≡ x ∷ drop (suc i) xs
@@ -19,6 +18,3 @@ module _ {X : Type 0} (test : X → Bool) (xs : List X) where
 
   pub any_behind : (i : ℕ) (x : X) → slice_get xs i ≡ Some x → test x ≡ false → list_any test (drop i xs) ≡ list_any test xs → list_any test (drop (i + 1) xs) ≡ list_any test xs
   any_behind i x at t so_far = sym (ap (λ (b : Bool). b || list_any test (drop (i + 1) xs)) t) ∙ sym (ap (list_any test) (drop_at_get xs i x at)) ∙ so_far
-
-  pub any_none : (i : ℕ) → length xs ≤ i → list_any test (drop i xs) ≡ list_any test xs → false ≡ list_any test xs
-  any_none i le so_far = sym (ap (list_any test) (drop_all i xs le)) ∙ so_far

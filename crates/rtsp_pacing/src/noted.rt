@@ -73,7 +73,7 @@ impl NotedPlays {
 
     /// The session of the play that was handed over last, if one was since this was asked.
     pub fn take_last(&mut self) -> Option<u64>
-        ensures { result ≡ self.old.last }
+        ensures last { result ≡ self.old.last }
         ensures kept { self.new ≡ record self.old { last = None } }
     {
         self.last.take()

@@ -1,7 +1,6 @@
 //! RTCP that comes over a connection, which is a sign of life of the session that plays over it.
 
 ghost use Rattle.std.specs.Prelude.{◌≡◌, ◌≤◌};
-ghost use Rattle.std.specs.List.{list_any};
 ghost use Rattle.rtsp_lock.specs.Calls.{seat_view, IsSeatOf, SameSeat};
 ghost use Rattle.rtsp_state.specs.Context.{expiry};
 ghost use Rattle.rtsp_state.specs.Renewal.{later_by};

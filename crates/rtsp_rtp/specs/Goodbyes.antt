@@ -1,7 +1,6 @@
 -- RTCP that ends the streams of a play (RFC 3550 sections 6.1, 6.4.2, 6.5 and 6.6).
-use Rattle.std.specs.Prelude.{◌≡◌, ℕ, ◌+◌, List, [], ◌∷◌, ◌++◌, length, codes}
+use Rattle.std.specs.Prelude.{◌≡◌, ℕ, ◌+◌, List, [], ◌∷◌, ◌++◌, codes}
 use Rattle.std.specs.Int.{w16, w32, to_be_bytes}
-use Rattle.std.specs.List.{flat_map}
 use Rattle.rtsp_rtp.specs.declared.source.Source.{Source}
 
 -- version 2 without padding, and a count; the kind; how many words of 32 bits follow these four bytes; and what does
