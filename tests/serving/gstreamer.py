@@ -24,6 +24,8 @@ PLAYS, AT_ONCE = 20, 5
 SHORT = Presentation(units=100)
 # The jitter buffer of gst-launch here, and that of the other tools, in seconds.
 LATENCY, LATENCY_OF_TOOLS = 0.3, 2.0
+# What gst-launch says where the stream has ended.
+END = 'Got EOS from element "pipeline0".'
 # A tool is so much slower than its media and its buffer at most, in seconds.
 STARTS_AND_ENDS = 6.0
 
@@ -74,7 +76,8 @@ class Play(NamedTuple):
             how = f"it hadn't ended after {limit} s"
             self.process.kill()
             self.process.wait()
-        if self.process.returncode == 0 and self.is_whole():
+        # What it says behind that, as that its last PAUSE was broken off by its own end, is about itself.
+        if END in self.said() and self.is_whole():
             return True
         print(f"{self.folder.name}: {how}, status {self.process.returncode}, units {self.units()}")
         print(self.said(), end="")
@@ -84,7 +87,7 @@ class Play(NamedTuple):
 def begun(server: Server, way: str, number: int) -> Play:
     folder = server.path / f"{way}{number}"
     folder.mkdir()
-    words = ["gst-launch-1.0", "-q", "rtspsrc", "name=source", f"location={server.uri}"]
+    words = ["gst-launch-1.0", "rtspsrc", "name=source", f"location={server.uri}"]
     words += ["default-rtsp-version=2-0", f"protocols={way}", f"latency={1000 * LATENCY:.0f}"]
     # Each depayloader takes the pad whose payload it knows. With a filter of capabilities before them gst-launch tries
     # each on each pad, and where two pads appear at once, one misses its own.
