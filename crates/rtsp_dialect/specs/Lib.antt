@@ -6,6 +6,5 @@ pub mod Repair
 pub mod PartParameter
 pub mod Within
 pub mod Laws
-pub mod Goodbye
 pub mod Repairing
 pub mod Understanding

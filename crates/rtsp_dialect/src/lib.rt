@@ -8,7 +8,7 @@
 //! The definitions of `specs/` read in this order: Startup (a number that is too long), ClientPort
 //! (ports in the terms of 1.0 and of 2.0), PartText and ClientPortText (the same in the text of a
 //! Transport header), Repair (a request), Within (what is within RFC 7826), Laws, Repairing (how
-//! repaired items are answered), Understanding (items at a desk, by the players), Goodbye.
+//! repaired items are answered), Understanding (items at a desk, by the players).
 
 #![tactic(auto)]
 
@@ -18,7 +18,6 @@ mod names;
 mod parts;
 mod repairing;
 mod request;
-mod rtcp;
 mod startup;
 mod transport;
 mod understanding;
@@ -27,5 +26,4 @@ mod visits;
 pub use laws::{law_repaired_is_within, law_repairs_to_itself, law_rest_stays, law_says_the_same};
 pub use repairing::{push_repaired, serve_repaired};
 pub use request::repair;
-pub use rtcp::goodbye;
 pub use understanding::push_understood;

@@ -1,6 +1,5 @@
 use rtsp_dialect::{
-    goodbye, law_repaired_is_within, law_repairs_to_itself, law_rest_stays, law_says_the_same,
-    repair,
+    law_repaired_is_within, law_repairs_to_itself, law_rest_stays, law_says_the_same, repair,
 };
 use rtsp_grammar::{Item, MessageFault, Request, read_item, write_request};
 use std::alloc::{AllocError, Global};
@@ -166,15 +165,5 @@ fn each_method_and_version_stays(rt: HostRuntime) -> Result<(), Fail> {
         }
         assert!(rt; out.as_slice() == after.as_bytes());
     }
-    Ok(())
-}
-
-#[test]
-fn a_goodbye_is_a_report_and_a_bye(rt: HostRuntime) -> Result<(), Fail> {
-    let sent = [
-        0x80, 0xc9, 0x00, 0x01, 0xde, 0xad, 0xbe, 0xef, 0x81, 0xcb, 0x00, 0x01, 0xde, 0xad, 0xbe,
-        0xef,
-    ];
-    assert!(rt; goodbye(0xdead_beef) == sent);
     Ok(())
 }

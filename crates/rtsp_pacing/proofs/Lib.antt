@@ -1,3 +1,4 @@
 pub mod Turning
 pub mod Chains
 pub mod Measure
+pub mod Listing

@@ -5,3 +5,4 @@ pub mod Plays
 pub mod Inbox
 pub mod Linking
 pub mod Catching
+pub mod Reports

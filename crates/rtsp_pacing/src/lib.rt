@@ -3,7 +3,7 @@
 //! A lane notes each play that is begun, in `noted`, and hands it over to the pacer that has the
 //! session, by its `bell`. A pacer is a thread that runs `pace`: it sleeps until the next moment of
 //! its `wheel` at which one of its `plays` has something due, and takes the turn of each play there
-//! (`play`). The packets go the `ways` of their streams.
+//! (`play`). The packets, and the RTCP that ends a play of GStreamer, go the `ways` of their streams.
 
 #![tactic(auto)]
 
@@ -15,6 +15,7 @@ mod noting;
 mod pacing;
 mod play;
 mod plays;
+mod reports;
 mod sink;
 mod ways;
 mod wheel;
@@ -25,4 +26,5 @@ pub use desk::{Paced, PacerParts};
 pub use noted::NotedPlays;
 pub use pacing::{SLOTS_AT_ONCE, pace};
 pub use plays::PacerPlays;
+pub use reports::{Report, hear, report_step};
 pub use wheel::SLOTS;

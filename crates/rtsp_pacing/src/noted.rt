@@ -29,6 +29,8 @@ pub struct NotedPlays {
     // The one that is not yet settled. There is room for it among those that were begun.
     pub(crate) noted: Option<NotedPlay>,
     pub(crate) begun: Vec<NotedPlay>,
+    // The session of the play that was handed over last, until it is asked for.
+    last: Option<u64>,
     ghost room: { IsSome noted → vec_len begun < vec_capacity begun },
 }
 
@@ -41,6 +43,7 @@ impl NotedPlays {
         NotedPlays {
             noted: None,
             begun: Vec::new(alloc),
+            last: None,
         }
     }
 
@@ -61,9 +64,18 @@ impl NotedPlays {
         // The play that was begun first is handed over first.
         self.begun.reverse();
         while let Some(noted) = self.begun.pop() {
+            self.last = Some(noted.session);
             if let Some(bell) = bells.of(noted.session) {
                 bell.ring(rt, NewPlay { noted, conn });
             }
         }
+    }
+
+    /// The session of the play that was handed over last, if one was since this was asked.
+    pub fn take_last(&mut self) -> Option<u64>
+        ensures last { result ≡ self.old.last }
+        ensures kept { self.new ≡ record self.old { last = None } }
+    {
+        self.last.take()
     }
 }

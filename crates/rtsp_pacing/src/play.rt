@@ -4,11 +4,11 @@ ghost use Rattle.std.specs.Prelude.{◌<◌};
 
 use crate::desk::PacerDesk;
 use crate::noted::NewPlay;
-use crate::sink::PacketSink;
+use crate::sink::{PacketSink, WaysOfControl};
 use crate::ways::Ways;
 use crate::when::{measured, next_unit};
 use rtsp_book::{Refusal, SessionView};
-use rtsp_content::Presentation;
+use rtsp_content::{Players, Presentation};
 use rtsp_grammar::write_request;
 use rtsp_record::Phase;
 use rtsp_rtp::{Pacer, Turn};
@@ -21,20 +21,27 @@ use std::sync::Wait;
 // After how many milliseconds the report of a play is tried again for which there was no memory.
 const REPORT_AGAIN: u64 = 1_000;
 
+// How many milliseconds after its report a play says goodbye. Over UDP RTCP may overtake the last
+// packets, or be read before them, and then GStreamer drops these.
+const GOODBYE_AFTER: u64 = 250;
+
 // How far a play is.
-#[derive(Drop)]
+#[derive(Clone, Copy, PartialEq, Eq)]
 enum Stage {
-    Sending(Pacer),
+    Sending,
     // It is finished, and not yet reported.
     Finished,
+    // It is reported, and hasn't said goodbye.
+    Reported,
 }
 
-// A play that a pacer sends: who asked for it, where its packets go, and how far it is.
+// A play that a pacer sends: who asked for it, what is sent, where it goes, and how far it is.
 #[derive(Drop)]
 pub(crate) struct PacedPlay {
     asked: NewPlay,
     // The place of its presentation.
     presentation: u16,
+    pacer: Pacer,
     ways: Ways,
     stage: Stage,
     // The moments of its last turn and of its next one. A wheel that is late comes to it sooner.
@@ -90,8 +97,9 @@ impl PacedPlay {
         let play = PacedPlay {
             asked,
             presentation,
+            pacer,
             ways: Ways::of(desk.rt, &desk.parts, view),
-            stage: Stage::Sending(pacer),
+            stage: Stage::Sending,
             last: due,
             next: due,
         };
@@ -106,10 +114,7 @@ impl PacedPlay {
     // Whether it is the play that the view shows. Then another PLAY has asked for it too, and it is
     // that one which is told of the end.
     pub(crate) fn is_of(&self, view: &SessionView) -> bool {
-        match &self.stage {
-            Stage::Sending(pacer) => pacer.is_of(view.session(), view.phase()),
-            Stage::Finished => false,
-        }
+        self.stage == Stage::Sending && self.pacer.is_of(view.session(), view.phase())
     }
 
     pub(crate) fn ask_again(&mut self, asked: NewPlay) {
@@ -134,7 +139,7 @@ impl PacedPlay {
         next
     }
 
-    // Sends what is due, with measure, and ends the play behind its last packet.
+    // Does what is next: sends, or reports the play, or says goodbye.
     fn turn_at<R: Wait>(
         &mut self,
         alloc: Global,
@@ -148,38 +153,48 @@ impl PacedPlay {
         let Some(presentation) = table.presentation(self.presentation) else {
             return Next::Never;
         };
+        match self.stage {
+            Stage::Sending => self.send_on(alloc, desk, presentation, phase, moment),
+            Stage::Finished => self.report(alloc, desk, presentation, moment),
+            Stage::Reported => {
+                self.say_goodbye(desk, phase, moment);
+                Next::Never
+            }
+        }
+    }
+
+    // Sends what is due, with measure, and ends the play behind its last packet.
+    fn send_on<R: Wait>(
+        &mut self,
+        alloc: Global,
+        desk: &mut PacerDesk<'_, R>,
+        presentation: &Presentation,
+        phase: Phase,
+        moment: u64,
+    ) -> Next {
         let unit_ms = presentation.unit_ms().ms();
         match self.send(desk, phase, unit_ms, moment) {
-            Some((Turn::More, Some(due))) => Next::At(next_unit(due, unit_ms, moment)),
-            Some((Turn::SinkFailed, Some(due))) if !is_past(phase, unit_ms, moment) => {
+            (Turn::More, Some(due)) => Next::At(next_unit(due, unit_ms, moment)),
+            (Turn::SinkFailed, Some(due)) if !is_past(phase, unit_ms, moment) => {
                 Next::At(next_unit(due, unit_ms, moment))
             }
-            Some((Turn::AtEnd | Turn::SinkFailed, _)) => self.finish(
-                alloc,
-                desk,
-                presentation,
-                moment,
-            ),
-            Some((Turn::OtherPlay, _) | (Turn::More, None)) => Next::Never,
-            None => self.report(alloc, desk, presentation, moment),
+            (Turn::AtEnd | Turn::SinkFailed, _) => self.finish(alloc, desk, presentation, moment),
+            (Turn::OtherPlay, _) | (Turn::More, None) => Next::Never,
         }
     }
 
     // Sends with measure what is due while the session is in this phase: what came of it, and when
-    // the next packet is due. `None` where the play is finished.
+    // the next packet is due.
     fn send<R: Wait>(
         &mut self,
         desk: &mut PacerDesk<'_, R>,
         phase: Phase,
         unit_ms: u32,
         moment: u64,
-    ) -> Option<(Turn, Option<u64>)>
+    ) -> (Turn, Option<u64>)
         requires { 0 < unit_ms }
     {
         let session = self.session();
-        let Stage::Sending(pacer) = &mut self.stage else {
-            return None;
-        };
         let mut sink = PacketSink {
             rt: desk.rt,
             media: desk.parts.media,
@@ -190,15 +205,17 @@ impl PacedPlay {
             lost: 0,
             failed: 0,
         };
-        let until = match pacer.next_due() {
+        let until = match self.pacer.next_due() {
             Some(due) => measured(due, unit_ms, moment.saturating_sub(self.last), moment),
             None => moment,
         };
-        let turn = pacer.turn(session, phase, until, &mut desk.packet, &mut sink);
+        let turn = self
+            .pacer
+            .turn(session, phase, until, &mut desk.packet, &mut sink);
         let (packets, lost, failed) = (sink.packets, sink.lost, sink.failed);
         self.last = moment;
         desk.paced.count(packets, lost, failed);
-        Some((turn, pacer.next_due()))
+        (turn, self.pacer.next_due())
     }
 
     // Ends the play. Where that is refused, as for want of room in the journal, it is tried again
@@ -221,7 +238,8 @@ impl PacedPlay {
         }
     }
 
-    // Tells the connection that asked for the play of its end, unless the session has gone on.
+    // Tells the connection that asked for the play of its end, unless the session has gone on. The
+    // streams of GStreamer say goodbye a moment later: it waits for that.
     fn report<R: Wait>(
         &mut self,
         alloc: Global,
@@ -235,7 +253,11 @@ impl PacedPlay {
         match self.put_report(alloc, desk, &view, presentation, moment) {
             Ok(()) => {
                 desk.paced.reported = desk.paced.reported.saturating_add(1);
-                Next::Never
+                self.stage = Stage::Reported;
+                match desk.parts.table.server().players {
+                    Players::Strict => Next::Never,
+                    Players::Gstreamer => Next::At(moment.saturating_add(GOODBYE_AFTER)),
+                }
             }
             Err(AllocError) => Next::At(moment.saturating_add(REPORT_AGAIN)),
         }
@@ -263,5 +285,17 @@ impl PacedPlay {
         write_request(&mut text, &request)?;
         outlet.put(desk.rt, moment, Message::Response, text.as_slice());
         Ok(())
+    }
+
+    // Says goodbye for the streams of the play, unless the session has gone on.
+    fn say_goodbye<R: Wait>(&self, desk: &mut PacerDesk<'_, R>, phase: Phase, moment: u64) {
+        if let Phase::Ended { .. } = phase {
+            let mut sink = WaysOfControl {
+                rt: desk.rt,
+                ways: &self.ways,
+                now: moment,
+            };
+            self.pacer.say_goodbye(&mut desk.packet, &mut sink);
+        }
     }
 }

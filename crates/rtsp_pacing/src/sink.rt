@@ -1,7 +1,7 @@
-//! Where the packets of a turn get their media, and where they go.
+//! Where the packets of a turn get their media, and where they and RTCP go.
 
 use crate::ways::Ways;
-use rtsp_rtp::{Packet, Sink, SinkFault};
+use rtsp_rtp::{ControlSink, Packet, Sink, SinkFault};
 use rtsp_sockets::Media;
 use std::sync::Wait;
 
@@ -43,5 +43,23 @@ impl<R: Wait> Sink for PacketSink<'_, '_, R> {
             self.lost = self.lost.saturating_add(1);
         }
         Ok(())
+    }
+}
+
+// Where the RTCP of a play goes.
+#[derive(Drop)]
+pub(crate) struct WaysOfControl<'a, 'w, R> {
+    pub(crate) rt: &'a R,
+    pub(crate) ways: &'w Ways,
+    pub(crate) now: u64,
+}
+
+impl<R: Wait> ControlSink for WaysOfControl<'_, '_, R> {
+    ghost use Rattle.std.specs.Prelude.{⊤};
+
+    ghost sends = { λ s track packet u. ⊤ };
+
+    fn send_control(&mut self, track: u16, packet: &mut Packet) {
+        self.ways.send_control(self.rt, self.now, track, packet);
     }
 }

@@ -16,8 +16,8 @@ const TRACKS: usize = 8;
 pub(crate) enum Way {
     // They are lost: there is no stream, or its address is given up.
     Nowhere,
-    // As datagrams from a socket that is connected to the player's.
-    Datagrams(Arc<PortSockets>),
+    // As datagrams from a socket that is connected to the player's, and RTCP to this address of it.
+    Datagrams(Arc<PortSockets>, SocketAddrV4),
     // As frames of a channel of a connection.
     Frames(Arc<Outlet>, u8),
 }
@@ -31,7 +31,10 @@ pub(crate) struct Ways {
 // The way of datagrams to a stream's player, where its address is still bound.
 fn datagrams(sockets: Option<Arc<PortSockets>>, stream: &Stream) -> Way {
     match sockets {
-        Some(sockets) if connect(&sockets, stream) => Way::Datagrams(sockets),
+        Some(sockets) if connect(&sockets, stream) => {
+            let player = SocketAddrV4::new(Ipv4Addr::from_bits(stream.peer), stream.rtcp_port);
+            Way::Datagrams(sockets, player)
+        }
         _ => Way::Nowhere,
     }
 }
@@ -67,7 +70,7 @@ impl Way {
     fn send<R: Wait>(&self, rt: &R, now: u64, packet: &mut Packet) -> bool {
         match self {
             Way::Nowhere => false,
-            Way::Datagrams(sockets) => {
+            Way::Datagrams(sockets, _) => {
                 let datagram = packet.datagram();
                 sockets.rtp.send(datagram).is_ok() || sockets.rtp.send(datagram).is_ok()
             }
@@ -77,6 +80,22 @@ impl Way {
                     outlet.put(rt, now, Message::Frame, frame),
                     Put::Sent | Put::Kept
                 )
+            }
+        }
+    }
+
+    // Sends an RTCP packet: from a pair's second port, or the one port that RTP has too, or on the
+    // second channel of a pair, which is odd. One that can't be sent is lost.
+    fn send_control<R: Wait>(&self, rt: &R, now: u64, packet: &mut Packet) {
+        match self {
+            Way::Nowhere => {}
+            Way::Datagrams(sockets, player) => {
+                let socket = sockets.rtcp.as_ref().unwrap_or(&sockets.rtp);
+                let _ = socket.send_to(packet.datagram(), *player);
+            }
+            Way::Frames(outlet, channel) => {
+                let frame = packet.frame(*channel | 1);
+                outlet.put(rt, now, Message::Frame, frame);
             }
         }
     }
@@ -114,6 +133,13 @@ impl Ways {
         match self.ways.get(usize::from(track)) {
             Some(way) => way.send(rt, now, packet),
             None => false,
+        }
+    }
+
+    // Sends an RTCP packet of a track.
+    pub(crate) fn send_control<R: Wait>(&self, rt: &R, now: u64, track: u16, packet: &mut Packet) {
+        if let Some(way) = self.ways.get(usize::from(track)) {
+            way.send_control(rt, now, packet);
         }
     }
 }

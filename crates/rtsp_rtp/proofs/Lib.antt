@@ -4,3 +4,4 @@ pub mod Scheduling
 pub mod Turning
 pub mod Dues
 pub mod Progressing
+pub mod Leaving

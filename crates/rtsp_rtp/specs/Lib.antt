@@ -6,3 +6,4 @@ pub mod Turns
 pub mod Progress
 pub mod PacerView
 pub mod Moments
+pub mod Goodbyes

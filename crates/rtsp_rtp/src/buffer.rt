@@ -13,9 +13,9 @@ use std::marker::Model;
 
 const DOLLAR: u8 = 0x24;
 
-/// An RTP packet (RFC 3550 section 5.1) with a payload of at most 1,400 bytes, in a buffer of fixed
-/// size. Before it is room for the head of an interleaved frame, so it is sent either way from
-/// where it stands. Its value is the bytes of the datagram.
+/// An RTP packet (RFC 3550 section 5.1) with a payload of at most 1,400 bytes, or an RTCP packet, in
+/// a buffer of fixed size. Before it is room for the head of an interleaved frame, so it is sent
+/// either way from where it stands. Its value is the bytes of the datagram.
 #[derive(Drop)]
 pub struct Packet {
     buffer: [u8; 1416],
@@ -72,6 +72,15 @@ impl Packet {
         source.put_header(sent, &mut self.buffer);
         self.buffer[16..16 + payload.len()].copy_from_slice(payload);
         self.len = 12 + payload.len();
+    }
+
+    // Puts a whole packet in place of what is there.
+    pub(crate) fn put_whole(&mut self, packet: &[u8])
+        requires { length packet.now ≤ max_octets }
+        ensures { self.new ≡ packet.now }
+    {
+        self.buffer[4..4 + packet.len()].copy_from_slice(packet);
+        self.len = packet.len();
     }
 
     // Puts the packet after so many of a source in place of what is there, with the octets of a

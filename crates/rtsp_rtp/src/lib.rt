@@ -1,4 +1,5 @@
-//! RTP packets, and the pace at which those of a play are sent. It takes no memory and never waits.
+//! RTP packets, the pace at which those of a play are sent, and the RTCP that ends it. It takes no
+//! memory and never waits.
 //!
 //! A packet stands in a buffer of fixed size with room before it for the head of an interleaved
 //! frame, so that datagram and frame are slices of one buffer. A `Pacer` is one play of one
@@ -6,11 +7,12 @@
 //!
 //! The definitions of `specs/` read in this order: Packets (the bytes of a packet), Buffers, Sinks
 //! (where packets go), Pacing (what is sent of a play, in which order), Turns (what a turn does),
-//! Moments (when the next packet is due).
+//! Moments (when the next packet is due), Goodbyes (RTCP that ends the streams of a play).
 
 #![tactic(auto)]
 
 mod buffer;
+mod goodbye;
 mod pacer;
 mod play;
 mod sink;
@@ -20,6 +22,7 @@ mod turn;
 mod unit;
 
 pub use buffer::Packet;
+pub use goodbye::ControlSink;
 pub use pacer::Pacer;
 pub use sink::{Sink, SinkFault};
 pub use source::Source;

@@ -4,8 +4,10 @@ ghost use Rattle.std.specs.Prelude.{◌≡◌, ◌↔◌, IsTrue, IfSome, IfNone
 ghost use Rattle.rtsp_rtp.specs.Pacing.{IsOfPlay, packets_in, started};
 ghost use Rattle.rtsp_rtp.specs.Turns.{Turned, CountsFault};
 ghost use Rattle.rtsp_rtp.specs.Moments.{IsNextDue, IsNeverDue};
+ghost use Rattle.rtsp_rtp.specs.Goodbyes.{SaysGoodbye};
 
 use crate::buffer::Packet;
+use crate::goodbye::{ControlSink, say_goodbye};
 use crate::play::{Play, Progress};
 use crate::sink::{Sink, SinkFault};
 use crate::sources::Sources;
@@ -124,5 +126,13 @@ impl Pacer {
         }
         let Play { since, unit_ms, .. } = &self.play;
         since.checked_add(u64::from(self.next.unit) * u64::from(*unit_ms))
+    }
+
+    /// Says goodbye for each stream of the play, in the order of the presentation's tracks.
+    /// `packet` is room to make packets in.
+    pub fn say_goodbye<S: ControlSink>(&self, packet: &mut Packet, sink: &mut S)
+        ensures { SaysGoodbye S.sends self.now.sources sink.old sink.new }
+    {
+        say_goodbye(self.play.sources.as_slice(), packet, sink);
     }
 }

@@ -6,7 +6,7 @@ ghost use Rattle.rtsp_lock.specs.Calls.{IsSeatOf, SameSeat};
 
 use crate::pairs_and_files::free_port;
 use crate::sockets::connection;
-use rtsp_book::{Commit, Life, Play, Step};
+use rtsp_book::{ChannelHold, Commit, Life, Play, Step};
 use rtsp_content::Table;
 use rtsp_engine::{Binder, Plays};
 use rtsp_lock::{BookLock, BookSeat, open};
@@ -23,8 +23,8 @@ use std::thread::Threads;
 use std::time::{Duration, Instant};
 use std::{fs, io, thread};
 
+// What follows the line of the players in a configuration.
 const TONE: &str = "\
-[server]
 first_port = 5000
 pairs = 1
 uplink = 160000
@@ -44,12 +44,29 @@ ticks = 160
 file = \"rtsp_sending_plays.raw\"
 ";
 
-// What came of a play: the last bytes of its packets, and how many bytes the report has.
+// A report without blocks, the canonical name and the goodbye of the source 7.
+const GOODBYE: [u8; 32] = [
+    0x80, 201, 0, 1, 0, 0, 0, 7, 0x81, 202, 0, 3, 0, 0, 0, 7, 1, 5, b'r', b't', b's', b'p', b'd',
+    0, 0x81, 203, 0, 1, 0, 0, 0, 7,
+];
+
+// What came of a play: the last bytes of its packets, how many bytes the report has, and RTCP.
 #[derive(Clone, Copy)]
 struct Heard {
     units: [[u8; 2]; 8],
     seqs: [u8; 8],
     report: usize,
+    control: Option<[u8; 32]>,
+}
+
+// Where a player receives.
+#[derive(Drop)]
+struct Player {
+    rtp: UdpSocket,
+    rtcp: UdpSocket,
+    connection: TcpStream,
+    // Whether its packets are to come over the connection.
+    is_interleaved: bool,
 }
 
 // Does a step of the session 2.
@@ -61,8 +78,61 @@ fn act<R: Wait>(rt: &R, lock: &BookLock, seat: &mut BookSeat, step: &Step) -> bo
     seat.act(rt, lock, step).is_ok()
 }
 
-// Sets the track up over a pair of ports, and begins its play at moment 0.
-fn begin<R: Wait>(rt: &R, lock: &BookLock, seat: &mut BookSeat, pair: u16, player: u16) -> bool
+// The stream of a player's ports.
+fn stream_to(player: &Player) -> io::Result<Stream> {
+    Ok(Stream {
+        presentation: 0,
+        track: 0,
+        ssrc: 7,
+        seq: 250,
+        rtptime: 0,
+        peer: 0x7f00_0001,
+        rtp_port: player.rtp.local_addr()?.port(),
+        rtcp_port: player.rtcp.local_addr()?.port(),
+    })
+}
+
+// Holds a pair of ports for the track, or the first channels of the connection 1.
+fn hold_address<R: Wait>(
+    rt: &R,
+    lock: &BookLock,
+    seat: &mut BookSeat,
+    pair: u16,
+    is_interleaved: bool,
+) -> bool
+    requires { IsSeatOf seat.old lock.now }
+    ensures { SameSeat seat.old seat.new }
+{
+    if is_interleaved {
+        let hold = ChannelHold {
+            session: 2,
+            admission: 3,
+            conn: 1,
+            wish: None,
+        };
+        return act(rt, lock, seat, &Step::HoldChan(hold));
+    }
+    act(
+        rt,
+        lock,
+        seat,
+        &Step::HoldPair {
+            session: 2,
+            admission: 3,
+            from: u32::from(pair),
+        },
+    )
+}
+
+// Sets the track up, and begins its play at moment 0.
+fn begin<R: Wait>(
+    rt: &R,
+    lock: &BookLock,
+    seat: &mut BookSeat,
+    pair: u16,
+    stream: Stream,
+    is_interleaved: bool,
+) -> bool
     requires { IsSeatOf seat.old lock.now }
     ensures { SameSeat seat.old seat.new }
 {
@@ -71,16 +141,6 @@ fn begin<R: Wait>(rt: &R, lock: &BookLock, seat: &mut BookSeat, pair: u16, playe
         id: Id::new(2),
         conn: 1,
         expires: 60_000,
-    };
-    let stream = Stream {
-        presentation: 0,
-        track: 0,
-        ssrc: 7,
-        seq: 250,
-        rtptime: 0,
-        peer: 0x7f00_0001,
-        rtp_port: player,
-        rtcp_port: player.saturating_add(1),
     };
     act(rt, lock, seat, &Step::Open(life))
         && act(
@@ -93,16 +153,7 @@ fn begin<R: Wait>(rt: &R, lock: &BookLock, seat: &mut BookSeat, pair: u16, playe
                 bits: 16_800,
             },
         )
-        && act(
-            rt,
-            lock,
-            seat,
-            &Step::HoldPair {
-                session: 2,
-                admission: 3,
-                from: u32::from(pair),
-            },
-        )
+        && hold_address(rt, lock, seat, pair, is_interleaved)
         && act(
             rt,
             lock,
@@ -128,22 +179,57 @@ fn begin<R: Wait>(rt: &R, lock: &BookLock, seat: &mut BookSeat, pair: u16, playe
         )
 }
 
-// Receives the packets and the report, and ends the pacer.
-fn hear<R: Wait>(rt: &R, bells: &Bells, media: &UdpSocket, player: &TcpStream) -> Heard {
+// Receives a packet of the track, which has 14 bytes. Whether there was one.
+fn receive(player: &Player, packet: &mut [u8; 14]) -> bool {
+    if !player.is_interleaved {
+        return matches!(player.rtp.recv(packet), Ok(14));
+    }
+    let mut head = [0; 4];
+    let mut from = &player.connection;
+    from.read_exact(&mut head).is_ok()
+        && head == [0x24, 0, 0, 14]
+        && from.read_exact(packet).is_ok()
+}
+
+// Receives a packet of RTCP, if one comes.
+fn receive_control(player: &Player) -> Option<[u8; 32]> {
+    let mut packet = [0; 32];
+    if !player.is_interleaved {
+        return match player.rtcp.recv(&mut packet) {
+            Ok(32) => Some(packet),
+            Ok(_) | Err(_) => None,
+        };
+    }
+    let mut head = [0; 4];
+    let mut from = &player.connection;
+    from.read_exact(&mut head).ok()?;
+    from.read_exact(&mut packet).ok()?;
+    if head == [0x24, 1, 0, 32] {
+        Some(packet)
+    } else {
+        None
+    }
+}
+
+// Receives the packets, the report and RTCP, and ends the pacer.
+fn hear<R: Wait>(rt: &R, bells: &Bells, player: &Player) -> Heard {
     let mut heard = Heard {
         units: [[0; 2]; 8],
         seqs: [0; 8],
         report: 0,
+        control: None,
     };
-    let mut packet = [0; 100];
+    let mut packet = [0; 14];
     for place in 0..8usize {
-        if let Ok(14) = media.recv(&mut packet) {
+        if receive(player, &mut packet) {
             heard.units[place] = [packet[12], packet[13]];
             heard.seqs[place] = packet[3];
         }
     }
-    let mut from = player;
-    heard.report = from.read(&mut packet).unwrap_or(0);
+    let mut from = &player.connection;
+    let mut report = [0; 1_000];
+    heard.report = from.read(&mut report).unwrap_or(0);
+    heard.control = receive_control(player);
     bells.stop(rt);
     heard
 }
@@ -155,8 +241,7 @@ fn run<'a, R: Threads + Wait + Clock + AllocGlobal + Sync>(
     seat: BookSeat,
     plays: PacerPlays,
     bells: &Bells,
-    media: &UdpSocket,
-    player: &TcpStream,
+    player: &Player,
 ) -> (Paced, Heard)
     requires { IsSeatOf seat parts.lock.now }
 {
@@ -165,7 +250,7 @@ fn run<'a, R: Threads + Wait + Clock + AllocGlobal + Sync>(
         move || -> Paced
             requires { IsSeatOf seat parts.lock.now }
         { pace(rt, rt.alloc(), parts, seat, plays) },
-        || hear(rt, bells, media, player),
+        || hear(rt, bells, player),
     )
 }
 
@@ -178,11 +263,20 @@ fn files_of(rt: &HostRuntime, table: &Table) -> Result<Media, Fail> {
     Ok(files)
 }
 
-// A player's socket.
-fn receiver(rt: &HostRuntime) -> io::Result<UdpSocket> {
+// A player's socket, of which nothing is heard after so many seconds.
+fn receiver(rt: &HostRuntime, seconds: u64) -> io::Result<UdpSocket> {
     let socket = UdpSocket::bind(rt, "127.0.0.1:0")?;
-    socket.set_read_timeout(Some(Duration::from_secs(5)))?;
+    socket.set_read_timeout(Some(Duration::from_secs(seconds)))?;
     Ok(socket)
+}
+
+// A configuration whose players are named by this line.
+fn table_of(rt: &HostRuntime, players: &str) -> Result<Table, Fail> {
+    let mut text = Vec::new(rt.alloc());
+    text.extend_from_slice(b"[server]\n")?;
+    text.extend_from_slice(players.as_bytes())?;
+    text.extend_from_slice(TONE.as_bytes())?;
+    Ok(Table::read(rt.alloc(), text.as_slice())?)
 }
 
 // Hands the play of the session over to the pacers.
@@ -194,11 +288,11 @@ fn hand_over<R: Wait + AllocGlobal>(rt: &R, bells: &Bells, conn: u64) -> Result<
     Ok(())
 }
 
-#[test]
-fn a_play_is_sent_and_reported(rt: HostRuntime) -> Result<(), Fail> {
-    let table = Table::read(rt.alloc(), TONE.as_bytes())?;
-    let files = files_of(&rt, &table)?;
-    let pair = free_port(&rt)?;
+// Plays the track to a player of these players, and gives what came of it.
+fn played(rt: &HostRuntime, players: &str, is_interleaved: bool) -> Result<(Paced, Heard), Fail> {
+    let table = table_of(rt, players)?;
+    let files = files_of(rt, &table)?;
+    let pair = free_port(rt)?;
     let whole = Whole {
         first_port: pair,
         pairs: 1,
@@ -209,20 +303,34 @@ fn a_play_is_sent_and_reported(rt: HostRuntime) -> Result<(), Fail> {
     let (lock, mut seat) = open(rt.alloc(), &whole)?;
     let ports = PortTable::open(rt.alloc(), pair, 1)?;
     assert!(rt;
-        PortBinder::new(&rt, &ports, Ipv4Addr::LOCALHOST)
+        PortBinder::new(rt, &ports, Ipv4Addr::LOCALHOST)
             .bind(3, pair)
             .is_ok()
     );
-    let media = receiver(&rt)?;
-    let begun = Instant::now(&rt)?;
-    assert!(rt; begin(&rt, &lock, &mut seat, pair, media.local_addr()?.port()));
-    let (player, outlet) = connection(&rt, rt.alloc())?;
-    player.set_read_timeout(Some(Duration::from_secs(5)))?;
+    let (connection, outlet) = connection(rt, rt.alloc())?;
+    connection.set_read_timeout(Some(Duration::from_secs(5)))?;
+    let player = Player {
+        rtp: receiver(rt, 5)?,
+        rtcp: receiver(rt, 1)?,
+        connection,
+        is_interleaved,
+    };
+    let begun = Instant::now(rt)?;
+    assert!(rt;
+        begin(
+            rt,
+            &lock,
+            &mut seat,
+            pair,
+            stream_to(&player)?,
+            is_interleaved
+        )
+    );
     let outlet = Arc::new(rt.alloc(), outlet)?;
     let bells = Bells::new(rt.alloc(), 1, 4)?;
-    hand_over(&rt, &bells, 1)?;
+    hand_over(rt, &bells, 1)?;
     let outlets = Outlets::new(rt.alloc());
-    outlets.insert(&rt, 1, outlet)?;
+    outlets.insert(rt, 1, outlet)?;
     let Some(bell) = bells.of(2) else {
         panic!(rt; "there is a pacer")
     };
@@ -236,8 +344,30 @@ fn a_play_is_sent_and_reported(rt: HostRuntime) -> Result<(), Fail> {
         begun,
     };
     let plays = PacerPlays::open(rt.alloc(), 4)?;
-    let (paced, heard) = run(&rt, parts, seat, plays, &bells, &media, &player);
+    Ok(run(rt, parts, seat, plays, &bells, &player))
+}
+
+#[test]
+fn a_play_is_sent_and_reported(rt: HostRuntime) -> Result<(), Fail> {
+    let (paced, heard) = played(&rt, "", false)?;
     assert!(rt; is_whole(&heard) && is_done(&paced));
+    assert!(rt; heard.control.is_none());
+    Ok(())
+}
+
+#[test]
+fn a_play_of_gstreamer_says_goodbye(rt: HostRuntime) -> Result<(), Fail> {
+    let (paced, heard) = played(&rt, "players = \"gstreamer\"\n", false)?;
+    assert!(rt; is_whole(&heard) && is_done(&paced));
+    assert!(rt; heard.control == Some(GOODBYE));
+    Ok(())
+}
+
+#[test]
+fn a_play_over_the_connection_says_goodbye(rt: HostRuntime) -> Result<(), Fail> {
+    let (paced, heard) = played(&rt, "players = \"gstreamer\"\n", true)?;
+    assert!(rt; is_whole(&heard) && is_done(&paced));
+    assert!(rt; heard.control == Some(GOODBYE));
     Ok(())
 }
 
@@ -246,9 +376,7 @@ fn is_whole(heard: &Heard) -> bool {
     let units = [
         *b"aa", *b"bb", *b"cc", *b"dd", *b"ee", *b"ff", *b"gg", *b"hh",
     ];
-    heard.units == units
-        && heard.seqs == [250, 251, 252, 253, 254, 255, 0, 1]
-        && heard.report == 100
+    heard.units == units && heard.seqs == [250, 251, 252, 253, 254, 255, 0, 1] && heard.report > 100
 }
 
 fn is_done(paced: &Paced) -> bool {

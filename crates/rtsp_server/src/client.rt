@@ -4,6 +4,7 @@ ghost use Rattle.rtsp_lock.specs.Calls.{IsSeatOf};
 
 use crate::activity::Activity;
 use crate::answering::Front;
+use crate::hearing::{Hearing, HearingReader};
 use crate::leaving::take_leave;
 use crate::limits::{PAUSE, PIECES};
 use crate::service::Service;
@@ -12,7 +13,7 @@ use crate::tools::Tools;
 use crate::writing::AnswerWriter;
 use mio::event::Event;
 use mio::net::TcpStream;
-use rtsp_content::Table;
+use rtsp_content::{Players, Table};
 use rtsp_engine::{Asker, Connection, PieceIn, PieceReader, Reading, VisitEnd, visit};
 use rtsp_lanes::BookHandle;
 use rtsp_lock::{BookLock, BookSeat};
@@ -66,6 +67,7 @@ pub(crate) struct Client {
     // Whether it has been silent, or has owed the rest of a message, for too long.
     is_over: bool,
     activity: Activity,
+    hearing: Hearing,
 }
 
 // The address of the host that a player connected to, or any where that isn't one of IPv4.
@@ -76,7 +78,17 @@ fn host_of(stream: &TcpStream) -> Ipv4Addr {
     }
 }
 
-// Lends all parts to a visit. How it ended, and whether some of what was put last waits.
+// What came of reading a connection.
+#[derive(Clone, Copy)]
+struct Read {
+    end: VisitEnd,
+    // Whether some of what was put last waits.
+    is_kept: bool,
+    // The channel of the frame that came first.
+    heard: Option<u8>,
+}
+
+// Lends all parts to a visit.
 fn visit_lent<'a, R: Wait + Net + rt::Clock>(
     rt: &'a R,
     alloc: Global,
@@ -96,7 +108,7 @@ fn visit_lent<'a, R: Wait + Net + rt::Clock>(
     room: &mut Room,
     piece: &mut [u8],
     reads_all: bool,
-) -> (VisitEnd, bool)
+) -> Read
     requires { IsSeatOf seat.old lock.now }
 {
     let mut front = Front {
@@ -114,7 +126,7 @@ fn visit_lent<'a, R: Wait + Net + rt::Clock>(
         plays,
         activity,
     };
-    let mut reader = PieceReader::new(outlet.stream());
+    let mut reader = HearingReader::new(PieceReader::new(outlet.stream()), input.is_idle());
     let mut writer = AnswerWriter::new(rt, outlet, now);
     let end = visit(
         alloc,
@@ -127,7 +139,11 @@ fn visit_lent<'a, R: Wait + Net + rt::Clock>(
         PIECES,
         reads_all,
     );
-    (end, writer.is_kept())
+    Read {
+        end,
+        is_kept: writer.is_kept(),
+        heard: reader.channel(),
+    }
 }
 
 impl Client {
@@ -159,6 +175,7 @@ impl Client {
             is_queued: false,
             is_over: false,
             activity: Activity::new(service.now),
+            hearing: Hearing::new(),
         })
     }
 
@@ -210,7 +227,12 @@ impl Client {
         if !self.is_readable || self.stage != Stage::Open {
             return Visit::Done;
         }
-        let (end, is_kept) = self.read(service, tools, lane);
+        let Read {
+            end,
+            is_kept,
+            heard,
+        } = self.read(service, tools, lane);
+        self.hear(service, tools, heard);
         if end == VisitEnd::WriteFault || matches!(&end, VisitEnd::Fault(_)) {
             self.drop_rest(tools);
         }
@@ -229,14 +251,13 @@ impl Client {
         self.stage != Stage::Draining || left > 0
     }
 
-    // Reads what is there, has it answered, and puts the answers into the outlet. How that ended,
-    // and whether some of what was put last waits.
+    // Reads what is there, has it answered, and puts the answers into the outlet.
     fn read<R: Wait + Net + rt::Clock>(
         &mut self,
         service: &Service<'_, R>,
         tools: &mut Tools,
         lane: &mut BookHandle,
-    ) -> (VisitEnd, bool) {
+    ) -> Read {
         let Tools {
             words,
             plays,
@@ -273,6 +294,23 @@ impl Client {
             piece.as_mut_slice(),
             *is_ending,
         )
+    }
+
+    // Where the players are GStreamer, RTCP keeps the session alive that plays over the connection.
+    fn hear<R: Wait>(&mut self, service: &Service<'_, R>, tools: &mut Tools, heard: Option<u8>) {
+        if let Some(session) = tools.plays.take_last() {
+            self.hearing.expect(session);
+        }
+        let Some(channel) = heard else {
+            return;
+        };
+        match service.table.server().players {
+            Players::Strict => {}
+            Players::Gstreamer => {
+                self.hearing
+                    .hear(service, &mut self.handle, self.asker.conn, channel);
+            }
+        }
     }
 
     // Drops what has come behind what can't be answered.

@@ -15,6 +15,7 @@ mod answering;
 mod client;
 mod connection_shares;
 mod gate;
+mod hearing;
 mod lane_shares;
 mod leaving;
 mod limits;
