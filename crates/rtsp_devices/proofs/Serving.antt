@@ -19,19 +19,26 @@ use Rattle.rtsp_devices.specs.declared.counted_words.CountedWords.{CountedWords}
 use Rattle.rtsp_devices.specs.declared.standing_clock.StandingClock.{StandingClock}
 use Rattle.rtsp_devices.specs.declared.no_plays.NoPlays.{NoPlays}
 use Rattle.rtsp_devices.specs.declared.no_shares.NoShares.{NoShares}
-use Rattle.rtsp_devices.specs.Alone.{stdio_devices, IsFresh, ServedAlone}
+use Rattle.rtsp_devices.specs.Alone.{stdio_devices, IsWholeOf, IsFresh, ServedAlone}
 use Rattle.rtsp_devices.specs.PortSet.{NoneBound}
 
 -- a seat that has just opened a lock and drawn a number
-pub record IsNew (v : View) : Type 0 where
+pub record IsNew (w : Whole) (v : View) : Type 0 where
+  pub whole : v.whole ≡ w
   pub owns : OwnsAll v
   pub seen : v.seen ≡ []
   pub mine : v.mine ≡ []
 
-pub drawn_new : (w : Whole) (v u : View) → OwnsAllLasts → v ≡ first_view w → Looked v u → IsNew u
+pub drawn_new : (w : Whole) (v u : View) → OwnsAllLasts → v ≡ first_view w → Looked v u → IsNew w u
 drawn_new w v u lasts is looked =
     let from = subst (λ (x : View). Looked x u) is looked in
-    record { owns = lasts.looked (first_view w) u (lasts.first w) from; seen = from.seen ∙ from.alone.found refl; mine = from.mine }
+    record { whole = from.stays.whole; owns = lasts.looked (first_view w) u (lasts.first w) from; seen = from.seen ∙ from.alone.found refl; mine = from.mine }
+
+pub whole_is : (table : TableValue) (w v : Whole) → v ≡ w → (w.first_port ≡ table.server.first_port) × (w.pairs ≡ table.server.pairs)
+    → (w.uplink ≡ table.server.uplink) × (w.sessions ≡ table.server.sessions) → w.journal ≡ table.server.journal → IsWholeOf table v
+whole_is table w v is ports limits journal =
+    subst (λ (x : Whole). IsWholeOf table x) (sym is)
+    (record { first_port = ports.0; pairs = ports.1; uplink = limits.0; sessions = limits.1; journal = journal })
 
 pub bound_none : (first pairs first' pairs' : ℕ) (b : PortSet) → (first ≡ first') × (pairs ≡ pairs') → NoneBound first pairs b → NoneBound first' pairs' b
 bound_none first pairs first' pairs' b same none = subst (λ (p : ℕ). NoneBound p pairs' b) same.0 (subst (λ (n : ℕ). NoneBound first n b) same.1 none)
@@ -46,14 +53,16 @@ module _ {R I O : Type 0} (remaining : I → Option (List ℕ)) (contents : O �
   alone_served seat u fresh is grows ends cleanly owns finishes =
       let finished = subst (λ (s : BookSeat). Finished (seat_view s) u kept) (sym is) finishes in
       let mine = owns fresh.owns in
+      let grown = grows.ended [] end (line remaining contents (parts i o first)) (line remaining contents (parts j p last)) ends in
       record {
         first = first;
         last = last;
         fresh = fresh;
         ends = ends;
         cleanly = cleanly fresh.owns;
-        records = grows.ended [] end (line remaining contents (parts i o first)) (line remaining contents (parts j p last)) ends;
+        records = grown;
         owns = mine;
+        whole = subst (λ (x : Whole). IsWholeOf table x) (sym (finished.whole ∙ grown.whole)) fresh.whole;
         journal = finished.alone.found mine.alone;
         found = finished.found;
       }

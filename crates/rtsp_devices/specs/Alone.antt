@@ -1,6 +1,7 @@
 -- How one connection is served alone, from a book of its own.
 use Rattle.std.specs.Prelude.{◌≡◌, ⊤, ℕ, ◌+◌, ◌*◌, ◌^◌, List, [], Option}
 use Rattle.rtsp_content.specs.TableValue.{TableValue}
+use Rattle.rtsp_record.specs.declared.holdings.Whole.{Whole}
 use Rattle.rtsp_book.specs.Kept.{History}
 use Rattle.rtsp_grammar.specs.declared.message.Response.{Response}
 use Rattle.rtsp_state.specs.declared.setup_plan.SetupPlan.{SetupPlan}
@@ -42,11 +43,20 @@ AlwaysHasPlace =
 abbrev pub local_host : ℕ
 local_host = 127 * 2 ^ 24 + 1
 
+-- what there is to hold is what the content says
+pub record IsWholeOf (table : TableValue) (whole : Whole) : Type 0 where
+  pub first_port : whole.first_port ≡ table.server.first_port
+  pub pairs : whole.pairs ≡ table.server.pairs
+  pub uplink : whole.uplink ≡ table.server.uplink
+  pub sessions : whole.sessions ≡ table.server.sessions
+  pub journal : whole.journal ≡ table.server.journal
+
 module _ {R : Type 0} where
-  -- a desk from which nothing was answered yet: its seat is the only one of its lock, whose journal is empty; no port is bound, no word was given
+  -- a desk from which nothing was answered yet: its seat is the only one of its lock, over what there is to hold, whose journal is empty; no port is bound, no word was given
   pub record IsFresh (table : TableValue) (desk : Desk R PortSet CountedWords StandingClock NoPlays NoShares) : Type 0 where
     pub content : desk.table.now ≡ table
     pub player : desk.asker.peer ≡ local_host
+    pub whole : IsWholeOf table (seat_view desk.seat.now).whole
     pub owns : OwnsAll (seat_view desk.seat.now)
     pub seen : (seat_view desk.seat.now).seen ≡ []
     pub mine : (seat_view desk.seat.now).mine ≡ []
@@ -63,5 +73,6 @@ pub record ServedAlone (R : Type 0) {I O : Type 0} (remaining : I → Option (Li
   pub cleanly : EndsCleanly stdio_devices remaining contents end (parts i o first) (parts j p last)
   pub records : GrowsBy stdio_devices first last (end_records stdio_devices [] end (line remaining contents (parts i o first)) (line remaining contents (parts j p last)) ends)
   pub owns : OwnsAll (seat_view last.seat.now)
+  pub whole : IsWholeOf table kept.whole
   pub journal : kept.journal ≡ (seat_view last.seat.now).seen
   pub found : Found (seat_view last.seat.now) kept.journal kept.rounds

@@ -1,6 +1,6 @@
 //! A connection that is served alone, from a book of its own.
 
-ghost use Rattle.std.specs.Prelude.{◌≡◌, IfOk};
+ghost use Rattle.std.specs.Prelude.{◌≡◌, IfOk, OnErr};
 ghost use Rattle.rtsp_engine.specs.Causes.{ReadFails, WriteFails, ClosesAtEnd, SpendsTurns};
 ghost use Rattle.rtsp_devices.specs.Alone.{ServedAlone};
 
@@ -43,6 +43,8 @@ pub fn serve_alone<R: Wait, I: ByteIn, O: ByteOut>(
     ensures read_fault { IfOk result (λ c. ReadFails c.end (I.failures reader.old) (I.failures reader.new)) }
     ensures write_fault { IfOk result (λ c. WriteFails c.end (O.failures writer.old) (O.failures writer.new)) }
     ensures closed { IfOk result (λ c. ClosesAtEnd c.end (I.remaining reader.new)) }
+    ensures unread { OnErr result (reader.new ≡ reader.old) }
+    ensures unwritten { OnErr result (writer.new ≡ writer.old) }
     ensures spent { IfOk result (λ c. SpendsTurns c.end turns (I.remaining reader.old) (I.remaining reader.new)) }
 {
     law_owns_all();

@@ -1,8 +1,8 @@
 //! A thread's way to the book.
 
-ghost use Rattle.std.specs.Prelude.{◌≡◌, IfSome};
+ghost use Rattle.std.specs.Prelude.{◌≡◌, ◌⊎◌, IfSome, IfNone};
 ghost use Rattle.std.specs.Arc.{arc_value};
-ghost use Rattle.rtsp_lock.specs.Calls.{IsSeatOf, SameSeat, Looked, Drew, Forgot, Checked, Relieved, Made, seat_view};
+ghost use Rattle.rtsp_lock.specs.Calls.{IsSeatOf, SameSeat, Looked, LookedAndMade, Drew, Forgot, Checked, Relieved, Made, seat_view};
 
 use rtsp_lock::{BookLock, BookSeat};
 use std::sync::{Arc, Wait};
@@ -31,7 +31,9 @@ impl BookHandle {
         ensures same { SameSeat self.old.seat self.new.seat }
         ensures lock { arc_value self.new.lock ≡ arc_value self.old.lock }
         ensures other { IfSome result (λ h. arc_value h.lock ≡ arc_value self.old.lock) }
+        ensures looked { IfSome result (λ h. LookedAndMade (seat_view self.old.seat) (seat_view self.new.seat)) }
         ensures made { IfSome result (λ h. Made (seat_view self.old.seat) (seat_view self.new.seat) (seat_view h.seat)) }
+        ensures none { IfNone result ((seat_view self.new.seat ≡ seat_view self.old.seat) ⊎ LookedAndMade (seat_view self.old.seat) (seat_view self.new.seat)) }
     {
         let lock = Arc::try_clone(&self.lock).ok()?;
         let seat = self.seat.split(rt, &self.lock).ok()?;

@@ -1,6 +1,6 @@
 -- Words are bytes of their source, each given once and in order.
-use Rattle.std.specs.Prelude.{◌≡◌, ◌+◌, ◌%◌, ◌^◌, ℕ, List, ◌++◌, drop, Option}
-use Rattle.std.specs.Int.{Width, w16, w32, w128, from_le_bytes}
+use Rattle.std.specs.Prelude.{◌≡◌, ◌+◌, ◌%◌, ◌^◌, ℕ, List, ◌++◌, drop, length, Option}
+use Rattle.std.specs.Int.{Width, w16, w32, w128, byte_len, from_le_bytes}
 use Rattle.std.specs.Io.KnownBytes.{prepend_known, Consumes}
 use Rattle.rtsp_engine.specs.Devices.{WordCalls}
 use Rattle.rtsp_sockets.specs.declared.words.SourceWords.{SourceWords}
@@ -18,9 +18,10 @@ module _ {S : Type 0} (remaining : S → Option (List ℕ)) where
   abbrev pub unread : SourceWords S → Option (List ℕ)
   unread w = prepend_known (drop w.used w.pool) (remaining w.source)
 
-  -- one word more was given, which is the next bytes by their worth, the least first
+  -- one word more was given, which is the next bytes by their worth, the least first, as many as it is wide
   pub record Gives (width : Width) (b : SourceWords S) (word : ℕ) (c : SourceWords S) : Type 0 where
     pub bytes : List ℕ
+    pub size : length bytes ≡ byte_len width
     pub is : word ≡ from_le_bytes width bytes
     pub drawn : Draws (unread b) bytes (unread c)
     pub count : c.words ≡ (b.words + 1) % 2 ^ 64
