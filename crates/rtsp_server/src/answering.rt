@@ -1,18 +1,19 @@
 //! Has the input of a connection answered by the engine, a piece at a time.
 
-ghost use Rattle.std.specs.Prelude.{◌≡◌};
+ghost use Rattle.std.specs.Prelude.{◌≡◌, ◌++◌, IfErr, OnOk};
+ghost use Rattle.rtsp_grammar.specs.Answer.{IsUndecided};
 ghost use Rattle.rtsp_engine.specs.Devices.{devices};
 ghost use Rattle.rtsp_engine.specs.Serving.{serving_of};
-ghost use Rattle.rtsp_dialect.specs.Understanding.{AnswersUnderstood, GivesUpUnderstood};
+ghost use Rattle.rtsp_dialect.specs.Understanding.{AnswersUnderstood, GivesUpUnderstood, TakesPiece, FaultsPiece, gathered};
 
 use crate::activity::Activity;
 use crate::limits::{ANSWERS, PAUSE};
 use crate::relieving::make_room;
 use crate::shared::Shared;
 use rtsp_content::Table;
-use rtsp_dialect::push_understood;
+use rtsp_dialect::push_lent;
 use rtsp_engine::{
-    Asker, Binder, Clock, Connection, Desk, PieceAnswerer, Plays, ShareSpent, Shares, Words,
+    Asker, Binder, Clock, Connection, PieceAnswerer, Plays, ShareSpent, Shares, Words,
 };
 use rtsp_grammar::MessageFault;
 use rtsp_lanes::BookHandle;
@@ -59,6 +60,54 @@ impl Shares for Unshared {
     fn settle(&mut self, _opened: Option<u64>) {}
 }
 
+// Has a piece of a connection's input answered at a desk over the connection's handle of the book,
+// with the server's sockets and its clock, which is read once at most. Each item is answered as the
+// players of the configuration mean it.
+fn answer_piece<R: Wait + Net + rt::Clock, W: Words, P: Plays>(
+    rt: &R,
+    alloc: Global,
+    shared: &Shared,
+    table: &Table,
+    handle: &mut BookHandle,
+    asker: Asker,
+    host: Ipv4Addr,
+    words: &mut W,
+    plays: &mut P,
+    input: &mut Connection,
+    piece: &[u8],
+    room: &mut Room,
+) -> Result<(), MessageFault>
+    ensures goes_on { OnOk result (TakesPiece (devices ⟦<PortBinder<'static, R> as Binder>⟧.calls W.calls
+        ⟦<PieceClock<'static, R> as Clock>⟧.tells P.calls ⟦<Unshared as Shares>⟧.calls)
+        (input.old ++ piece.now) input.new
+        (gathered table.now asker handle.old.seat room.old) (gathered table.now asker handle.new.seat room.new)) }
+    ensures undecided { OnOk result (IsUndecided input.new) }
+    ensures ends { IfErr result (λ f. FaultsPiece (devices ⟦<PortBinder<'static, R> as Binder>⟧.calls W.calls
+        ⟦<PieceClock<'static, R> as Clock>⟧.tells P.calls ⟦<Unshared as Shares>⟧.calls)
+        (input.old ++ piece.now) f
+        (gathered table.now asker handle.old.seat room.old) (gathered table.now asker handle.new.seat room.new)) }
+{
+    let mut binder = PortBinder::new(rt, &shared.ports, host);
+    let mut clock = PieceClock::new(rt, shared.begun);
+    let mut shares = Unshared;
+    push_lent(
+        rt,
+        alloc,
+        &mut handle.seat,
+        &handle.lock,
+        &mut binder,
+        words,
+        &mut clock,
+        plays,
+        &mut shares,
+        table,
+        asker,
+        input,
+        piece,
+        room,
+    )
+}
+
 impl<R: Wait + Net + rt::Clock> PieceAnswerer for Front<'_, R> {
     ghost serving = { λ f. serving_of f.table.now f.asker f.handle.now.seat };
 
@@ -70,9 +119,6 @@ impl<R: Wait + Net + rt::Clock> PieceAnswerer for Front<'_, R> {
         ⟦<RandomWords as Words>⟧.calls ⟦<PieceClock<'static, R> as Clock>⟧.tells
         ⟦<NotedPlays as Plays>⟧.calls ⟦<Unshared as Shares>⟧.calls) };
 
-    // The piece is answered at a desk over the connection's handle of the book, with the server's
-    // sockets, and its clock, which is read once at most. Each item is answered as the players of
-    // the configuration mean it.
     fn push(
         &mut self,
         alloc: Global,
@@ -83,19 +129,20 @@ impl<R: Wait + Net + rt::Clock> PieceAnswerer for Front<'_, R> {
         make_room(self.rt, self.table, self.lane);
         let all = input.len().saturating_add(piece.len());
         let given = self.words.given();
-        let mut desk = Desk {
-            rt: self.rt,
-            seat: &mut self.handle.seat,
-            lock: &self.handle.lock,
-            binder: &mut PortBinder::new(self.rt, &self.shared.ports, self.host),
-            words: self.words,
-            clock: &mut PieceClock::new(self.rt, self.shared.begun),
-            plays: self.plays,
-            shares: &mut Unshared,
-            table: self.table,
-            asker: self.asker,
-        };
-        let pushed = push_understood(alloc, &mut desk, input, piece, room);
+        let pushed = answer_piece(
+            self.rt,
+            alloc,
+            self.shared,
+            self.table,
+            self.handle,
+            self.asker,
+            self.host,
+            self.words,
+            self.plays,
+            input,
+            piece,
+            room,
+        );
         let has_setup = self.words.given() != given;
         self.activity.note(self.now, all, input, has_setup);
         pushed
