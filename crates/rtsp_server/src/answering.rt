@@ -1,10 +1,10 @@
 //! Has the input of a connection answered by the engine, a piece at a time.
 
-ghost use Rattle.std.specs.Prelude.{◌≡◌};
-ghost use Rattle.rtsp_lock.specs.Calls.{IsSeatOf};
+ghost use Rattle.std.specs.Prelude.{◌≡◌, ◌++◌, IfErr, OnOk};
+ghost use Rattle.rtsp_grammar.specs.Answer.{IsUndecided};
 ghost use Rattle.rtsp_engine.specs.Devices.{devices};
 ghost use Rattle.rtsp_engine.specs.Serving.{serving_of};
-ghost use Rattle.rtsp_dialect.specs.Understanding.{AnswersUnderstood, GivesUpUnderstood};
+ghost use Rattle.rtsp_dialect.specs.Understanding.{AnswersUnderstood, GivesUpUnderstood, TakesPiece, FaultsPiece, gathered};
 
 use crate::activity::Activity;
 use crate::lane_shares::LaneShares;
@@ -12,11 +12,10 @@ use crate::limits::{ANSWERS, PAUSE};
 use crate::relieving::make_room;
 use crate::shared::Shared;
 use rtsp_content::Table;
-use rtsp_dialect::push_understood;
-use rtsp_engine::{Asker, Binder, Clock, Connection, Desk, PieceAnswerer, Plays, Shares, Words};
+use rtsp_dialect::push_lent;
+use rtsp_engine::{Asker, Binder, Clock, Connection, PieceAnswerer, Plays, Shares, Words};
 use rtsp_grammar::MessageFault;
 use rtsp_lanes::BookHandle;
-use rtsp_lock::{BookLock, BookSeat};
 use rtsp_pacing::NotedPlays;
 use rtsp_sockets::{Outlet, PieceClock, PortBinder, RandomWords};
 use rtsp_state::Room;
@@ -25,15 +24,14 @@ use std::net::{Ipv4Addr, Net};
 use std::rt;
 use std::sync::{Arc, Wait};
 
-/// What answers the pieces of a connection: its seat of the book, and what its lane lends it.
+/// What answers the pieces of a connection: its handle of the book, and what its lane lends it.
 #[derive(Drop)]
 pub(crate) struct Front<'a, R> {
     pub(crate) rt: &'a R,
     pub(crate) shared: &'a Shared,
     pub(crate) table: &'a Table,
     pub(crate) now: u64,
-    pub(crate) seat: &'a mut BookSeat,
-    pub(crate) lock: &'a BookLock,
+    pub(crate) handle: &'a mut BookHandle,
     /// The lane's own handle, for the room of the journal and for what an address has.
     pub(crate) lane: &'a mut BookHandle,
     pub(crate) asker: Asker,
@@ -43,11 +41,59 @@ pub(crate) struct Front<'a, R> {
     pub(crate) words: &'a mut RandomWords,
     pub(crate) plays: &'a mut NotedPlays,
     pub(crate) activity: &'a mut Activity,
-    ghost ours: { IsSeatOf seat.now lock.now },
+}
+
+// Has a piece of a connection's input answered at a desk over the connection's handle of the book,
+// with the server's sockets, its clock, which is read once at most, and what addresses have of the
+// sessions, by the lane's handle. Each item is answered as the players of the configuration mean it.
+fn answer_piece<R: Wait + Net + rt::Clock, W: Words, P: Plays>(
+    rt: &R,
+    alloc: Global,
+    shared: &Shared,
+    table: &Table,
+    handle: &mut BookHandle,
+    lane: &mut BookHandle,
+    asker: Asker,
+    host: Ipv4Addr,
+    words: &mut W,
+    plays: &mut P,
+    input: &mut Connection,
+    piece: &[u8],
+    room: &mut Room,
+) -> Result<(), MessageFault>
+    ensures goes_on { OnOk result (TakesPiece (devices ⟦<PortBinder<'static, R> as Binder>⟧.calls W.calls
+        ⟦<PieceClock<'static, R> as Clock>⟧.tells P.calls ⟦<LaneShares<'static, R> as Shares>⟧.calls)
+        (input.old ++ piece.now) input.new
+        (gathered table.now asker handle.old.seat room.old) (gathered table.now asker handle.new.seat room.new)) }
+    ensures undecided { OnOk result (IsUndecided input.new) }
+    ensures ends { IfErr result (λ f. FaultsPiece (devices ⟦<PortBinder<'static, R> as Binder>⟧.calls W.calls
+        ⟦<PieceClock<'static, R> as Clock>⟧.tells P.calls ⟦<LaneShares<'static, R> as Shares>⟧.calls)
+        (input.old ++ piece.now) f
+        (gathered table.now asker handle.old.seat room.old) (gathered table.now asker handle.new.seat room.new)) }
+{
+    let mut binder = PortBinder::new(rt, &shared.ports, host);
+    let mut clock = PieceClock::new(rt, shared.begun);
+    let mut shares = LaneShares::new(rt, shared.session_shares.as_ref(), lane);
+    push_lent(
+        rt,
+        alloc,
+        &mut handle.seat,
+        &handle.lock,
+        &mut binder,
+        words,
+        &mut clock,
+        plays,
+        &mut shares,
+        table,
+        asker,
+        input,
+        piece,
+        room,
+    )
 }
 
 impl<R: Wait + Net + rt::Clock> PieceAnswerer for Front<'_, R> {
-    ghost serving = { λ f. serving_of f.table.now f.asker f.seat.now };
+    ghost serving = { λ f. serving_of f.table.now f.asker f.handle.now.seat };
 
     ghost answers = { AnswersUnderstood (devices ⟦<PortBinder<'static, R> as Binder>⟧.calls
         ⟦<RandomWords as Words>⟧.calls ⟦<PieceClock<'static, R> as Clock>⟧.tells
@@ -57,9 +103,6 @@ impl<R: Wait + Net + rt::Clock> PieceAnswerer for Front<'_, R> {
         ⟦<RandomWords as Words>⟧.calls ⟦<PieceClock<'static, R> as Clock>⟧.tells
         ⟦<NotedPlays as Plays>⟧.calls ⟦<LaneShares<'static, R> as Shares>⟧.calls) };
 
-    // The piece is answered at a desk over the connection's seat, with the server's sockets, and its
-    // clock, which is read once at most. Each item is answered as the players of the configuration
-    // mean it.
     fn push(
         &mut self,
         alloc: Global,
@@ -70,19 +113,21 @@ impl<R: Wait + Net + rt::Clock> PieceAnswerer for Front<'_, R> {
         make_room(self.rt, self.table, self.lane);
         let all = input.len().saturating_add(piece.len());
         let given = self.words.given();
-        let mut desk = Desk {
-            rt: self.rt,
-            seat: self.seat,
-            lock: self.lock,
-            binder: &mut PortBinder::new(self.rt, &self.shared.ports, self.host),
-            words: self.words,
-            clock: &mut PieceClock::new(self.rt, self.shared.begun),
-            plays: self.plays,
-            shares: &mut LaneShares::new(self.rt, self.shared.session_shares.as_ref(), self.lane),
-            table: self.table,
-            asker: self.asker,
-        };
-        let pushed = push_understood(alloc, &mut desk, input, piece, room);
+        let pushed = answer_piece(
+            self.rt,
+            alloc,
+            self.shared,
+            self.table,
+            self.handle,
+            self.lane,
+            self.asker,
+            self.host,
+            self.words,
+            self.plays,
+            input,
+            piece,
+            room,
+        );
         let has_setup = self.words.given() != given;
         self.activity.note(self.now, all, input, has_setup);
         pushed

@@ -1,7 +1,5 @@
 //! A connection of a lane.
 
-ghost use Rattle.rtsp_lock.specs.Calls.{IsSeatOf};
-
 use crate::activity::Activity;
 use crate::answering::Front;
 use crate::leaving::take_leave;
@@ -15,7 +13,6 @@ use mio::net::TcpStream;
 use rtsp_content::Table;
 use rtsp_engine::{Asker, Connection, PieceIn, PieceReader, Reading, VisitEnd, visit};
 use rtsp_lanes::BookHandle;
-use rtsp_lock::{BookLock, BookSeat};
 use rtsp_pacing::NotedPlays;
 use rtsp_sockets::{Outlet, RandomWords, prepare};
 use rtsp_state::Room;
@@ -83,8 +80,7 @@ fn visit_lent<'a, R: Wait + Net + rt::Clock>(
     shared: &'a Shared,
     table: &'a Table,
     now: u64,
-    seat: &'a mut BookSeat,
-    lock: &'a BookLock,
+    handle: &'a mut BookHandle,
     lane: &'a mut BookHandle,
     asker: Asker,
     host: Ipv4Addr,
@@ -96,16 +92,13 @@ fn visit_lent<'a, R: Wait + Net + rt::Clock>(
     room: &mut Room,
     piece: &mut [u8],
     reads_all: bool,
-) -> (VisitEnd, bool)
-    requires { IsSeatOf seat.old lock.now }
-{
+) -> (VisitEnd, bool) {
     let mut front = Front {
         rt,
         shared,
         table,
         now,
-        seat,
-        lock,
+        handle,
         lane,
         asker,
         host,
@@ -259,8 +252,7 @@ impl Client {
             service.shared,
             service.table,
             service.now,
-            &mut handle.seat,
-            &handle.lock,
+            handle,
             lane,
             *asker,
             *host,
