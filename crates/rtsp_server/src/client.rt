@@ -1,7 +1,5 @@
 //! A connection of a lane.
 
-ghost use Rattle.rtsp_lock.specs.Calls.{IsSeatOf};
-
 use crate::activity::Activity;
 use crate::answering::Front;
 use crate::hearing::{Hearing, HearingReader};
@@ -16,7 +14,6 @@ use mio::net::TcpStream;
 use rtsp_content::{Players, Table};
 use rtsp_engine::{Asker, Connection, PieceIn, PieceReader, Reading, VisitEnd, visit};
 use rtsp_lanes::BookHandle;
-use rtsp_lock::{BookLock, BookSeat};
 use rtsp_pacing::NotedPlays;
 use rtsp_sockets::{Outlet, RandomWords, prepare};
 use rtsp_state::Room;
@@ -95,8 +92,7 @@ fn visit_lent<'a, R: Wait + Net + rt::Clock>(
     shared: &'a Shared,
     table: &'a Table,
     now: u64,
-    seat: &'a mut BookSeat,
-    lock: &'a BookLock,
+    handle: &'a mut BookHandle,
     lane: &'a mut BookHandle,
     asker: Asker,
     host: Ipv4Addr,
@@ -108,16 +104,13 @@ fn visit_lent<'a, R: Wait + Net + rt::Clock>(
     room: &mut Room,
     piece: &mut [u8],
     reads_all: bool,
-) -> Read
-    requires { IsSeatOf seat.old lock.now }
-{
+) -> Read {
     let mut front = Front {
         rt,
         shared,
         table,
         now,
-        seat,
-        lock,
+        handle,
         lane,
         asker,
         host,
@@ -280,8 +273,7 @@ impl Client {
             service.shared,
             service.table,
             service.now,
-            &mut handle.seat,
-            &handle.lock,
+            handle,
             lane,
             *asker,
             *host,
