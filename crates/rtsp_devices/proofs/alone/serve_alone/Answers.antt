@@ -4,7 +4,7 @@ use Rattle.rtsp_devices.proofs.alone.serve_alone.Goals as goal
 
 pub returns-clause-served : goal.returns-clause-served
 returns-clause-served g c =
-    let new = drawn_new c.whole_of-whole.result _ _ c.law_owns_all.ensures c.in_ok-lock.ensures.opened c.in-Ok.ensures.looked in
+    let new = drawn_new _ _ _ c.law_owns_all.ensures c.in_ok-lock.ensures.opened c.in-Ok.ensures.looked in
     let clauses = c.whole_of-whole.ensures in
     let serve = c.serve-end.ensures in
     let finished = c.finish-kept.ensures.finished in
