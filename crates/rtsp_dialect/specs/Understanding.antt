@@ -1,13 +1,16 @@
 -- How the items of a connection are answered where devices are lent for one piece of input at a time: as rtsp_engine's Serving has it,
 -- and each as the players of the configuration mean it.
 use Rattle.std.specs.Prelude.{ℕ, List}
+use Rattle.rtsp_content.specs.TableValue.{TableValue}
 use Rattle.rtsp_content.specs.declared.server.Players.{Players}
 use Rattle.rtsp_grammar.specs.declared.fault.MessageFault.{MessageFault}
 use Rattle.rtsp_grammar.specs.declared.message.Item.{Item}
+use Rattle.rtsp_lock.specs.declared.seat.BookSeat.{BookSeat}
 use Rattle.rtsp_state.specs.Room.{RoomText}
 use Rattle.rtsp_engine.specs.Devices.{Devices}
 use Rattle.rtsp_engine.specs.Served.{Output, Answered, FaultedAfter, at}
-use Rattle.rtsp_engine.specs.Serving.{Serving, AnswersFrom, GivesUpFrom, desk_serving}
+use Rattle.rtsp_engine.specs.Serving.{Serving, AnswersFrom, GivesUpFrom, desk_serving, serving_of}
+use Rattle.rtsp_engine.specs.declared.desk.Asker.{Asker}
 use Rattle.rtsp_engine.specs.declared.desk.Desk.{Desk}
 use Rattle.rtsp_dialect.specs.Repair.{understood}
 
@@ -18,6 +21,10 @@ players_served serving = serving.service.table.server.players
 -- a desk's answers are gathered in a room
 abbrev pub serves : {R B W C P S : Type 0} → Desk R B W C P S → RoomText → Output Serving
 serves desk room = at room (desk_serving desk)
+
+-- answers to this player, from this content, over this seat, are gathered in a room
+abbrev pub gathered : TableValue → Asker → BookSeat → RoomText → Output Serving
+gathered table asker seat room = at room (serving_of table asker seat)
 
 module _ {B W C P S : Type 0} (d : Devices B W C P S) where
   -- what the item means is answered with these bytes

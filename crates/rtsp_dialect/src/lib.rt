@@ -3,7 +3,7 @@
 //! GStreamer draws the number of Pipelined-Requests below 2^31, where the grammar has eight digits,
 //! and names its ports over UDP as RTSP 1.0 does, by `client_port`. `repair` makes of such a request
 //! the one that says the same by the grammar; `push_repaired` and `serve_repaired` have that
-//! answered, and `push_understood` does so where the configuration's players are such.
+//! answered, and `push_understood` and `push_lent` do so where the configuration's players are such.
 //!
 //! The definitions of `specs/` read in this order: Startup (a number that is too long), ClientPort
 //! (ports in the terms of 1.0 and of 2.0), PartText and ClientPortText (the same in the text of a
@@ -28,4 +28,4 @@ pub use laws::{law_repaired_is_within, law_repairs_to_itself, law_rest_stays, la
 pub use repairing::{push_repaired, serve_repaired};
 pub use request::repair;
 pub use rtcp::goodbye;
-pub use understanding::push_understood;
+pub use understanding::{push_lent, push_understood};

@@ -2,14 +2,16 @@
 
 ghost use Rattle.std.specs.Prelude.{◌≡◌, ◌++◌, IfErr, OnOk};
 ghost use Rattle.rtsp_grammar.specs.Answer.{IsUndecided};
+ghost use Rattle.rtsp_lock.specs.Calls.{IsSeatOf, SameSeat};
 ghost use Rattle.rtsp_engine.specs.Desk.{SameParts};
 ghost use Rattle.rtsp_engine.specs.Devices.{devices};
-ghost use Rattle.rtsp_dialect.specs.Understanding.{TakesPiece, FaultsPiece, serves};
+ghost use Rattle.rtsp_dialect.specs.Understanding.{TakesPiece, FaultsPiece, serves, gathered};
 
 use crate::visits::push;
-use rtsp_content::Players;
-use rtsp_engine::{Binder, Clock, Connection, Desk, Plays, Shares, Words};
+use rtsp_content::{Players, Table};
+use rtsp_engine::{Asker, Binder, Clock, Connection, Desk, Plays, Shares, Words};
 use rtsp_grammar::MessageFault;
+use rtsp_lock::{BookLock, BookSeat};
 use rtsp_state::Room;
 use std::alloc::Global;
 use std::sync::Wait;
@@ -35,4 +37,46 @@ pub fn push_understood<R: Wait, B: Binder, W: Words, C: Clock, P: Plays, S: Shar
         Players::Strict => desk.push(alloc, input, piece, room),
         Players::Gstreamer => push(alloc, desk, input, piece, room),
     }
+}
+
+/// Takes a piece as `push_understood` does, at a desk of parts that are lent for it alone.
+pub fn push_lent<'a, R: Wait, B: Binder, W: Words, C: Clock, P: Plays, S: Shares>(
+    rt: &'a R,
+    alloc: Global,
+    seat: &'a mut BookSeat,
+    lock: &'a BookLock,
+    binder: &'a mut B,
+    words: &'a mut W,
+    clock: &'a mut C,
+    plays: &'a mut P,
+    shares: &'a mut S,
+    table: &'a Table,
+    asker: Asker,
+    input: &mut Connection,
+    piece: &[u8],
+    room: &mut Room,
+) -> Result<(), MessageFault>
+    requires { IsSeatOf seat.old lock.now }
+    ensures same { SameSeat seat.old seat.new }
+    ensures goes_on { OnOk result (TakesPiece (devices B.calls W.calls C.tells P.calls S.calls)
+        (input.old ++ piece.now) input.new
+        (gathered table.now asker seat.old room.old) (gathered table.now asker seat.new room.new)) }
+    ensures undecided { OnOk result (IsUndecided input.new) }
+    ensures ends { IfErr result (λ f. FaultsPiece (devices B.calls W.calls C.tells P.calls S.calls)
+        (input.old ++ piece.now) f
+        (gathered table.now asker seat.old room.old) (gathered table.now asker seat.new room.new)) }
+{
+    let mut desk = Desk {
+        rt,
+        seat,
+        lock,
+        binder,
+        words,
+        clock,
+        plays,
+        shares,
+        table,
+        asker,
+    };
+    push_understood(alloc, &mut desk, input, piece, room)
 }
