@@ -1,5 +1,7 @@
 -- What a thread that looks at the book finds, one look after another.
-use Rattle.std.proofs.Common.{◌≡◌, ℕ, ◌+◌, ◌≤◌, Bool, true, false, cond, List, [], ◌∷◌, refl, ap, arith}
+use Rattle.std.proofs.Common.{◌≡◌, ℕ, ◌+◌, ◌≤◌, Bool, true, false, cond, List, [], ◌∷◌, refl, ap, arith, rules}
+use Rattle.std.specs.Prelude.{Option, Some, None, IsSome, IsTrue, not}
+use Rattle.std.specs.Bool.{OnTrue}
 use Rattle.std.specs.List.{count_by}
 use Rattle.rtsp_lock.specs.declared.view.View.{View}
 use Rattle.rtsp_server.specs.Looks.{Looks, none, more, HasEnded}
@@ -26,8 +28,8 @@ wider a b c d place x e y = record {
 }
 
 fails : (b : Bool) → (b ≡ true → ⊥) → b ≡ false
-fails true no = absurd (no refl)
-fails false no = refl
+fails true not_so = absurd (not_so refl)
+fails false not_so = refl
 
 -- none is gone
 pub all_kept : (v : View) (taken : List Place) → OnlyEndedGone v v taken taken
@@ -48,6 +50,16 @@ one_gone a b c old mid new place x gone y ended exchanged = record {
     arith,
     (kept_on a b c old mid gone y).living test living,
     exchanged test,
-    ap (λ t. cond t 1 0) (fails (test place) (λ passes. living place passes (wider a b c c place x ended none))),
+    ap {B = ℕ} (λ t. cond t 1 0) (fails (test place) (λ passes. living place passes (wider a b c c place x ended none))),
   );
 }
+
+-- where a session that is found would be told, and isn't, none is found
+pub found_none : {A : Type 0} (found : Option A) (told : Bool) → (IsSome found → IsTrue told) → told ≡ false → found ≡ None
+found_none None told tells is = refl
+found_none (Some x) told tells is = grind (arith, is, tells (search rules))
+
+-- a fact that holds where something is false
+pub on_false : (b : Bool) (P : Type 0) → (b ≡ false → P) → OnTrue (not b) P
+on_false true P holds = tt
+on_false false P holds = holds refl

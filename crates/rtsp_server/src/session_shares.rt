@@ -185,7 +185,7 @@ impl SessionShares {
         ensures looks { Looks (seat_view handle.old.seat) (seat_view handle.new.seat) }
         ensures ended { OnlyEndedGone (seat_view handle.old.seat) (seat_view handle.new.seat) self.old.taken self.new.taken }
     {
-        let mut at = self.taken.len();
+        let mut at = self.taken.as_slice().len();
         while at > 0 {
             at -= 1;
             if has_ended(rt, handle, self.taken[at], peer) {
