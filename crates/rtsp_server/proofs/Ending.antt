@@ -1,5 +1,5 @@
 -- What a thread that looks at the book finds, one look after another.
-use Rattle.std.proofs.Common.{◌≡◌, ℕ, ◌+◌, ◌≤◌, Bool, true, false, cond, List, [], ◌∷◌, refl, ap, arith, rules}
+use Rattle.std.proofs.Common.{◌≡◌, ℕ, ◌+◌, ◌≤◌, Bool, true, false, cond, List, [], ◌∷◌, refl, ap, sym, ◌∙◌, subst, arith}
 use Rattle.std.specs.Prelude.{Option, Some, None, IsSome, IsTrue, not}
 use Rattle.std.specs.Bool.{OnTrue}
 use Rattle.std.specs.List.{count_by}
@@ -54,10 +54,17 @@ one_gone a b c old mid new place x gone y ended exchanged = record {
   );
 }
 
+abbrev holds : Bool → Type 0
+holds true = Unit {0}
+holds false = ⊥
+
+not_both : true ≡ false → ⊥
+not_both e = let yes : holds true = tt in subst holds e yes
+
 -- where a session that is found would be told, and isn't, none is found
 pub found_none : {A : Type 0} (found : Option A) (told : Bool) → (IsSome found → IsTrue told) → told ≡ false → found ≡ None
 found_none None told tells is = refl
-found_none (Some x) told tells is = grind (arith, is, tells (search rules))
+found_none (Some x) told tells is = absurd (not_both (sym (tells refl) ∙ is))
 
 -- a fact that holds where something is false
 pub on_false : (b : Bool) (P : Type 0) → (b ≡ false → P) → OnTrue (not b) P
