@@ -114,12 +114,12 @@ def plays_of(checks: Checks, way: str) -> None:
         server.answers("afterwards")
 
 
-@serving_test(limit=110, is_timed=True, is_by_name=True)
+@serving_test(limit=110, is_timed=True)
 def gstreamer_plays_over_tcp(checks: Checks) -> None:
     plays_of(checks, "tcp")
 
 
-@serving_test(limit=110, is_timed=True, is_by_name=True)
+@serving_test(limit=110, is_timed=True)
 def gstreamer_plays_over_udp(checks: Checks) -> None:
     plays_of(checks, "udp")
 
@@ -128,7 +128,7 @@ def gstreamer_plays_over_udp(checks: Checks) -> None:
 PATIENT, LONG = 10, Presentation(units=1_550)
 
 
-@serving_test(limit=60, is_timed=True, is_by_name=True)
+@serving_test(limit=60, is_timed=True)
 def gstreamer_plays_longer_than_the_timeout(checks: Checks) -> None:
     """Over the connection, where it sends nothing but RTCP while it plays."""
     if is_here("gst-launch-1.0"):
@@ -230,21 +230,21 @@ def watched(checks: Checks, where: str, keys: Sequence[Tuple[float, bytes]], mor
         return it
 
 
-@serving_test(limit=40, is_timed=True, is_by_name=True)
+@serving_test(limit=40, is_timed=True)
 def gstreamer_player_plays_to_its_end(checks: Checks) -> None:
     if is_here("gst-play-1.0"):
         it = watched(checks, "gst-play-1.0", [], 0.0)
         checks.that("gst-play-1.0: what it showed last", max(it.positions(), default=0.0) >= 5.5, it.positions()[-5:])
 
 
-@serving_test(limit=40, is_timed=True, is_by_name=True)
+@serving_test(limit=40, is_timed=True)
 def gstreamer_player_pauses(checks: Checks) -> None:
     if is_here("gst-play-1.0"):
         it = watched(checks, "a pause", [(3.5, SPACE), (6.5, SPACE)], 3.0)
         checks.that("a pause: it takes its three seconds", it.seconds >= seconds_of(MIDDLE) + 3.0, it.seconds)
 
 
-@serving_test(limit=40, is_timed=True, is_by_name=True)
+@serving_test(limit=40, is_timed=True)
 def gstreamer_player_seeks(checks: Checks) -> None:
     if is_here("gst-play-1.0"):
         it = watched(checks, "a seek", [(3.5, RIGHT)], LATENCY_OF_TOOLS)
@@ -253,7 +253,7 @@ def gstreamer_player_seeks(checks: Checks) -> None:
         checks.that("a seek: it leaps forward", max(leaps, default=0.0) >= 0.3, shown)
 
 
-@serving_test(limit=40, is_timed=True, is_by_name=True)
+@serving_test(limit=40, is_timed=True)
 def gstreamer_discovers(checks: Checks) -> None:
     if not is_here("gst-discoverer-1.0"):
         return

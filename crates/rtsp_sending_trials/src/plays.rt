@@ -4,6 +4,7 @@ ghost use Rattle.std.specs.Prelude.{◌≡◌};
 ghost use Rattle.rtsp_book.specs.Replies.{IsAskable};
 ghost use Rattle.rtsp_lock.specs.Calls.{IsSeatOf, SameSeat};
 
+use crate::hearing::{GOODBYE, Heard, Player, hear};
 use crate::pairs_and_files::free_port;
 use crate::sockets::connection;
 use rtsp_book::{ChannelHold, Commit, Life, Play, Step};
@@ -12,16 +13,18 @@ use rtsp_engine::{Binder, Plays};
 use rtsp_lock::{BookLock, BookSeat, open};
 use rtsp_pacing::{Bells, NotedPlays, Paced, PacerParts, PacerPlays, pace};
 use rtsp_record::{Id, Stream, Whole};
-use rtsp_sockets::{Media, Outlets, PortBinder, PortTable};
+use rtsp_sockets::{Media, Outlet, Outlets, PortBinder, PortTable};
 use std::alloc::AllocError;
-use std::io::Read;
-use std::net::{Ipv4Addr, TcpStream, UdpSocket};
+use std::net::{Ipv4Addr, Net, UdpSocket};
+use std::process::Abort;
 use std::rt::Clock;
 use std::sync::{Arc, Wait};
 use std::test::Fail;
 use std::thread::Threads;
 use std::time::{Duration, Instant};
 use std::{fs, io, thread};
+
+const GSTREAMER: &str = "players = \"gstreamer\"\n";
 
 // What follows the line of the players in a configuration.
 const TONE: &str = "\
@@ -43,31 +46,6 @@ octets = 2
 ticks = 160
 file = \"rtsp_sending_plays.raw\"
 ";
-
-// A report without blocks, the canonical name and the goodbye of the source 7.
-const GOODBYE: [u8; 32] = [
-    0x80, 201, 0, 1, 0, 0, 0, 7, 0x81, 202, 0, 3, 0, 0, 0, 7, 1, 5, b'r', b't', b's', b'p', b'd',
-    0, 0x81, 203, 0, 1, 0, 0, 0, 7,
-];
-
-// What came of a play: the last bytes of its packets, how many bytes the report has, and RTCP.
-#[derive(Clone, Copy)]
-struct Heard {
-    units: [[u8; 2]; 8],
-    seqs: [u8; 8],
-    report: usize,
-    control: Option<[u8; 32]>,
-}
-
-// Where a player receives.
-#[derive(Drop)]
-struct Player {
-    rtp: UdpSocket,
-    rtcp: UdpSocket,
-    connection: TcpStream,
-    // Whether its packets are to come over the connection.
-    is_interleaved: bool,
-}
 
 // Does a step of the session 2.
 fn act<R: Wait>(rt: &R, lock: &BookLock, seat: &mut BookSeat, step: &Step) -> bool
@@ -179,61 +157,6 @@ fn begin<R: Wait>(
         )
 }
 
-// Receives a packet of the track, which has 14 bytes. Whether there was one.
-fn receive(player: &Player, packet: &mut [u8; 14]) -> bool {
-    if !player.is_interleaved {
-        return matches!(player.rtp.recv(packet), Ok(14));
-    }
-    let mut head = [0; 4];
-    let mut from = &player.connection;
-    from.read_exact(&mut head).is_ok()
-        && head == [0x24, 0, 0, 14]
-        && from.read_exact(packet).is_ok()
-}
-
-// Receives a packet of RTCP, if one comes.
-fn receive_control(player: &Player) -> Option<[u8; 32]> {
-    let mut packet = [0; 32];
-    if !player.is_interleaved {
-        return match player.rtcp.recv(&mut packet) {
-            Ok(32) => Some(packet),
-            Ok(_) | Err(_) => None,
-        };
-    }
-    let mut head = [0; 4];
-    let mut from = &player.connection;
-    from.read_exact(&mut head).ok()?;
-    from.read_exact(&mut packet).ok()?;
-    if head == [0x24, 1, 0, 32] {
-        Some(packet)
-    } else {
-        None
-    }
-}
-
-// Receives the packets, the report and RTCP, and ends the pacer.
-fn hear<R: Wait>(rt: &R, bells: &Bells, player: &Player) -> Heard {
-    let mut heard = Heard {
-        units: [[0; 2]; 8],
-        seqs: [0; 8],
-        report: 0,
-        control: None,
-    };
-    let mut packet = [0; 14];
-    for place in 0..8usize {
-        if receive(player, &mut packet) {
-            heard.units[place] = [packet[12], packet[13]];
-            heard.seqs[place] = packet[3];
-        }
-    }
-    let mut from = &player.connection;
-    let mut report = [0; 1_000];
-    heard.report = from.read(&mut report).unwrap_or(0);
-    heard.control = receive_control(player);
-    bells.stop(rt);
-    heard
-}
-
 // Runs a pacer beside a player.
 fn run<'a, R: Threads + Wait + Clock + AllocGlobal + Sync>(
     rt: &'a R,
@@ -288,11 +211,52 @@ fn hand_over<R: Wait + AllocGlobal>(rt: &R, bells: &Bells, conn: u64) -> Result<
     Ok(())
 }
 
-// Plays the track to a player of these players, and gives what came of it.
-fn played(rt: &HostRuntime, players: &str, is_interleaved: bool) -> Result<(Paced, Heard), Fail> {
-    let table = table_of(rt, players)?;
-    let files = files_of(rt, &table)?;
-    let pair = free_port(rt)?;
+// What a play is made with: a configuration with its file, a free pair of ports, and a player with
+// its connection.
+#[derive(Drop)]
+struct Scene {
+    table: Table,
+    files: Media,
+    pair: u16,
+    player: Player,
+    outlet: Outlet,
+}
+
+impl Scene {
+    // That of a configuration whose players are named by this line.
+    fn of(rt: &HostRuntime, players: &str, is_interleaved: bool) -> Result<Scene, Fail> {
+        let table = table_of(rt, players)?;
+        let files = files_of(rt, &table)?;
+        let (connection, outlet) = connection(rt, rt.alloc())?;
+        connection.set_read_timeout(Some(Duration::from_secs(5)))?;
+        let player = Player {
+            rtp: receiver(rt, 5)?,
+            rtcp: receiver(rt, 1)?,
+            connection,
+            is_interleaved,
+        };
+        Ok(Scene {
+            table,
+            files,
+            pair: free_port(rt)?,
+            player,
+            outlet,
+        })
+    }
+}
+
+// Plays the track, and gives what came of it.
+fn played<R: Threads + Wait + Net + Clock + Abort + AllocGlobal + Sync>(
+    rt: &R,
+    scene: Scene,
+) -> Result<(Paced, Heard), Fail> {
+    let Scene {
+        table,
+        files,
+        pair,
+        player,
+        outlet,
+    } = scene;
     let whole = Whole {
         first_port: pair,
         pairs: 1,
@@ -302,35 +266,16 @@ fn played(rt: &HostRuntime, players: &str, is_interleaved: bool) -> Result<(Pace
     };
     let (lock, mut seat) = open(rt.alloc(), &whole)?;
     let ports = PortTable::open(rt.alloc(), pair, 1)?;
-    assert!(rt;
-        PortBinder::new(rt, &ports, Ipv4Addr::LOCALHOST)
-            .bind(3, pair)
-            .is_ok()
-    );
-    let (connection, outlet) = connection(rt, rt.alloc())?;
-    connection.set_read_timeout(Some(Duration::from_secs(5)))?;
-    let player = Player {
-        rtp: receiver(rt, 5)?,
-        rtcp: receiver(rt, 1)?,
-        connection,
-        is_interleaved,
-    };
+    let mut binder = PortBinder::new(rt, &ports, Ipv4Addr::LOCALHOST);
+    assert!(rt; binder.bind(3, pair).is_ok());
     let begun = Instant::now(rt)?;
-    assert!(rt;
-        begin(
-            rt,
-            &lock,
-            &mut seat,
-            pair,
-            stream_to(&player)?,
-            is_interleaved
-        )
-    );
-    let outlet = Arc::new(rt.alloc(), outlet)?;
+    let stream = stream_to(&player)?;
+    let is_begun = begin(rt, &lock, &mut seat, pair, stream, player.is_interleaved);
+    assert!(rt; is_begun);
     let bells = Bells::new(rt.alloc(), 1, 4)?;
     hand_over(rt, &bells, 1)?;
     let outlets = Outlets::new(rt.alloc());
-    outlets.insert(rt, 1, outlet)?;
+    outlets.insert(rt, 1, Arc::new(rt.alloc(), outlet)?)?;
     let Some(bell) = bells.of(2) else {
         panic!(rt; "there is a pacer")
     };
@@ -349,7 +294,7 @@ fn played(rt: &HostRuntime, players: &str, is_interleaved: bool) -> Result<(Pace
 
 #[test]
 fn a_play_is_sent_and_reported(rt: HostRuntime) -> Result<(), Fail> {
-    let (paced, heard) = played(&rt, "", false)?;
+    let (paced, heard) = played(&rt, Scene::of(&rt, "", false)?)?;
     assert!(rt; is_whole(&heard) && is_done(&paced));
     assert!(rt; heard.control.is_none());
     Ok(())
@@ -357,7 +302,7 @@ fn a_play_is_sent_and_reported(rt: HostRuntime) -> Result<(), Fail> {
 
 #[test]
 fn a_play_of_gstreamer_says_goodbye(rt: HostRuntime) -> Result<(), Fail> {
-    let (paced, heard) = played(&rt, "players = \"gstreamer\"\n", false)?;
+    let (paced, heard) = played(&rt, Scene::of(&rt, GSTREAMER, false)?)?;
     assert!(rt; is_whole(&heard) && is_done(&paced));
     assert!(rt; heard.control == Some(GOODBYE));
     Ok(())
@@ -365,7 +310,7 @@ fn a_play_of_gstreamer_says_goodbye(rt: HostRuntime) -> Result<(), Fail> {
 
 #[test]
 fn a_play_over_the_connection_says_goodbye(rt: HostRuntime) -> Result<(), Fail> {
-    let (paced, heard) = played(&rt, "players = \"gstreamer\"\n", true)?;
+    let (paced, heard) = played(&rt, Scene::of(&rt, GSTREAMER, true)?)?;
     assert!(rt; is_whole(&heard) && is_done(&paced));
     assert!(rt; heard.control == Some(GOODBYE));
     Ok(())
