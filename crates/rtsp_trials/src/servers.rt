@@ -1,5 +1,6 @@
 //! A server with its sockets and threads, and a player on this host.
 
+use rtsp_book::BookRep;
 use rtsp_content::Table;
 use rtsp_server::{PoolEnd, Server};
 use std::io::{Read, Write};
@@ -90,7 +91,14 @@ fn a_server_answers_three_requests(rt: HostRuntime) -> Result<(), Fail> {
     let server = Server::open(&rt, rt.alloc(), table, any, Some(1))?;
     let address = server.address();
     let (ended, said) = thread::join(&rt, || server.run(&rt), || play(&rt, address));
-    assert!(rt; ended == Ok(PoolEnd { served: 1, idle: 0 }));
-    assert!(rt; count_of(&said?, OK) == 3);
+    let said = said?;
+    let end = ended?;
+    assert!(rt; end.pool == PoolEnd { served: 1, idle: 0 });
+    let is_empty = match &end.book {
+        Some(kept) => kept.book().living() == 0,
+        None => false,
+    };
+    assert!(rt; is_empty);
+    assert!(rt; count_of(&said, OK) == 3);
     Ok(())
 }

@@ -1,6 +1,7 @@
 //! Conversations over one who lets the player's address have so many sessions.
 
 use crate::world::tone;
+use rtsp_content::Table;
 use rtsp_engine::{Asker, Connection, Desk, ShareSpent, Shares};
 use rtsp_lock::open;
 use rtsp_server::whole_of;
@@ -78,11 +79,11 @@ struct Left {
 // session is free again.
 fn converse<R: AllocGlobal + Wait + Abort>(
     rt: &R,
+    table: &Table,
     places: u32,
     exchanges: &[(&str, &str)],
 ) -> Result<Left, Fail> {
-    let table = tone(rt)?;
-    let whole = whole_of(&table);
+    let whole = whole_of(table);
     let (lock, mut seat) = open(rt.alloc(), &whole)?;
     let mut binder = PortSet::open(rt.alloc(), whole.first_port, whole.pairs)?;
     let mut share = Share {
@@ -103,7 +104,7 @@ fn converse<R: AllocGlobal + Wait + Abort>(
             clock: &mut StandingClock,
             plays: &mut NoPlays,
             shares: &mut share,
-            table: &table,
+            table,
             asker: Asker {
                 conn: 1,
                 peer: 0x7f00_0001,
@@ -127,8 +128,8 @@ fn converse<R: AllocGlobal + Wait + Abort>(
 
 #[test]
 fn a_setup_beyond_the_share_does_nothing(rt: HostRuntime) -> Result<(), Fail> {
-    let one = converse(&rt, 1, &[(SETUP, SETUP_ANSWER)])?;
-    let two = converse(&rt, 1, &[(SETUP, SETUP_ANSWER), (SETUP, REFUSED)])?;
+    let one = converse(&rt, &tone(&rt)?, 1, &[(SETUP, SETUP_ANSWER)])?;
+    let two = converse(&rt, &tone(&rt)?, 1, &[(SETUP, SETUP_ANSWER), (SETUP, REFUSED)])?;
     assert!(rt; two.entries == one.entries);
     assert!(rt; two.share.held == 1 && two.share.refusals == 1);
     assert!(rt; one.share.opened == Some(1) && two.share.opened == Some(1));
@@ -145,7 +146,7 @@ fn a_further_track_takes_no_place(rt: HostRuntime) -> Result<(), Fail> {
         (TEARDOWN, "RTSP/2.0 200 OK\r\nCSeq: 3\r\n"),
         (SETUP, NEXT_ANSWER),
     ];
-    let left = converse(&rt, 1, exchanges.as_slice())?;
+    let left = converse(&rt, &tone(&rt)?, 1, exchanges.as_slice())?;
     assert!(rt; left.share.held == 1 && left.share.refusals == 1);
     assert!(rt; left.share.opened == Some(4));
     Ok(())
@@ -159,7 +160,7 @@ fn a_refused_admission_gives_its_place_back(rt: HostRuntime) -> Result<(), Fail>
         (FURTHER, FURTHER_ANSWER),
         (SETUP, "RTSP/2.0 453 Not Enough Bandwidth\r\nCSeq: 1\r\n"),
     ];
-    let left = converse(&rt, 2, exchanges.as_slice())?;
+    let left = converse(&rt, &tone(&rt)?, 2, exchanges.as_slice())?;
     assert!(rt; left.share.held == 1 && left.share.refusals == 0);
     assert!(rt; left.share.opened.is_none());
     Ok(())
