@@ -45,6 +45,7 @@ impl PacerPlays {
     pub(crate) fn take(&mut self, play: PacedPlay) -> Option<usize>
         ensures taken { HasRoom self.old 1 → IsSome result }
         ensures kept { IfSome result (λ key. get self.new.plays key ≡ Some (record { play = play; before = None })) }
+        ensures new { IfSome result (λ key. get self.old.plays key ≡ None) }
         ensures others { IfSome result (λ key. KeepsOthers self.old key self.new) }
         ensures room { (n : ℕ) → HasRoom self.old (n + 1) → HasRoom self.new n }
     {
