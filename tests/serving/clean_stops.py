@@ -11,7 +11,7 @@ from typing import Iterator, List
 from checks import Checks
 from rtsp_client.connection import Refused
 from rtsp_client.messages import written
-from rtsp_client.player import Way
+from rtsp_client.player import Player, Way
 
 from .plays import set_up_all
 from .runner import serving_test
@@ -20,8 +20,8 @@ from .server import Presentation, Server, is_free
 LONG = Presentation(units=3000)
 OPTIONS = written("OPTIONS * RTSP/2.0", [("CSeq", "7")])
 WITHIN = 3.0
-# So many requests are sent on one connection before the server is asked to end, all of which are in its hand then.
-PIPELINED = 2_000
+# So many requests are sent on one connection before the server is asked to end. The system takes all of them at once.
+PIPELINED = 500
 
 
 def is_hung_up(talk: socket.socket) -> bool:
@@ -36,9 +36,21 @@ def is_hung_up(talk: socket.socket) -> bool:
     return True
 
 
+def can_listen(port: int) -> bool:
+    """Whether another server can listen there, though connections of the last one may not be forgotten yet."""
+    with socket.socket() as tried:
+        tried.setsockopt(socket.SOL_SOCKET, socket.SO_REUSEADDR, 1)
+        try:
+            tried.bind(("127.0.0.1", port))
+            tried.listen()
+        except OSError:
+            return False
+    return True
+
+
 def ports_of(server: Server) -> Iterator[bool]:
     """Whether each port that the server had can be bound."""
-    yield is_free(socket.SOCK_STREAM, server.port)
+    yield can_listen(server.port)
     for port in range(server.first_port, server.first_port + 2 * server.pairs):
         yield is_free(socket.SOCK_DGRAM, port)
 
@@ -49,6 +61,14 @@ def ends_cleanly(checks: Checks, server: Server, within: float = WITHIN) -> None
     took = time.monotonic() - began
     checks.that(f"it ends within {within} s", took <= within, took)
     checks.that("its ports can be bound at once", all(ports_of(server)))
+
+
+def is_refused(player: Player) -> bool:
+    try:
+        player.tear_down()
+    except (Refused, OSError):
+        return True
+    return False
 
 
 def stops(checks: Checks, asked: signal.Signals) -> None:
@@ -71,11 +91,8 @@ def stops(checks: Checks, asked: signal.Signals) -> None:
             checks.that(f"{name} is hung up", is_hung_up(talk))
         ends_cleanly(checks, server)
         for player in players:
-            try:
-                player.teardown()
-                checks.that("a player's connection is hung up", False)
-            except (Refused, OSError):
-                pass
+            checks.that("a player's connection is hung up", is_refused(player))
+            player.close()
 
 
 @serving_test(limit=30, is_timed=True)
