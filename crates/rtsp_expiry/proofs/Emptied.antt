@@ -51,9 +51,9 @@ one_more actor old h s made was answers =
     let e = of_answer h.whole h.journal s made answers in
     let before = flat_map ended was.sessions in
     let all : flat_map ended (was.sessions ++ (s, e.session) ∷ []) ≡ before ++ made =
-        flat_map-append ended was.sessions ((s, e.session) ∷ []) ∙ ap (λ (l : List Record). before ++ l) (append-nil (ending s e.session) ∙ sym e.made_is) in
+    flat_map-append ended was.sessions ((s, e.session) ∷ []) ∙ ap (λ (l : List Record). before ++ l) (append-nil (ending s e.session) ∙ sym e.made_is) in
     let joined : (old.journal ++ entries_by actor before) ++ entries_by actor made ≡ old.journal ++ entries_by actor (before ++ made) =
-        append_assoc old.journal (entries_by actor before) (entries_by actor made) ∙ ap (λ (l : List Entry). old.journal ++ l) (sym (map-append _ before made)) in
+    append_assoc old.journal (entries_by actor before) (entries_by actor made) ∙ ap (λ (l : List Entry). old.journal ++ l) (sym (map-append _ before made)) in
     record {
       sessions = was.sessions ++ (s, e.session) ∷ [];
       noted = ap (λ (g : History). extended g actor made) was.noted ∙ ap (λ (j : List Entry). history old.whole j old.next old.rounds) joined ∙ ap (λ (l : List Record). extended old actor l) (sym all);

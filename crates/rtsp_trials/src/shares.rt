@@ -129,7 +129,12 @@ fn converse<R: AllocGlobal + Wait + Abort>(
 #[test]
 fn a_setup_beyond_the_share_does_nothing(rt: HostRuntime) -> Result<(), Fail> {
     let one = converse(&rt, &tone(&rt)?, 1, &[(SETUP, SETUP_ANSWER)])?;
-    let two = converse(&rt, &tone(&rt)?, 1, &[(SETUP, SETUP_ANSWER), (SETUP, REFUSED)])?;
+    let two = converse(
+        &rt,
+        &tone(&rt)?,
+        1,
+        &[(SETUP, SETUP_ANSWER), (SETUP, REFUSED)],
+    )?;
     assert!(rt; two.entries == one.entries);
     assert!(rt; two.share.held == 1 && two.share.refusals == 1);
     assert!(rt; one.share.opened == Some(1) && two.share.opened == Some(1));

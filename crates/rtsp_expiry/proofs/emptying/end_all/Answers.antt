@@ -22,8 +22,8 @@ returns-clause-nobody g c =
     elim c.match-next.branch [
       | in-None w ↦ let goes_on : false ≡ true = w.in-None.ensures.steps in absurd cc
       | in-Some+in-None-next_session w ↦
-        let none = sym w.next_session.ensures ∙ w.in-None-next_session.is in
-        nobody (book_of c.loop.kept.journal) (subst (λ (b : Book). first_from 0 (entries b) ≡ None) w.book.ensures.contents none)
+          let none = sym w.next_session.ensures ∙ w.in-None-next_session.is in
+          nobody (book_of c.loop.kept.journal) (subst (λ (b : Book). first_from 0 (entries b) ≡ None) w.book.ensures.contents none)
     ]
 
 pub returns-clause-ends : goal.returns-clause-ends
