@@ -315,7 +315,7 @@ fn names_the_fault(rt: HostRuntime) -> Result<(), AllocError> {
     Ok(())
 }
 
-const LIMITS: [(&str, &str, &str); 50] = [
+const LIMITS: [(&str, &str, &str); 54] = [
     (
         "first_port = 5000",
         "first_port = 1024",
