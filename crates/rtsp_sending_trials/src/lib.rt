@@ -3,8 +3,6 @@
 #![tactic(auto)]
 
 #[cfg(test)]
-mod hearing;
-#[cfg(test)]
 mod outlets;
 #[cfg(test)]
 mod pairs_and_files;

@@ -4,19 +4,18 @@ ghost use Rattle.std.specs.Prelude.{◌≡◌};
 ghost use Rattle.rtsp_book.specs.Replies.{IsAskable};
 ghost use Rattle.rtsp_lock.specs.Calls.{IsSeatOf, SameSeat};
 
-use crate::hearing::{GOODBYE, Heard, Player, hear};
 use crate::pairs_and_files::free_port;
 use crate::sockets::connection;
-use rtsp_book::{ChannelHold, Commit, Life, Play, Step};
+use rtsp_book::{Commit, Life, Play, Step};
 use rtsp_content::Table;
 use rtsp_engine::{Binder, Plays};
 use rtsp_lock::{BookLock, BookSeat, open};
 use rtsp_pacing::{Bells, NotedPlays, Paced, PacerParts, PacerPlays, pace};
 use rtsp_record::{Id, Stream, Whole};
-use rtsp_sockets::{Media, Outlet, Outlets, PortBinder, PortTable};
+use rtsp_sockets::{Media, Outlets, PortBinder, PortTable};
 use std::alloc::AllocError;
-use std::net::{Ipv4Addr, Net, UdpSocket};
-use std::process::Abort;
+use std::io::Read;
+use std::net::{Ipv4Addr, TcpStream, UdpSocket};
 use std::rt::Clock;
 use std::sync::{Arc, Wait};
 use std::test::Fail;
@@ -24,10 +23,8 @@ use std::thread::Threads;
 use std::time::{Duration, Instant};
 use std::{fs, io, thread};
 
-const GSTREAMER: &str = "players = \"gstreamer\"\n";
-
-// What follows the line of the players in a configuration.
 const TONE: &str = "\
+[server]
 first_port = 5000
 pairs = 1
 uplink = 160000
@@ -47,6 +44,14 @@ ticks = 160
 file = \"rtsp_sending_plays.raw\"
 ";
 
+// What came of a play: the last bytes of its packets, and how many bytes the report has.
+#[derive(Clone, Copy)]
+struct Heard {
+    units: [[u8; 2]; 8],
+    seqs: [u8; 8],
+    report: usize,
+}
+
 // Does a step of the session 2.
 fn act<R: Wait>(rt: &R, lock: &BookLock, seat: &mut BookSeat, step: &Step) -> bool
     requires own { IsSeatOf seat.old lock.now }
@@ -56,61 +61,8 @@ fn act<R: Wait>(rt: &R, lock: &BookLock, seat: &mut BookSeat, step: &Step) -> bo
     seat.act(rt, lock, step).is_ok()
 }
 
-// The stream of a player's ports.
-fn stream_to(player: &Player) -> io::Result<Stream> {
-    Ok(Stream {
-        presentation: 0,
-        track: 0,
-        ssrc: 7,
-        seq: 250,
-        rtptime: 0,
-        peer: 0x7f00_0001,
-        rtp_port: player.rtp.local_addr()?.port(),
-        rtcp_port: player.rtcp.local_addr()?.port(),
-    })
-}
-
-// Holds a pair of ports for the track, or the first channels of the connection 1.
-fn hold_address<R: Wait>(
-    rt: &R,
-    lock: &BookLock,
-    seat: &mut BookSeat,
-    pair: u16,
-    is_interleaved: bool,
-) -> bool
-    requires { IsSeatOf seat.old lock.now }
-    ensures { SameSeat seat.old seat.new }
-{
-    if is_interleaved {
-        let hold = ChannelHold {
-            session: 2,
-            admission: 3,
-            conn: 1,
-            wish: None,
-        };
-        return act(rt, lock, seat, &Step::HoldChan(hold));
-    }
-    act(
-        rt,
-        lock,
-        seat,
-        &Step::HoldPair {
-            session: 2,
-            admission: 3,
-            from: u32::from(pair),
-        },
-    )
-}
-
-// Sets the track up, and begins its play at moment 0.
-fn begin<R: Wait>(
-    rt: &R,
-    lock: &BookLock,
-    seat: &mut BookSeat,
-    pair: u16,
-    stream: Stream,
-    is_interleaved: bool,
-) -> bool
+// Sets the track up over a pair of ports, and begins its play at moment 0.
+fn begin<R: Wait>(rt: &R, lock: &BookLock, seat: &mut BookSeat, pair: u16, player: u16) -> bool
     requires { IsSeatOf seat.old lock.now }
     ensures { SameSeat seat.old seat.new }
 {
@@ -119,6 +71,16 @@ fn begin<R: Wait>(
         id: Id::new(2),
         conn: 1,
         expires: 60_000,
+    };
+    let stream = Stream {
+        presentation: 0,
+        track: 0,
+        ssrc: 7,
+        seq: 250,
+        rtptime: 0,
+        peer: 0x7f00_0001,
+        rtp_port: player,
+        rtcp_port: player.saturating_add(1),
     };
     act(rt, lock, seat, &Step::Open(life))
         && act(
@@ -131,7 +93,16 @@ fn begin<R: Wait>(
                 bits: 16_800,
             },
         )
-        && hold_address(rt, lock, seat, pair, is_interleaved)
+        && act(
+            rt,
+            lock,
+            seat,
+            &Step::HoldPair {
+                session: 2,
+                admission: 3,
+                from: u32::from(pair),
+            },
+        )
         && act(
             rt,
             lock,
@@ -157,6 +128,26 @@ fn begin<R: Wait>(
         )
 }
 
+// Receives the packets and the report, and ends the pacer.
+fn hear<R: Wait>(rt: &R, bells: &Bells, media: &UdpSocket, player: &TcpStream) -> Heard {
+    let mut heard = Heard {
+        units: [[0; 2]; 8],
+        seqs: [0; 8],
+        report: 0,
+    };
+    let mut packet = [0; 100];
+    for place in 0..8usize {
+        if let Ok(14) = media.recv(&mut packet) {
+            heard.units[place] = [packet[12], packet[13]];
+            heard.seqs[place] = packet[3];
+        }
+    }
+    let mut from = player;
+    heard.report = from.read(&mut packet).unwrap_or(0);
+    bells.stop(rt);
+    heard
+}
+
 // Runs a pacer beside a player.
 fn run<'a, R: Threads + Wait + Clock + AllocGlobal + Sync>(
     rt: &'a R,
@@ -164,7 +155,8 @@ fn run<'a, R: Threads + Wait + Clock + AllocGlobal + Sync>(
     seat: BookSeat,
     plays: PacerPlays,
     bells: &Bells,
-    player: &Player,
+    media: &UdpSocket,
+    player: &TcpStream,
 ) -> (Paced, Heard)
     requires { IsSeatOf seat parts.lock.now }
 {
@@ -173,7 +165,7 @@ fn run<'a, R: Threads + Wait + Clock + AllocGlobal + Sync>(
         move || -> Paced
             requires { IsSeatOf seat parts.lock.now }
         { pace(rt, rt.alloc(), parts, seat, plays) },
-        || hear(rt, bells, player),
+        || hear(rt, bells, media, player),
     )
 }
 
@@ -186,20 +178,11 @@ fn files_of(rt: &HostRuntime, table: &Table) -> Result<Media, Fail> {
     Ok(files)
 }
 
-// A player's socket, of which nothing is heard after so many seconds.
-fn receiver(rt: &HostRuntime, seconds: u64) -> io::Result<UdpSocket> {
+// A player's socket.
+fn receiver(rt: &HostRuntime) -> io::Result<UdpSocket> {
     let socket = UdpSocket::bind(rt, "127.0.0.1:0")?;
-    socket.set_read_timeout(Some(Duration::from_secs(seconds)))?;
+    socket.set_read_timeout(Some(Duration::from_secs(5)))?;
     Ok(socket)
-}
-
-// A configuration whose players are named by this line.
-fn table_of(rt: &HostRuntime, players: &str) -> Result<Table, Fail> {
-    let mut text = Vec::new(rt.alloc());
-    text.extend_from_slice(b"[server]\n")?;
-    text.extend_from_slice(players.as_bytes())?;
-    text.extend_from_slice(TONE.as_bytes())?;
-    Ok(Table::read(rt.alloc(), text.as_slice())?)
 }
 
 // Hands the play of the session over to the pacers.
@@ -211,52 +194,11 @@ fn hand_over<R: Wait + AllocGlobal>(rt: &R, bells: &Bells, conn: u64) -> Result<
     Ok(())
 }
 
-// What a play is made with: a configuration with its file, a free pair of ports, and a player with
-// its connection.
-#[derive(Drop)]
-struct Scene {
-    table: Table,
-    files: Media,
-    pair: u16,
-    player: Player,
-    outlet: Outlet,
-}
-
-impl Scene {
-    // That of a configuration whose players are named by this line.
-    fn of(rt: &HostRuntime, players: &str, is_interleaved: bool) -> Result<Scene, Fail> {
-        let table = table_of(rt, players)?;
-        let files = files_of(rt, &table)?;
-        let (connection, outlet) = connection(rt, rt.alloc())?;
-        connection.set_read_timeout(Some(Duration::from_secs(5)))?;
-        let player = Player {
-            rtp: receiver(rt, 5)?,
-            rtcp: receiver(rt, 1)?,
-            connection,
-            is_interleaved,
-        };
-        Ok(Scene {
-            table,
-            files,
-            pair: free_port(rt)?,
-            player,
-            outlet,
-        })
-    }
-}
-
-// Plays the track, and gives what came of it.
-fn played<R: Threads + Wait + Net + Clock + Abort + AllocGlobal + Sync>(
-    rt: &R,
-    scene: Scene,
-) -> Result<(Paced, Heard), Fail> {
-    let Scene {
-        table,
-        files,
-        pair,
-        player,
-        outlet,
-    } = scene;
+#[test]
+fn a_play_is_sent_and_reported(rt: HostRuntime) -> Result<(), Fail> {
+    let table = Table::read(rt.alloc(), TONE.as_bytes())?;
+    let files = files_of(&rt, &table)?;
+    let pair = free_port(&rt)?;
     let whole = Whole {
         first_port: pair,
         pairs: 1,
@@ -266,16 +208,21 @@ fn played<R: Threads + Wait + Net + Clock + Abort + AllocGlobal + Sync>(
     };
     let (lock, mut seat) = open(rt.alloc(), &whole)?;
     let ports = PortTable::open(rt.alloc(), pair, 1)?;
-    let mut binder = PortBinder::new(rt, &ports, Ipv4Addr::LOCALHOST);
-    assert!(rt; binder.bind(3, pair).is_ok());
-    let begun = Instant::now(rt)?;
-    let stream = stream_to(&player)?;
-    let is_begun = begin(rt, &lock, &mut seat, pair, stream, player.is_interleaved);
-    assert!(rt; is_begun);
+    assert!(rt;
+        PortBinder::new(&rt, &ports, Ipv4Addr::LOCALHOST)
+            .bind(3, pair)
+            .is_ok()
+    );
+    let media = receiver(&rt)?;
+    let begun = Instant::now(&rt)?;
+    assert!(rt; begin(&rt, &lock, &mut seat, pair, media.local_addr()?.port()));
+    let (player, outlet) = connection(&rt, rt.alloc())?;
+    player.set_read_timeout(Some(Duration::from_secs(5)))?;
+    let outlet = Arc::new(rt.alloc(), outlet)?;
     let bells = Bells::new(rt.alloc(), 1, 4)?;
-    hand_over(rt, &bells, 1)?;
+    hand_over(&rt, &bells, 1)?;
     let outlets = Outlets::new(rt.alloc());
-    outlets.insert(rt, 1, Arc::new(rt.alloc(), outlet)?)?;
+    outlets.insert(&rt, 1, outlet)?;
     let Some(bell) = bells.of(2) else {
         panic!(rt; "there is a pacer")
     };
@@ -289,30 +236,8 @@ fn played<R: Threads + Wait + Net + Clock + Abort + AllocGlobal + Sync>(
         begun,
     };
     let plays = PacerPlays::open(rt.alloc(), 4)?;
-    Ok(run(rt, parts, seat, plays, &bells, &player))
-}
-
-#[test]
-fn a_play_is_sent_and_reported(rt: HostRuntime) -> Result<(), Fail> {
-    let (paced, heard) = played(&rt, Scene::of(&rt, "", false)?)?;
+    let (paced, heard) = run(&rt, parts, seat, plays, &bells, &media, &player);
     assert!(rt; is_whole(&heard) && is_done(&paced));
-    assert!(rt; heard.control.is_none());
-    Ok(())
-}
-
-#[test]
-fn a_play_of_gstreamer_says_goodbye(rt: HostRuntime) -> Result<(), Fail> {
-    let (paced, heard) = played(&rt, Scene::of(&rt, GSTREAMER, false)?)?;
-    assert!(rt; is_whole(&heard) && is_done(&paced));
-    assert!(rt; heard.control == Some(GOODBYE));
-    Ok(())
-}
-
-#[test]
-fn a_play_over_the_connection_says_goodbye(rt: HostRuntime) -> Result<(), Fail> {
-    let (paced, heard) = played(&rt, Scene::of(&rt, GSTREAMER, true)?)?;
-    assert!(rt; is_whole(&heard) && is_done(&paced));
-    assert!(rt; heard.control == Some(GOODBYE));
     Ok(())
 }
 
@@ -321,7 +246,9 @@ fn is_whole(heard: &Heard) -> bool {
     let units = [
         *b"aa", *b"bb", *b"cc", *b"dd", *b"ee", *b"ff", *b"gg", *b"hh",
     ];
-    heard.units == units && heard.seqs == [250, 251, 252, 253, 254, 255, 0, 1] && heard.report > 100
+    heard.units == units
+        && heard.seqs == [250, 251, 252, 253, 254, 255, 0, 1]
+        && heard.report == 100
 }
 
 fn is_done(paced: &Paced) -> bool {
