@@ -315,7 +315,7 @@ fn names_the_fault(rt: HostRuntime) -> Result<(), AllocError> {
     Ok(())
 }
 
-const LIMITS: [(&str, &str, &str); 54] = [
+const LIMITS: [(&str, &str, &str); 50] = [
     (
         "first_port = 5000",
         "first_port = 1024",
@@ -358,26 +358,6 @@ const LIMITS: [(&str, &str, &str); 54] = [
     ("timeout = 60", "journal = 1000000", "journal = 1000001"),
     ("timeout = 60", "workers = 1", "workers = 0"),
     ("timeout = 60", "workers = 64", "workers = 65"),
-    (
-        "timeout = 60",
-        "sessions_per_address = 1",
-        "sessions_per_address = 0",
-    ),
-    (
-        "timeout = 60",
-        "sessions_per_address = 4",
-        "sessions_per_address = 5",
-    ),
-    (
-        "timeout = 60",
-        "connections_per_address = 1",
-        "connections_per_address = 0",
-    ),
-    (
-        "timeout = 60",
-        "connections_per_address = 16384",
-        "connections_per_address = 16385",
-    ),
     ("timeout = 60", "colour = \"red\"", "timeout = \"60\""),
     (
         "timeout = 60",
@@ -448,6 +428,30 @@ const LIMITS: [(&str, &str, &str); 54] = [
     ("\"a\"", "\"tone\"", "\"A\""),
 ];
 
+// Those of the shares by address.
+const SHARES: [(&str, &str, &str); 4] = [
+    (
+        "timeout = 60",
+        "sessions_per_address = 1",
+        "sessions_per_address = 0",
+    ),
+    (
+        "timeout = 60",
+        "sessions_per_address = 4",
+        "sessions_per_address = 5",
+    ),
+    (
+        "timeout = 60",
+        "connections_per_address = 1",
+        "connections_per_address = 0",
+    ),
+    (
+        "timeout = 60",
+        "connections_per_address = 16384",
+        "connections_per_address = 16385",
+    ),
+];
+
 // A part of the example may be replaced by what is good, and not by what is bad.
 fn assert_limit(
     rt: &impl Abort,
@@ -467,4 +471,12 @@ fn keeps_every_limit(rt: HostRuntime) -> Result<(), AllocError> {
     }
     let longer = format!(in rt.alloc(); "{NAME_OF_64}a")?;
     assert_limit(&rt, rt.alloc(), "tone", NAME_OF_64, longer.as_str())
+}
+
+#[test]
+fn keeps_the_limits_of_shares(rt: HostRuntime) -> Result<(), AllocError> {
+    for (old, good, bad) in SHARES {
+        assert_limit(&rt, rt.alloc(), old, good, bad)?;
+    }
+    Ok(())
 }
