@@ -24,7 +24,6 @@ mod responses;
 #[cfg(test)]
 mod servers;
 #[cfg(test)]
-mod shares;
 #[cfg(test)]
 mod state_table;
 #[cfg(test)]
