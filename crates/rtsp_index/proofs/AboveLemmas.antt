@@ -84,16 +84,16 @@ module _ (t : SessionTable) (a : Option ℕ) (i s : ℕ) (at : StandsAt t i s) w
   more : entries (sessions_of_first t (i + 1)) ≡ put nat_cmp s row.0 (entries b)
   more = ap entries row.1 ∙ entries-insert nat_cmp_total b s row.0
 
-  pub next_above : (found new : List ℕ) → is_above a s ≡ true → found ≡ take 64 (numbers_above a (entries b)) → new ≡ take 64 (inserted s found) → new ≡ take 64 (numbers_above a (entries (sessions_of_first t (i + 1))))
+  pub next_above : (found new : List ℕ) → is_above a s ≡ true → found ≡ take 256 (numbers_above a (entries b)) → new ≡ take 256 (inserted s found) → new ≡ take 256 (numbers_above a (entries (sessions_of_first t (i + 1))))
   next_above found new on before put =
       put
-      ∙ (ap (λ (l : List ℕ). take 64 (inserted s l)) before
-      ∙ (inserted_first 64 s (numbers_above a (entries b))
-      ∙ (ap (take 64) (sym (above_put a s row.0 (entries b) on))
-      ∙ ap (λ (l : List (ℕ × Session)). take 64 (numbers_above a l)) (sym more))))
+      ∙ (ap (λ (l : List ℕ). take 256 (inserted s l)) before
+      ∙ (inserted_first 256 s (numbers_above a (entries b))
+      ∙ (ap (take 256) (sym (above_put a s row.0 (entries b) on))
+      ∙ ap (λ (l : List (ℕ × Session)). take 256 (numbers_above a l)) (sym more))))
 
-  pub next_skipped : (found : List ℕ) → is_above a s ≡ false → found ≡ take 64 (numbers_above a (entries b)) → found ≡ take 64 (numbers_above a (entries (sessions_of_first t (i + 1))))
+  pub next_skipped : (found : List ℕ) → is_above a s ≡ false → found ≡ take 256 (numbers_above a (entries b)) → found ≡ take 256 (numbers_above a (entries (sessions_of_first t (i + 1))))
   next_skipped found off before =
       before
-      ∙ (ap (take 64) (sym (below_put a s row.0 (entries b) off))
-      ∙ ap (λ (l : List (ℕ × Session)). take 64 (numbers_above a l)) (sym more))
+      ∙ (ap (take 256) (sym (below_put a s row.0 (entries b) off))
+      ∙ ap (λ (l : List (ℕ × Session)). take 256 (numbers_above a l)) (sym more))

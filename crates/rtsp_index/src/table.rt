@@ -195,10 +195,10 @@ impl SessionTable {
         least
     }
 
-    /// The least numbers of sessions above this one, or of all, at most 64. It looks at all numbers,
+    /// The least numbers of sessions above this one, or of all, at most 256. It looks at all numbers,
     /// and at no row.
     pub(crate) fn least_above(&self, above: Option<u64>, found: &mut SessionNumbers)
-        ensures { found.new ≡ take 64 (numbers_above above (entries (sessions_in self.now))) }
+        ensures { found.new ≡ take 256 (numbers_above above (entries (sessions_in self.now))) }
     {
         found.clear();
         for index in 0..self.places.len() {
@@ -210,8 +210,8 @@ impl SessionTable {
     // above.
     fn put_above(&self, index: usize, above: Option<u64>, found: &mut SessionNumbers)
         requires within { index < length self.now.places.entries }
-        requires before { found.old ≡ take 64 (numbers_above above (entries (sessions_of_first self.now index))) }
-        ensures { found.new ≡ take 64 (numbers_above above (entries (sessions_of_first self.now (index + 1)))) }
+        requires before { found.old ≡ take 256 (numbers_above above (entries (sessions_of_first self.now index))) }
+        ensures { found.new ≡ take 256 (numbers_above above (entries (sessions_of_first self.now (index + 1)))) }
     {
         let number = self.number_at(index);
         if is_above(above, number) {

@@ -16,10 +16,10 @@ pub fn is_above(above: Option<u64>, number: u64) -> bool
     }
 }
 
-/// Numbers of sessions in ascending order, at most 64. It is of fixed size and takes no memory.
+/// Numbers of sessions in ascending order, at most 256. It is of fixed size and takes no memory.
 #[derive(Drop)]
 pub struct SessionNumbers {
-    numbers: ArrayVec<u64, 64>,
+    numbers: ArrayVec<u64, 256>,
 }
 
 impl Model for SessionNumbers {
@@ -53,14 +53,14 @@ impl SessionNumbers {
     /// The numbers, the least first.
     pub fn as_slice(&self) -> &[u64]
         ensures value { result.now ≡ self.now }
-        ensures short { length self.now ≤ 64 }
+        ensures short { length self.now ≤ 256 }
     {
         self.numbers.as_slice()
     }
 
-    /// Puts a number among the others, unless it is there. Of 65 the greatest goes.
+    /// Puts a number among the others, unless it is there. Of 257 the greatest goes.
     pub fn insert(&mut self, number: u64)
-        ensures { self.new ≡ take 64 (inserted number self.old) }
+        ensures { self.new ≡ take 256 (inserted number self.old) }
     {
         if self.is_beyond(number) {
             return;
@@ -71,11 +71,11 @@ impl SessionNumbers {
         }
     }
 
-    // Whether there are 64 numbers, none of which is above this one.
+    // Whether there are 256 numbers, none of which is above this one.
     fn is_beyond(&self, number: u64) -> bool
-        ensures { result ≡ true → (length self.now ≡ 64) × ((k : ℕ) → k < 64 → slice_index_or self.now k 0 ≤ number) }
+        ensures { result ≡ true → (length self.now ≡ 256) × ((k : ℕ) → k < 256 → slice_index_or self.now k 0 ≤ number) }
     {
-        self.numbers.is_full() && self.numbers.as_slice()[63] <= number
+        self.numbers.is_full() && self.numbers.as_slice()[255] <= number
     }
 
     // Puts a number before the one at this place, unless it would be the 65th.
@@ -83,28 +83,28 @@ impl SessionNumbers {
         requires within { place ≤ length self.old }
         requires before { (k : ℕ) → k < place → slice_index_or self.old k 0 < number }
         requires behind { (k : ℕ) → place ≤ k → k < length self.old → number < slice_index_or self.old k 0 }
-        ensures { self.new ≡ take 64 (insert self.old place number) }
+        ensures { self.new ≡ take 256 (insert self.old place number) }
     {
         let _len = self.numbers.len();
-        if place < 64 {
+        if place < 256 {
             self.insert_at(place, number);
         }
     }
 
-    // Puts a number before the one at this place; of 65 the last goes.
+    // Puts a number before the one at this place; of 257 the last goes.
     fn insert_at(&mut self, place: usize, number: u64)
-        requires within { (place ≤ length self.old) × (place < 64) }
+        requires within { (place ≤ length self.old) × (place < 256) }
         requires before { (k : ℕ) → k < place → slice_index_or self.old k 0 < number }
         requires behind { (k : ℕ) → place ≤ k → k < length self.old → number < slice_index_or self.old k 0 }
-        ensures { self.new ≡ take 64 (insert self.old place number) }
+        ensures { self.new ≡ take 256 (insert self.old place number) }
     {
         self.make_room();
         self.numbers.insert(place, number);
     }
 
-    // Leaves 63 numbers at most.
+    // Leaves 255 numbers at most.
     fn make_room(&mut self)
-        ensures { self.new ≡ take 63 self.old }
+        ensures { self.new ≡ take 255 self.old }
     {
         if self.numbers.is_full() {
             self.numbers.pop();

@@ -60,9 +60,9 @@ pub trait BookRep: Drop {
         ensures { result ≡ first_from from (entries (contents self.now)) };
 
     /// The least numbers of living sessions above this one, or of all: as many as there are, and no
-    /// more than 64. They replace those that are there.
+    /// more than 256. They replace those that are there.
     fn next_sessions(&self, above: Option<u64>, found: &mut SessionNumbers)
-        ensures { found.new ≡ take 64 (numbers_above above (entries (contents self.now))) };
+        ensures { found.new ≡ take 256 (numbers_above above (entries (contents self.now))) };
 
     /// The number of the least living session of which a SETUP is under way: under one of its
     /// admissions something is held, and no stream stands.

@@ -19,10 +19,10 @@ pub(super) fn first_from(rows: &[SessionView], from: u64) -> Option<u64>
     None
 }
 
-/// The first numbers above this one, or of all, at most 64.
+/// The first numbers above this one, or of all, at most 256.
 pub(super) fn first_above(rows: &[SessionView], above: Option<u64>, found: &mut SessionNumbers)
     requires { InOrder rows.now }
-    ensures { found.new ≡ take 64 (numbers_above above rows.now) }
+    ensures { found.new ≡ take 256 (numbers_above above rows.now) }
 {
     found.clear();
     let mut left = rows.len();

@@ -5,4 +5,4 @@ use Rattle.rtsp_index.specs.Contents.{sessions_of_first}
 use Rattle.rtsp_index.proofs.table.SessionTable.least_above.Given as goal
 
 abbrev pub invariant-loop-index : goal.invariant-loop-index
-invariant-loop-index l = l.found ≡ take 64 (numbers_above l.above (entries (sessions_of_first l.self l.index)))
+invariant-loop-index l = l.found ≡ take 256 (numbers_above l.above (entries (sessions_of_first l.self l.index)))

@@ -20,12 +20,12 @@ pub returns-in-Ok : goal.returns-in-Ok
 returns-in-Ok c =
     let now = c.args.self.now in
     let is = c.as_slice.ensures.value ∙ c.self.view_is in
-    let short : length now ≤ 64 = omega (arith, ap length is, c.as_slice.ensures.fits) in
+    let short : length now ≤ 256 = omega (arith, ap length is, c.as_slice.ensures.fits) in
     let same = there_by now c.as_slice.result.now c.args.number c.in-Ok.field-0 is (subst IsNonDecreasing c.self.view_is c.self.invariant) c.in-Ok.ensures.position in
-    sym (ap (take 64) same ∙ take_all 64 now short)
+    sym (ap (take 256) same ∙ take_all 256 now short)
 
 pub returns-in-Err : goal.returns-in-Err
 returns-in-Err c =
     let now = c.args.self.now in
     let p = placed_by now c.as_slice.result.now c.args.number c.in-Err.place (c.as_slice.ensures.value ∙ c.self.view_is) (subst IsNonDecreasing c.self.view_is c.self.invariant) c.in-Err.ensures.position in
-    c.insert_unless_last.ensures ∙ ap (take 64) (sym (inserted_at c.args.number now c.in-Err.place p.within p.before p.behind))
+    c.insert_unless_last.ensures ∙ ap (take 256) (sym (inserted_at c.args.number now c.in-Err.place p.within p.before p.behind))

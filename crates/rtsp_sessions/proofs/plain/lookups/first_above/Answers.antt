@@ -12,6 +12,6 @@ loop-left-preserved-then-is_above c =
     let next : c.loop-left.left ≡ suc i = omega (arith, c.loop-left-test.true) in
     record {
       within = omega (arith, lt);
-      found = first_more c.args.above 64 c.session-number.result c.loop-left.found c.insert.new.self rows i c.index-rows-left.result (sorted_drop rows i (holds _ c.requires)) (omega (arith, lt)) (sym c.index-rows-left.is) c.session-number.ensures (sym c.is_above.ensures ∙ c.if-is_above.true)
-          (c.loop-left.invariant.found ∙ ap (λ (k : ℕ). take 64 (numbers_above c.args.above (drop k rows))) next) c.insert.ensures;
+      found = first_more c.args.above 256 c.session-number.result c.loop-left.found c.insert.new.self rows i c.index-rows-left.result (sorted_drop rows i (holds _ c.requires)) (omega (arith, lt)) (sym c.index-rows-left.is) c.session-number.ensures (sym c.is_above.ensures ∙ c.if-is_above.true)
+          (c.loop-left.invariant.found ∙ ap (λ (k : ℕ). take 256 (numbers_above c.args.above (drop k rows))) next) c.insert.ensures;
     }
