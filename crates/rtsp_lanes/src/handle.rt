@@ -3,8 +3,9 @@
 ghost use Rattle.std.specs.Prelude.{◌≡◌, ◌⊎◌, IfSome, IfNone};
 ghost use Rattle.std.specs.Arc.{arc_value};
 ghost use Rattle.rtsp_lock.specs.Calls.{IsSeatOf, SameSeat, Looked, LookedAndMade, Drew, Forgot, Checked, Relieved, Made, seat_view};
+ghost use Rattle.rtsp_lock.specs.Tallies.{IsTallyOf};
 
-use rtsp_lock::{BookLock, BookSeat};
+use rtsp_lock::{BookLock, BookSeat, Tally};
 use std::sync::{Arc, Wait};
 
 /// A seat together with the lock that it is of. It may go to another thread.
@@ -80,5 +81,25 @@ impl BookHandle {
         ensures relieved { Relieved above result (seat_view self.old.seat) (seat_view self.new.seat) }
     {
         self.seat.relieve(rt, &self.lock, above)
+    }
+
+    /// The book's figures, all of one moment. The lock is held for a moment only.
+    pub fn tally<R: Wait>(&mut self, rt: &R) -> Tally
+        ensures same { SameSeat self.old.seat self.new.seat }
+        ensures lock { arc_value self.new.lock ≡ arc_value self.old.lock }
+        ensures looked { Looked (seat_view self.old.seat) (seat_view self.new.seat) }
+        ensures shown { IsTallyOf (seat_view self.new.seat).whole (seat_view self.new.seat).seen result }
+    {
+        self.seat.tally(rt, &self.lock)
+    }
+
+    /// From here on this handle, and each that is split off it, shortens the journal only by the
+    /// calls that are for that. See `BookSeat::keep_entries`.
+    pub fn keep_entries(&mut self)
+        ensures same { SameSeat self.old.seat self.new.seat }
+        ensures lock { self.new.lock ≡ self.old.lock }
+        ensures view { seat_view self.new.seat ≡ seat_view self.old.seat }
+    {
+        self.seat.keep_entries();
     }
 }

@@ -21,12 +21,13 @@ use Rattle.rtsp_book.proofs.LeavingOut.{either_way}
 use Rattle.rtsp_book.specs.Answers.{Answers, written, noted_by}
 use Rattle.rtsp_lock.specs.declared.view.View.{View}
 use Rattle.rtsp_lock.specs.Entries.{entries_of, OnlyOf, Later, LeftOf, IsHistoryOf}
-use Rattle.rtsp_lock.specs.Rule.{Fits, Leaves, first_view}
+use Rattle.rtsp_lock.specs.Rule.{Fits, Leaves, Abreast, first_view}
 use Rattle.rtsp_lock.specs.Steps.{Follows, holding, noting, settled, parent, child, numbers}
 use Rattle.rtsp_lock.specs.Calls.{Found, Stays, Acted, Looked, Drew, Made, Forgot}
 use Rattle.rtsp_lock.proofs.Entries.{prefix_self, later_self, left_own, left_ended, left_none, only_by}
 use Rattle.rtsp_lock.proofs.Holder.{ended_shorter}
 use Rattle.rtsp_lock.proofs.Histories.{history_more, history_ended, history_same, own_more}
+use Rattle.rtsp_lock.proofs.Abreast.{abreast_more, abreast_same, abreast_later}
 
 -- the view of a seat that is known
 pub view_is : {m m' : Me (Option History) View} → m ≡ m' → m.0 ≡ m'.0
@@ -128,8 +129,10 @@ follows_now v v' s k k' es a follows told own = record {
 }
 
 -- what stays of a seat
-pub stays : (v v' : View) (s : List Entry) (k k' : History) (es : List Entry) → After v v' s k k' es → Follows v s k.journal → IsHistoryOf v.whole (s ++ es) k'.journal → OnlyOf v.actor es → k'.whole ≡ v.whole → Lawful k' → Fits v.whole k.journal k.next k.rounds v → LeftOf (v.mine ++ es) (entries_of v.actor k'.journal) → k.next ≤ k'.next → Stays v v'
-stays v v' s k k' es a follows told own whole lawful fits left up =
+pub stays : (v v' : View) (s : List Entry) (k k' : History) (es : List Entry) → After v v' s k k' es → Follows v s k.journal → IsHistoryOf v.whole (s ++ es) k'.journal → OnlyOf v.actor es → k'.whole ≡ v.whole → Lawful k' → Fits v.whole k.journal k.next k.rounds v → LeftOf (v.mine ++ es) (entries_of v.actor k'.journal) → k.next ≤ k'.next
+    → Abreast v k'.rounds k'.journal (s ++ es)
+    → Stays v v'
+stays v v' s k k' es a follows told own whole lawful fits left up abreast =
     let same : k'.whole ≡ v'.whole = whole ∙ sym a.whole in
     let l = lawful_in v'.whole k' same lawful in
     let le = fits.next in
@@ -146,6 +149,8 @@ stays v v' s k k' es a follows told own whole lawful fits left up =
       drawn = a.drawn;
       stands = subst (λ (j : List Entry). Found v' j v'.seen_rounds) (sym a.seen) (subst (λ (q : ℕ). Found v' k'.journal q) (sym a.rounds) (record { legal = l.0; limit = l.1; later = later; mine = mine }));
       follows = follows_now v v' s k k' es a follows told own;
+      abreast = subst (λ (j : List Entry). Abreast v v'.seen_rounds j v'.history) (sym a.seen)
+          (subst (λ (q : ℕ). Abreast v q k'.journal v'.history) (sym a.rounds) (subst (λ (l : List Entry). Abreast v k'.rounds k'.journal l) (sym a.history) abreast));
     }
 
 -- what an act leaves, accepted or refused
@@ -170,6 +175,7 @@ pub record Turn (v v1 v2 v' : View) (s : List Entry) (k k' : History) : Type 0 w
   pub left : Lawful k'
   pub fits : Fits v.whole k.journal k.next k.rounds v
   pub alone : v.alone ≡ true → k.journal ≡ v.seen
+  pub abreast : Abreast v k.rounds k.journal s
 
 -- a turn in which a step was answered
 pub acts : {v v1 v2 v' : View} {s : List Entry} {k k' : History} (actor : ℕ) (step : Step) (answer : Result (List Record) Refusal) → Turn v v1 v2 v' s k k' → actor ≡ v.actor → Answers k.whole k.journal step answer → k' ≡ noted_by actor k answer → Acted v v' step answer
@@ -197,7 +203,8 @@ acts {v = v} {v1 = v1} {v2 = v2} {v' = v'} {s = s} {k = k} {k' = k'} actor step 
       mine = a.0.mine;
       drawn = a.1 ∙ (ap (λ (l : List ℕ). v.drawn ++ l) (numbers_none k.next k'.next same) ∙ append-nil v.drawn);
       alone = record { found = t.alone; still = a.0.alone };
-      stays = stays v v' s k k' es a.0 t.follows told own of t.left t.fits left (omega (arith, same));
+      stays = stays v v' s k k' es a.0 t.follows told own of t.left t.fits left (omega (arith, same))
+          (subst (λ (j : List Entry). Abreast v k'.rounds j (s ++ es)) (sym more) (abreast_more v k.rounds k'.rounds k.journal s es (ap (λ (h : History). h.rounds) leaves) t.abreast));
     }
 
 -- a book as it was, but that its next number may be greater
@@ -220,8 +227,11 @@ draw_leaves k k' (Ok n) most ok err =
 draw_leaves k k' (Err e) most ok err = record { journal = ap (λ (h : History). h.journal) err.1; whole = ap (λ (h : History). h.whole) err.1; rounds = ap (λ (h : History). h.rounds) err.1; up = let same : k'.next ≡ k.next = ap (λ (h : History). h.next) err.1 in omega (arith, same) }
 
 -- a call that leaves the journal as it is
-pub looks : (v v' : View) (s : List Entry) (k k' : History) → After v v' s k k' [] → Follows v s k.journal → k.whole ≡ v.whole → Lawful k → Lawful k' → Fits v.whole k.journal k.next k.rounds v → (v.alone ≡ true → k.journal ≡ v.seen) → Kept_as k k' → Looked v v'
-looks v v' s k k' a follows whole lawful lawful' fits alone leaves =
+pub looks : (v v' : View) (s : List Entry) (k k' : History) → After v v' s k k' [] → Follows v s k.journal → k.whole ≡ v.whole → Lawful k → Lawful k' → Fits v.whole k.journal k.next k.rounds v → (v.alone ≡ true → k.journal ≡ v.seen)
+    → Abreast v k.rounds k.journal s
+    → Kept_as k k'
+    → Looked v v'
+looks v v' s k k' a follows whole lawful lawful' fits alone abreast leaves =
     let same : v'.history ≡ s = a.history ∙ append-nil s in
     let told : IsHistoryOf v.whole (s ++ []) k'.journal = history_same v.whole s k'.journal (subst (λ (j : List Entry). IsHistoryOf v.whole s j) (sym leaves.journal) follows.is) in
     let left : LeftOf (v.mine ++ []) (entries_of v.actor k'.journal) =
@@ -233,7 +243,7 @@ looks v v' s k k' a follows whole lawful lawful' fits alone leaves =
       follows = subst (λ (l : List Entry). Follows v l k.journal) (sym same) follows;
       mine = a.mine ∙ append-nil v.mine;
       alone = record { found = alone; still = a.alone };
-      stays = stays v v' s k k' [] a follows told tt (leaves.whole ∙ whole) lawful' fits left leaves.up;
+      stays = stays v v' s k k' [] a follows told tt (leaves.whole ∙ whole) lawful' fits left leaves.up (abreast_same v k.rounds k'.rounds k.journal k'.journal s leaves.rounds leaves.journal abreast);
     }
 
 -- a turn in which ended sessions were forgotten
@@ -243,8 +253,8 @@ forgets {v = v} {v1 = v1} {v2 = v2} {v' = v'} {s = s} {k = k} {k' = k'} t is = �
     told_after : (j : List Entry) → k'.journal ≡ j → IsHistoryOf v.whole s j → IsHistoryOf v.whole (s ++ []) k'.journal
     told_after j is told = history_same v.whole s k'.journal (subst (λ (l : List Entry). IsHistoryOf v.whole s l) (sym is) told)
 
-    leave : (of : k'.whole ≡ k.whole) (next : k'.next ≡ k.next) (none : drop (length k.journal) k'.journal ≡ []) (left : LeftOf v.mine (entries_of v.actor k'.journal)) (told : IsHistoryOf v.whole (s ++ []) k'.journal) → Forgot v v'
-    leave of next none left told =
+    leave : (of : k'.whole ≡ k.whole) (next : k'.next ≡ k.next) (none : drop (length k.journal) k'.journal ≡ []) (left : LeftOf v.mine (entries_of v.actor k'.journal)) (told : IsHistoryOf v.whole (s ++ []) k'.journal) (abreast : Abreast v k'.rounds k'.journal (s ++ [])) → Forgot v v'
+    leave of next none left told abreast =
         let a = after v v' v1 v2 s k k' [] t.held t.noted t.put none in
         let whole : k'.whole ≡ v.whole = of ∙ t.whole in
         let found : history v'.whole v'.seen v'.next v'.seen_rounds ≡ k' = λ i. history ((a.0.whole ∙ sym whole) i) (a.0.seen i) (a.0.next i) (a.0.rounds i) in
@@ -258,18 +268,20 @@ forgets {v = v} {v1 = v1} {v2 = v2} {v' = v'} {s = s} {k = k} {k' = k'} t is = �
           mine = a.0.mine ∙ append-nil v.mine;
           drawn = a.1 ∙ (ap (λ (l : List ℕ). v.drawn ++ l) (numbers_none k.next k'.next next) ∙ append-nil v.drawn);
           alone = record { found = t.alone; still = a.0.alone };
-          stays = stays v v' s k k' [] a.0 t.follows told tt whole t.left t.fits (subst (λ (m : List Entry). LeftOf m (entries_of v.actor k'.journal)) (sym (append-nil v.mine)) left) (omega (arith, next));
+          stays = stays v v' s k k' [] a.0 t.follows told tt whole t.left t.fits (subst (λ (m : List Entry). LeftOf m (entries_of v.actor k'.journal)) (sym (append-nil v.mine)) left) (omega (arith, next)) abreast;
         }
 
     same : k' ≡ k → Forgot v v'
     same e =
         let journal : k'.journal ≡ k.journal = ap (λ (h : History). h.journal) e in
         leave (ap (λ (h : History). h.whole) e) (ap (λ (h : History). h.next) e) (same_is k.journal k'.journal journal) (subst (λ (j : List Entry). LeftOf v.mine (entries_of v.actor j)) (sym journal) t.fits.mine) (told_after k.journal journal t.follows.is)
+        (abreast_same v k.rounds k'.rounds k.journal k'.journal s (ap (λ (h : History). h.rounds) e) journal t.abreast)
 
     shorter : k' ≡ shortened k → Forgot v v'
     shorter e =
         let journal : k'.journal ≡ less_ended k.journal = ap (λ (h : History). h.journal) e in
         leave (ap (λ (h : History). h.whole) e) (ap (λ (h : History). h.next) e) (ended_is k.journal k'.journal journal) (subst (λ (j : List Entry). LeftOf v.mine (entries_of v.actor j)) (sym journal) (left_ended v.actor v.mine k.journal t.fits.mine)) (told_after (less_ended k.journal) journal (history_ended v.whole s k.journal t.follows.is (lawful_in v.whole k t.whole t.lawful).0))
+        (abreast_later v k.rounds k'.rounds k'.journal (s ++ []) t.fits.later.rounds (ap (λ (h : History). h.rounds) e))
 
 pub draws : (v v' v1 v2 : View) (s : List Entry) (k k' : History) (drawn : Result ℕ NumbersSpent) (most : ℕ) → v1 ≡ held_as v s k → v2 ≡ noted_as v1 k' → v' ≡ settled v2 → Fits v.whole k.journal k.next k.rounds v → k'.journal ≡ k.journal
     → IfOk drawn (λ n. (n ≡ k.next) × (n < most) × (k' ≡ record k { next = n + 1 })) → IfOk drawn (λ n. Drew v v' n)
@@ -371,11 +383,12 @@ same_leaves v v1 s k k' held same =
 pub only_looks : {v v1 v' : View} (s : List Entry) (k : History) → v1 ≡ held_as v s k → v' ≡ settled v1 → k ≡ history v.whole k.journal k.next k.rounds → IsLegal k.whole k.journal → length k.journal + owed (book_of k.journal) ≤ k.whole.journal → Fits v.whole k.journal k.next k.rounds v
     → Follows v s k.journal
     → (v.alone ≡ true → k.journal ≡ v.seen)
+    → Abreast v k.rounds k.journal s
     → Looked v v'
-only_looks {v = v} {v1 = v1} {v' = v'} s k held put value legal limit fits follows alone =
+only_looks {v = v} {v1 = v1} {v' = v'} s k held put value legal limit fits follows alone abreast =
     let a = after v v' v1 v1 s k k [] held (unnoted v v1 s k held) put (same_is k.journal k.journal refl) in
     let lawful : Lawful k = record { legal = legal; limit = limit } in
-    looks v v' s k k a.0 follows (ap (λ (h : History). h.whole) value) lawful lawful fits alone (look_leaves k)
+    looks v v' s k k a.0 follows (ap (λ (h : History). h.whole) value) lawful lawful fits alone abreast (look_leaves k)
 
 -- and draws no number
 pub look_draws_none : (v v1 v' : View) (s : List Entry) (k : History) → v1 ≡ held_as v s k → v' ≡ settled v1 → v'.drawn ≡ v.drawn

@@ -15,6 +15,7 @@ use Rattle.rtsp_lock.specs.declared.view.View.{View}
 use Rattle.rtsp_lock.specs.declared.lock.BookLock.{BookLock}
 use Rattle.rtsp_lock.specs.declared.seat.BookSeat.{BookSeat}
 use Rattle.rtsp_lock.specs.Entries.{entries_of, Later, LeftOf, Has}
+use Rattle.rtsp_lock.specs.Rule.{Abreast}
 use Rattle.rtsp_lock.specs.Steps.{Follows, holding, numbers}
 
 -- what a seat knows
@@ -38,7 +39,7 @@ pub record Found (v : View) (j : List Entry) (r : ℕ) : Type 0 where
   pub mine : LeftOf v.mine (entries_of v.actor j)
 
 -- the seat is the same actor's, of the same whole, and its next number is no lower; no number that it drew is lost; what it has now seen is
--- such a journal, with its history
+-- such a journal, with its history, and in the same round both have grown alike
 pub record Stays (v v' : View) : Type 0 where
   pub whole : v'.whole ≡ v.whole
   pub actor : v'.actor ≡ v.actor
@@ -46,6 +47,7 @@ pub record Stays (v v' : View) : Type 0 where
   pub drawn : IsPrefix v.drawn v'.drawn
   pub stands : Found v' v'.seen v'.seen_rounds
   pub follows : Follows v' v'.history v'.seen
+  pub abreast : Abreast v v'.seen_rounds v'.seen v'.history
 
 -- the only seat of a lock finds the journal that it had seen, and is the only one still
 pub record StaysAlone (v v' : View) (j : List Entry) : Type 0 where
@@ -145,4 +147,5 @@ pub record Finished (v v' : View) (h : History) : Type 0 where
   pub whole : h.whole ≡ v.whole
   pub follows : Follows v v'.history h.journal
   pub alone : StaysAlone v v' h.journal
+  pub abreast : Abreast v h.rounds h.journal v'.history
   pub holds : v' ≡ holding v v'.history h.journal h.next h.rounds

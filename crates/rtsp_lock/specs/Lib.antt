@@ -3,4 +3,6 @@ pub mod Rule
 pub mod Steps
 pub mod Named
 pub mod Calls
+pub mod Handing
+pub mod Tallies
 pub mod Laws

@@ -7,29 +7,36 @@
 //! The history has every entry that a seat ever made, in order. It exists in contracts only. The
 //! journal has its book, and is shorter: `forget` leaves the sessions out that have ended, and
 //! `checkpoint` restates those that live, under a number that is no seat's. Neither touches the
-//! history. So what a seat sees of it begins, for ever, with all that the seat had seen.
+//! history. So what a seat sees of it begins, for ever, with all that the seat had seen. `hand_out`
+//! gives what the history gained, for who writes it down.
 //!
 //! The definitions of `specs/` read in this order: Entries (whose they are, and what a history is),
 //! Rule (what the lock keeps over all seats), Steps (what a step of the lock tells its seat), Named,
-//! Calls (what the calls promise), Laws (what holds over many calls).
+//! Calls (what the calls promise), Handing (what is handed out of the history), Tallies, Laws (what
+//! holds over many calls).
 
 #![tactic(auto)]
 
 mod laws;
 mod lock;
+mod marks;
 mod names;
 mod opening;
 mod rule;
 mod seat;
+mod tally;
 mod view;
 
 pub use laws::{
-    law_acted, law_actors_differ, law_checked, law_draws_differ, law_forgot, law_history,
-    law_history_answers, law_history_lasts, law_later, law_looked, law_one_history,
-    law_relief_decides, law_relieved, law_run, law_run_goes_on, law_run_lasts,
+    law_abreast, law_acted, law_actors_differ, law_checked, law_draws_differ, law_first_stood,
+    law_forgot, law_handed_out, law_history, law_history_answers, law_history_lasts, law_later,
+    law_looked, law_one_history, law_relief_decides, law_relieved, law_run, law_run_goes_on,
+    law_run_lasts, law_seen_stood, law_split_stood, law_stood_lasts, law_stood_to_the_end,
 };
 pub use lock::BookLock;
+pub use marks::{HandOutFault, Mark, Then};
 pub use names::Name;
 pub use opening::open;
 pub use rule::LockBook;
 pub use seat::BookSeat;
+pub use tally::Tally;

@@ -40,5 +40,6 @@ returns-clause-acted g c =
       left = subst Lawful c.note-kept.ensures.value (record { legal = p.legal; limit = p.limit });
       fits = t.fits;
       alone = t.alone;
+      abreast = t.abreast;
     })
     (sym seat.actor_is ∙ ap (λ (v : View). v.actor) v1) a.answers a.noted
