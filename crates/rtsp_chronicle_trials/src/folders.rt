@@ -1,0 +1,81 @@
+//! Files of a real folder.
+
+use crate::books::{SMALL, ends, entries, opens};
+use rtsp_chronicle::{Chronicler, FileSink, Pause, Plan, Turned, run_scribe};
+use rtsp_lock::{Then, open};
+use std::fs;
+use std::os::unix::fs::PermissionsExt;
+use std::sync::Wait;
+use std::test::Fail;
+
+// Some turns, and then the end.
+#[derive(Drop)]
+struct Turns {
+    left: u32,
+    told: u32,
+}
+
+impl Pause for Turns {
+    fn wait<R: Wait>(&mut self, _rt: &R) -> bool {
+        let is_over = self.left == 0;
+        self.left = self.left.saturating_sub(1);
+        is_over
+    }
+
+    fn tell(&mut self, turned: Turned) {
+        if turned == Turned::Written {
+            self.told = self.told.saturating_add(1);
+        }
+    }
+}
+
+#[test]
+fn files_follow_each_other(rt: HostRuntime) -> Result<(), Fail> {
+    // What a run that failed left.
+    let _left = fs::remove_dir_all(&rt, "journals");
+    fs::create_dir(&rt, "journals")?;
+    fs::write(&rt, "journals/journal-000002.txt", "another's")?;
+    let (lock, mut one) = open(rt.alloc(), &SMALL)?;
+    let mut own = one.split(&rt, &lock)?;
+    let mut sink = FileSink::open(&rt, rt.alloc(), "journals")?;
+    let mut chronicler = Chronicler::new(rt.alloc());
+    let plan = Plan {
+        after: Then::Forget,
+        long: 1,
+        sync: true,
+    };
+    let begun = opens(&rt, &lock, &mut one, 10) && opens(&rt, &lock, &mut one, 11);
+    let mut pause = Turns { left: 2, told: 0 };
+    let first = run_scribe(
+        &rt,
+        &mut own,
+        &lock,
+        &mut chronicler,
+        &mut sink,
+        &mut pause,
+        plan,
+    );
+    assert!(rt; begun && first == Turned::Written && pause.told == 3);
+    assert!(rt; sink.number() == 3);
+    let ended = ends(&rt, &lock, &mut one, 10);
+    let last = chronicler.turn(&rt, &mut own, &lock, Then::Forget, &mut sink);
+    assert!(rt; ended && last == Turned::Written);
+    let old = fs::read(&rt, "journals/journal-000001.txt")?;
+    let new = fs::read(&rt, "journals/journal-000003.txt")?;
+    assert!(rt; entries(rt.alloc(), &old)?.len() == 2);
+    assert!(rt; entries(rt.alloc(), &new)?.len() == 3);
+    let other = fs::read(&rt, "journals/journal-000002.txt")?;
+    assert!(rt; other.as_slice() == b"another's".as_slice());
+    let mode = fs::metadata(&rt, "journals/journal-000003.txt")?
+        .permissions()
+        .mode();
+    assert!(rt; mode & 0o777 == 0o600);
+    fs::remove_dir_all(&rt, "journals")?;
+    Ok(())
+}
+
+#[test]
+fn no_folder_is_told(rt: HostRuntime) -> Result<(), Fail> {
+    assert!(rt; FileSink::open(&rt, rt.alloc(), "nowhere").is_err());
+    Ok(())
+}
