@@ -1,9 +1,9 @@
 -- The forms of the texts in a configuration.
 use Rattle.std.specs.Prelude.{ℕ, ◌==◌, ◌&&◌, ◌||◌, Bool, true, not, List, length, nat_le}
 use Rattle.std.specs.List.{list_all}
-use Rattle.rtsp_content.specs.Limits.{max_name, max_encoding, max_format_parameters, max_folder}
+use Rattle.rtsp_content.specs.Limits.{max_name, max_encoding, max_format_parameters, max_folder, max_address}
 use Rattle.rtsp_content.specs.declared.keys.Form.{Form}
-use Rattle.rtsp_content.specs.declared.keys.Form.TheVariants.{Name, Encoding, FormatParameters, Folder, Path}
+use Rattle.rtsp_content.specs.declared.keys.Form.TheVariants.{Name, Encoding, FormatParameters, Folder, Address, Path}
 
 abbrev pub is_lowercase : ℕ → Bool
 is_lowercase b = nat_le 97 b && nat_le b 122
@@ -30,6 +30,10 @@ is_parameter_byte b = nat_le 32 b && nat_le b 126
 abbrev pub is_folder_byte : ℕ → Bool
 is_folder_byte b = nat_le 32 b && not (b == 127)
 
+-- a digit, `.` or `:`
+abbrev pub is_address_byte : ℕ → Bool
+is_address_byte b = is_digit b || (b == 46) || (b == 58)
+
 -- how many of some bytes there may be: 1 to `most`
 abbrev pub is_short : ℕ → List ℕ → Bool
 is_short most text = nat_le 1 (length text) && nat_le (length text) most
@@ -50,10 +54,15 @@ is_format_parameters text = is_short max_format_parameters text && list_all is_p
 abbrev pub is_folder : List ℕ → Bool
 is_folder text = is_short max_folder text && list_all is_folder_byte text
 
+-- an address with a port: 1 to 21 of their bytes
+abbrev pub is_address : List ℕ → Bool
+is_address text = is_short max_address text && list_all is_address_byte text
+
 -- the text has the form; a path is taken as it is
 abbrev pub has_form : Form → List ℕ → Bool
 has_form Name text = is_name text
 has_form Encoding text = is_encoding text
 has_form FormatParameters text = is_format_parameters text
 has_form Folder text = is_folder text
+has_form Address text = is_address text
 has_form Path text = true

@@ -1,6 +1,6 @@
 -- What a key of a TOML table says, or its fault.
-use Rattle.std.specs.Prelude.{ℕ, ◌≤◌, ◌&&◌, ◌+◌, pos, nat_le, List, Option, Some, None, Ok, Err, if◌then◌else◌}
-use Rattle.toml.specs.Data.{Data, Items, no_items, item, Members, integer, string, get_member, as_table, as_array}
+use Rattle.std.specs.Prelude.{ℕ, Bool, false, ◌≤◌, ◌&&◌, ◌+◌, pos, nat_le, List, Option, Some, None, Ok, Err, if◌then◌else◌}
+use Rattle.toml.specs.Data.{Data, Items, no_items, item, Members, integer, string, boolean, get_member, as_table, as_array}
 use Rattle.rtsp_content.specs.declared.fault.TableFault.TheVariants.{Missing, BadValue}
 use Rattle.rtsp_content.specs.declared.keys.Form.{Form}
 use Rattle.rtsp_content.specs.Fault.{Read}
@@ -35,6 +35,18 @@ optional_number_in least most (Some d) = as_number least most d >>= (λ n. Ok (S
 
 abbrev pub optional_number_at : List ℕ → ℕ → ℕ → Members → Read (Option ℕ)
 optional_number_at key least most ms = optional_number_in least most (get_member key ms)
+
+-- yes or no, and no where nothing is said
+abbrev pub as_flag : Data → Read Bool
+as_flag (boolean flag) = Ok flag
+as_flag _ = Err BadValue
+
+abbrev pub flag_in : Option Data → Read Bool
+flag_in None = Ok false
+flag_in (Some d) = as_flag d
+
+abbrev pub flag_at : List ℕ → Members → Read Bool
+flag_at key ms = flag_in (get_member key ms)
 
 -- a text of the form
 abbrev pub as_text : Form → Data → Read (List ℕ)

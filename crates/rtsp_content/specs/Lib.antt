@@ -18,3 +18,9 @@ pub mod Sdp
 pub mod TableValue
 pub mod TableView
 pub mod Table
+pub mod JournalFilesValue
+pub mod JournalFilesView
+pub mod JournalFiles
+pub mod OperationValue
+pub mod OperationView
+pub mod Operation

@@ -82,3 +82,14 @@ max_channels = 8
 -- bytes of the path of the folder that the media is in
 abbrev pub max_folder : ℕ
 max_folder = 1024
+
+-- milliseconds from one writing of the journal to the next
+abbrev pub least_period : ℕ
+least_period = 10
+
+abbrev pub max_period : ℕ
+max_period = 60000
+
+-- bytes of an IPv4 address with a port
+abbrev pub max_address : ℕ
+max_address = 21

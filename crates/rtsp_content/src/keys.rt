@@ -9,11 +9,11 @@ ghost use Rattle.rtsp_content.specs.declared.fault.TableFault.TheVariants.{OutOf
 ghost use Rattle.rtsp_content.specs.Form as form;
 ghost use Rattle.rtsp_content.specs.Form.{has_form};
 ghost use Rattle.rtsp_content.specs.Keys as keys;
-ghost use Rattle.rtsp_content.specs.Keys.{as_number, as_text, table_in, list_in};
+ghost use Rattle.rtsp_content.specs.Keys.{as_number, as_flag, as_text, table_in, list_in};
 ghost use Rattle.rtsp_content.specs.Keys.{AreFew, few, item_count};
 
 use crate::fault::TableFault;
-use crate::limits::{MAX_ENCODING, MAX_FOLDER, MAX_FORMAT_PARAMETERS, MAX_NAME};
+use crate::limits::{MAX_ADDRESS, MAX_ENCODING, MAX_FOLDER, MAX_FORMAT_PARAMETERS, MAX_NAME};
 use std::alloc::Global;
 use toml::value::Array;
 use toml::{Table, Value};
@@ -32,6 +32,9 @@ pub enum Form {
 
     /// 1 to 1,024 bytes, none of them a control of ASCII.
     Folder,
+
+    /// 1 to 21 digits, `.` and `:`.
+    Address,
 
     /// Any text.
     Path,
@@ -73,6 +76,12 @@ fn is_folder_byte(byte: u8) -> bool
     b' ' <= byte && byte != 127
 }
 
+fn is_address_byte(byte: u8) -> bool
+    ensures { result ≡ form.is_address_byte byte }
+{
+    byte.is_ascii_digit() || byte == b'.' || byte == b':'
+}
+
 fn has_parameter_bytes(text: &str) -> bool
     ensures { result ≡ list_all form.is_parameter_byte text.now }
 {
@@ -85,6 +94,12 @@ fn has_folder_bytes(text: &str) -> bool
     text.as_bytes().iter().all(|b| is_folder_byte(*b))
 }
 
+fn has_address_bytes(text: &str) -> bool
+    ensures { result ≡ list_all form.is_address_byte text.now }
+{
+    text.as_bytes().iter().all(|b| is_address_byte(*b))
+}
+
 fn has_form(text: &str, form: Form) -> bool
     ensures { result ≡ has_form form text.now }
 {
@@ -95,6 +110,7 @@ fn has_form(text: &str, form: Form) -> bool
             1 <= text.len() && text.len() <= MAX_FORMAT_PARAMETERS && has_parameter_bytes(text)
         }
         Form::Folder => 1 <= text.len() && text.len() <= MAX_FOLDER && has_folder_bytes(text),
+        Form::Address => 1 <= text.len() && text.len() <= MAX_ADDRESS && has_address_bytes(text),
         Form::Path => true,
     }
 }
@@ -166,6 +182,25 @@ pub fn optional_number_at(
     match value_at(table, key) {
         Some(value) => Ok(Some(number(value, least, most)?)),
         None => Ok(None),
+    }
+}
+
+fn flag(value: &Value) -> Result<bool, TableFault>
+    ensures { result ≡ as_flag (view value.now) }
+{
+    match value.as_bool() {
+        Some(flag) => Ok(flag),
+        None => Err(TableFault::BadValue),
+    }
+}
+
+/// Whether it is so; not where the key is missing.
+pub fn flag_at(table: &Table, key: &str) -> Result<bool, TableFault>
+    ensures { result ≡ keys.flag_at key.now (table_view table.now) }
+{
+    match value_at(table, key) {
+        Some(value) => flag(value),
+        None => Ok(false),
     }
 }
 

@@ -5,9 +5,11 @@
 
 mod fault;
 mod found;
+mod journal_files;
 mod keys;
 mod limits;
 mod media_path;
+mod operation;
 mod presentation;
 mod reading;
 mod sdp;
@@ -17,7 +19,9 @@ mod track;
 
 pub use fault::TableFault;
 pub use found::Found;
+pub use journal_files::{JournalFiles, WhenFull};
 pub use limits::MAX_CONNECTIONS;
+pub use operation::Operation;
 pub use presentation::Presentation;
 pub use server::{Players, Server};
 pub use table::Table;

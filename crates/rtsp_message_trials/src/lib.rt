@@ -14,6 +14,8 @@ mod messages;
 #[cfg(test)]
 mod normal_play_time;
 #[cfg(test)]
+mod operations;
+#[cfg(test)]
 mod packets;
 #[cfg(test)]
 mod texts;
