@@ -5,4 +5,5 @@ pub mod Plays
 pub mod Inbox
 pub mod Linking
 pub mod Catching
+pub mod Refusals
 pub mod Reports

@@ -7,6 +7,7 @@ use crate::bell::Bell;
 use rtsp_book::{Refusal, SessionView, Step};
 use rtsp_content::Table;
 use rtsp_lock::{BookLock, BookSeat, Name};
+use rtsp_metrics::Counters;
 use rtsp_npt::UnitLength;
 use rtsp_record::Phase;
 use rtsp_rtp::Packet;
@@ -24,6 +25,8 @@ pub struct PacerParts<'a> {
     pub outlets: &'a Outlets,
     pub media: &'a Media,
     pub bell: &'a Bell,
+    /// What is told of packets is counted there.
+    pub counters: &'a Counters,
     /// When the server began. Its moments count from there.
     pub begun: Instant,
 }
@@ -88,6 +91,15 @@ impl Paced {
         self.packets = self.packets.saturating_add(packets);
         self.lost = self.lost.saturating_add(lost);
         self.failures = self.failures.saturating_add(failures);
+    }
+}
+
+impl<R> PacerDesk<'_, R> {
+    // Counts what came of a turn, of whose packets the first was so many milliseconds late.
+    pub(crate) fn count(&mut self, packets: u64, lost: u64, failures: u64, late: u64) {
+        self.paced.count(packets, lost, failures);
+        self.parts.counters.sent(packets, late);
+        self.parts.counters.lost(lost);
     }
 }
 

@@ -25,6 +25,10 @@ const REPORT_AGAIN: u64 = 1_000;
 // packets, or be read before them, and then GStreamer drops these.
 const GOODBYE_AFTER: u64 = 250;
 
+// How often, in milliseconds, it is looked whether a session was renewed whose player's ports refuse
+// packets.
+const LOOK_EVERY: u64 = 1_000;
+
 // How far a play is.
 #[derive(Clone, Copy, PartialEq, Eq)]
 enum Stage {
@@ -33,6 +37,33 @@ enum Stage {
     Finished,
     // It is reported, and hasn't said goodbye.
     Reported,
+}
+
+// The end of a session as it was seen while packets were refused, and when to look again.
+#[derive(Clone, Copy)]
+struct Renewal {
+    end: Option<u64>,
+    look_at: u64,
+}
+
+impl Renewal {
+    fn unseen() -> Renewal {
+        Renewal {
+            end: None,
+            look_at: 0,
+        }
+    }
+
+    // The end of the session is seen at a moment. Whether it was renewed since it was seen last.
+    fn see(&mut self, end: u64, moment: u64) -> bool {
+        let is_renewed = match self.end {
+            Some(seen) => seen != end,
+            None => false,
+        };
+        self.end = Some(end);
+        self.look_at = moment.saturating_add(LOOK_EVERY);
+        is_renewed
+    }
 }
 
 // A play that a pacer sends: who asked for it, what is sent, where it goes, and how far it is.
@@ -44,6 +75,7 @@ pub(crate) struct PacedPlay {
     pacer: Pacer,
     ways: Ways,
     stage: Stage,
+    renewal: Renewal,
     // The moments of its last turn and of its next one. A wheel that is late comes to it sooner.
     last: u64,
     next: u64,
@@ -100,6 +132,7 @@ impl PacedPlay {
             pacer,
             ways: Ways::of(desk.rt, &desk.parts, view),
             stage: Stage::Sending,
+            renewal: Renewal::unseen(),
             last: due,
             next: due,
         };
@@ -173,6 +206,7 @@ impl PacedPlay {
         moment: u64,
     ) -> Next {
         let unit_ms = presentation.unit_ms().ms();
+        self.heed_renewal(desk, moment);
         match self.send(desk, phase, unit_ms, moment) {
             (Turn::More, Some(due)) => Next::At(next_unit(due, unit_ms, moment)),
             (Turn::SinkFailed, Some(due)) if !is_past(phase, unit_ms, moment) => {
@@ -180,6 +214,22 @@ impl PacedPlay {
             }
             (Turn::AtEnd | Turn::SinkFailed, _) => self.finish(alloc, desk, presentation, moment),
             (Turn::OtherPlay, _) | (Turn::More, None) => Next::Never,
+        }
+    }
+
+    // Sends again to ports that have refused all, once the session is renewed: its player is there.
+    fn heed_renewal<R: Wait>(&mut self, desk: &mut PacerDesk<'_, R>, moment: u64) {
+        if !self.ways.is_any_spared(desk.rt, moment) {
+            self.renewal = Renewal::unseen();
+            return;
+        }
+        if moment < self.renewal.look_at {
+            return;
+        }
+        if let Some(view) = desk.look(self.session())
+            && self.renewal.see(view.expires(), moment)
+        {
+            self.ways.spare_none(desk.rt);
         }
     }
 
@@ -205,16 +255,14 @@ impl PacedPlay {
             lost: 0,
             failed: 0,
         };
-        let until = match self.pacer.next_due() {
-            Some(due) => measured(due, unit_ms, moment.saturating_sub(self.last), moment),
-            None => moment,
-        };
+        let due = self.pacer.next_due().unwrap_or(moment);
+        let until = measured(due, unit_ms, moment.saturating_sub(self.last), moment);
         let turn = self
             .pacer
             .turn(session, phase, until, &mut desk.packet, &mut sink);
         let (packets, lost, failed) = (sink.packets, sink.lost, sink.failed);
         self.last = moment;
-        desk.paced.count(packets, lost, failed);
+        desk.count(packets, lost, failed, moment.saturating_sub(due));
         (turn, self.pacer.next_due())
     }
 

@@ -1,23 +1,36 @@
 //! Where the packets of the streams of a play go.
 
 use crate::desk::PacerParts;
+use crate::refusals::Refusals;
 use rtsp_book::SessionView;
 use rtsp_record::{Admission, Stream, Thing};
 use rtsp_rtp::Packet;
 use rtsp_sockets::{Message, Outlet, PortSockets, Put};
+use std::io::ErrorKind;
 use std::net::{Ipv4Addr, SocketAddrV4};
-use std::sync::{Arc, Wait};
+use std::sync::{Arc, Mutex, Wait};
 
 // The most tracks of a presentation.
 const TRACKS: usize = 8;
+
+// The port of a player that datagrams go to.
+#[derive(Drop)]
+pub(crate) struct PlayerPort {
+    // The socket of RTP is connected to it.
+    sockets: Arc<PortSockets>,
+    // Where RTCP goes.
+    rtcp: SocketAddrV4,
+    // The pacer's alone: nobody waits for it.
+    refusals: Mutex<Refusals>,
+}
 
 // Where the packets of a stream go.
 #[derive(Drop)]
 pub(crate) enum Way {
     // They are lost: there is no stream, or its address is given up.
     Nowhere,
-    // As datagrams from a socket that is connected to the player's, and RTCP to this address of it.
-    Datagrams(Arc<PortSockets>, SocketAddrV4),
+    // As datagrams to a player's port.
+    Datagrams(PlayerPort),
     // As frames of a channel of a connection.
     Frames(Arc<Outlet>, u8),
 }
@@ -32,8 +45,12 @@ pub(crate) struct Ways {
 fn datagrams(sockets: Option<Arc<PortSockets>>, stream: &Stream) -> Way {
     match sockets {
         Some(sockets) if connect(&sockets, stream) => {
-            let player = SocketAddrV4::new(Ipv4Addr::from_bits(stream.peer), stream.rtcp_port);
-            Way::Datagrams(sockets, player)
+            let rtcp = SocketAddrV4::new(Ipv4Addr::from_bits(stream.peer), stream.rtcp_port);
+            Way::Datagrams(PlayerPort {
+                sockets,
+                rtcp,
+                refusals: Mutex::new(Refusals::none()),
+            })
         }
         _ => Way::Nowhere,
     }
@@ -64,16 +81,48 @@ fn connect(sockets: &Arc<PortSockets>, stream: &Stream) -> bool {
     sockets.rtp.connect(player).is_ok()
 }
 
+impl PlayerPort {
+    // Sends a datagram. Whether it was sent. An error of a connected socket may be that of an earlier
+    // datagram, and then this one wasn't sent yet.
+    fn send<R: Wait>(&self, rt: &R, now: u64, datagram: &[u8]) -> bool {
+        let mut refusals = self.refusals.lock(rt);
+        if refusals.is_spared(now) {
+            return false;
+        }
+        match self.sockets.rtp.send(datagram) {
+            Ok(_) => {
+                refusals.note_sent();
+                return true;
+            }
+            Err(fault) if fault.kind() == ErrorKind::ConnectionRefused => {
+                refusals.note_refused(now);
+            }
+            Err(_) => {}
+        }
+        !refusals.is_spared(now) && self.sockets.rtp.send(datagram).is_ok()
+    }
+
+    // Sends RTCP: from a pair's second port, or the one port that RTP has too.
+    fn send_control(&self, datagram: &[u8]) {
+        let socket = self.sockets.rtcp.as_ref().unwrap_or(&self.sockets.rtp);
+        let _ = socket.send_to(datagram, self.rtcp);
+    }
+}
+
 impl Way {
-    // Sends a packet. Whether it was sent, or waits. An error of a connected socket may be that of
-    // an earlier packet, and then this one wasn't sent yet.
+    // Whether its player's port is sent none at this moment.
+    fn is_spared<R: Wait>(&self, rt: &R, now: u64) -> bool {
+        match self {
+            Way::Datagrams(port) => port.refusals.lock(rt).is_spared(now),
+            Way::Nowhere | Way::Frames(_, _) => false,
+        }
+    }
+
+    // Sends a packet. Whether it was sent, or waits.
     fn send<R: Wait>(&self, rt: &R, now: u64, packet: &mut Packet) -> bool {
         match self {
             Way::Nowhere => false,
-            Way::Datagrams(sockets, _) => {
-                let datagram = packet.datagram();
-                sockets.rtp.send(datagram).is_ok() || sockets.rtp.send(datagram).is_ok()
-            }
+            Way::Datagrams(port) => port.send(rt, now, packet.datagram()),
             Way::Frames(outlet, channel) => {
                 let frame = packet.frame(*channel);
                 matches!(
@@ -84,15 +133,12 @@ impl Way {
         }
     }
 
-    // Sends an RTCP packet: from a pair's second port, or the one port that RTP has too, or on the
-    // second channel of a pair, which is odd. One that can't be sent is lost.
+    // Sends an RTCP packet, on a connection on the second channel of a pair, which is odd. One that
+    // can't be sent is lost.
     fn send_control<R: Wait>(&self, rt: &R, now: u64, packet: &mut Packet) {
         match self {
             Way::Nowhere => {}
-            Way::Datagrams(sockets, player) => {
-                let socket = sockets.rtcp.as_ref().unwrap_or(&sockets.rtp);
-                let _ = socket.send_to(packet.datagram(), *player);
-            }
+            Way::Datagrams(port) => port.send_control(packet.datagram()),
             Way::Frames(outlet, channel) => {
                 let frame = packet.frame(*channel | 1);
                 outlet.put(rt, now, Message::Frame, frame);
@@ -126,6 +172,25 @@ impl Ways {
             }
         }
         ways
+    }
+
+    // Whether a player's port has refused so much that it is sent none at this moment.
+    pub(crate) fn is_any_spared<R: Wait>(&self, rt: &R, now: u64) -> bool {
+        for way in &self.ways {
+            if way.is_spared(rt, now) {
+                return true;
+            }
+        }
+        false
+    }
+
+    // Sends to all ports again.
+    pub(crate) fn spare_none<R: Wait>(&self, rt: &R) {
+        for way in &self.ways {
+            if let Way::Datagrams(port) = way {
+                *port.refusals.lock(rt) = Refusals::none();
+            }
+        }
     }
 
     // Sends a packet of a track. Whether it was sent, or waits.

@@ -10,3 +10,5 @@ mod pairs_and_files;
 mod plays;
 #[cfg(test)]
 mod sockets;
+#[cfg(test)]
+mod threads;

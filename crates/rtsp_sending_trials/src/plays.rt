@@ -10,6 +10,7 @@ use rtsp_book::{Commit, Life, Play, Step};
 use rtsp_content::Table;
 use rtsp_engine::{Binder, Plays};
 use rtsp_lock::{BookLock, BookSeat, open};
+use rtsp_metrics::{Counters, Packets};
 use rtsp_pacing::{Bells, NotedPlays, Paced, PacerParts, PacerPlays, pace};
 use rtsp_record::{Id, Stream, Whole};
 use rtsp_sockets::{Media, Outlets, PortBinder, PortTable};
@@ -23,7 +24,7 @@ use std::thread::Threads;
 use std::time::{Duration, Instant};
 use std::{fs, io, thread};
 
-const TONE: &str = "\
+pub(crate) const TONE: &str = "\
 [server]
 first_port = 5000
 pairs = 1
@@ -226,6 +227,7 @@ fn a_play_is_sent_and_reported(rt: HostRuntime) -> Result<(), Fail> {
     let Some(bell) = bells.of(2) else {
         panic!(rt; "there is a pacer")
     };
+    let counters = Counters::new();
     let parts = PacerParts {
         lock: &lock,
         table: &table,
@@ -233,11 +235,13 @@ fn a_play_is_sent_and_reported(rt: HostRuntime) -> Result<(), Fail> {
         outlets: &outlets,
         media: &files,
         bell,
+        counters: &counters,
         begun,
     };
     let plays = PacerPlays::open(rt.alloc(), 4)?;
     let (paced, heard) = run(&rt, parts, seat, plays, &bells, &media, &player);
     assert!(rt; is_whole(&heard) && is_done(&paced));
+    assert!(rt; counters.read().packets == Packets { sent: 8, lost: 0 });
     Ok(())
 }
 

@@ -1,0 +1,119 @@
+//! The sessions of addresses, as a lane counts them.
+
+ghost use Rattle.std.specs.Prelude.{◌≡◌, None};
+ghost use Rattle.rtsp_lock.specs.Calls.{seat_view};
+ghost use Rattle.rtsp_threads.specs.Looks.{TellsOf};
+
+use rtsp_engine::{ShareSpent, Shares};
+use rtsp_lanes::BookHandle;
+use rtsp_shares::{Living, ShareTable};
+use std::sync::{Mutex, Wait};
+
+// Whether a session lives, by a look at the book.
+fn lives<R: Wait>(rt: &R, handle: &mut BookHandle, session: u64) -> bool
+    ensures { TellsOf (seat_view handle.old.seat) (seat_view handle.new.seat) session result }
+{
+    handle.seat.phase(rt, &handle.lock, session).is_some()
+}
+
+// Which sessions live, as a handle of the book sees them.
+#[derive(Drop)]
+struct LivingSessions<'a, 'h, R> {
+    rt: &'a R,
+    handle: &'h mut BookHandle,
+}
+
+impl<R: Wait> Living for LivingSessions<'_, '_, R> {
+    ghost use Rattle.rtsp_lock.specs.Calls.{seat_view};
+    ghost use Rattle.rtsp_threads.specs.Looks.{TellsOf};
+
+    ghost tells = { λ s number lives t. TellsOf (seat_view s.handle.now.seat) (seat_view t.handle.now.seat) number lives };
+
+    fn lives(&mut self, number: u64) -> bool {
+        lives(self.rt, self.handle, number)
+    }
+}
+
+/// The places that addresses have for sessions, as a lane takes them for what it answers.
+#[derive(Drop)]
+pub struct LaneShares<'a, R> {
+    rt: &'a R,
+    // There are none where addresses have no share.
+    places: Option<&'a Mutex<ShareTable>>,
+    // By which the lane looks which sessions live.
+    handle: &'a mut BookHandle,
+    // The address of the place that isn't settled yet.
+    taken: Option<u32>,
+    refused: u64,
+}
+
+// Takes a place for an address. Where none is left, those are given back first whose session doesn't
+// live any more.
+fn take_place<R: Wait>(
+    rt: &R,
+    places: &Mutex<ShareTable>,
+    handle: &mut BookHandle,
+    peer: u32,
+) -> bool {
+    let mut living = LivingSessions { rt, handle };
+    places.lock(rt).take_asking(&mut living, peer)
+}
+
+// Keeps the place that an address took for the session that was opened in it, or gives it back.
+fn settle_place<R: Wait>(rt: &R, places: &Mutex<ShareTable>, peer: u32, opened: Option<u64>) {
+    let mut places = places.lock(rt);
+    match opened {
+        Some(session) => places.keep(peer, session),
+        None => places.give_back(peer),
+    }
+}
+
+impl<'a, R> LaneShares<'a, R> {
+    /// The places of a server, if there are any, and a lane's handle of the book.
+    pub fn new(
+        rt: &'a R,
+        places: Option<&'a Mutex<ShareTable>>,
+        handle: &'a mut BookHandle,
+    ) -> LaneShares<'a, R>
+        ensures taken { result.taken ≡ None }
+        ensures refused { result.refused ≡ 0 }
+    {
+        LaneShares {
+            rt,
+            places,
+            handle,
+            taken: None,
+            refused: 0,
+        }
+    }
+}
+
+// What places there are is known to all lanes, so a clause knows of a call nothing but whether there
+// is a place of this lane's that isn't settled, and whether one was refused.
+impl<R: Wait> Shares for LaneShares<'_, R> {
+    ghost use Rattle.std.specs.Prelude.{◌≡◌, Some, None};
+
+    ghost calls = { record { takes = λ s peer t. t.taken ≡ Some peer; refuses = λ s peer t. t.taken ≡ s.taken; settles = λ s opened t. t.taken ≡ None; refusals = λ s. s.refused } };
+
+    fn take(&mut self, peer: u32) -> Result<(), ShareSpent> {
+        let is_taken = match self.places {
+            Some(places) => take_place(self.rt, places, self.handle, peer),
+            None => true,
+        };
+        if is_taken {
+            self.taken = Some(peer);
+            return Ok(());
+        }
+        self.refused = self.refused.saturating_add(1);
+        Err(ShareSpent)
+    }
+
+    fn settle(&mut self, opened: Option<u64>) {
+        let taken = self.taken.take();
+        if let Some(places) = self.places
+            && let Some(peer) = taken
+        {
+            settle_place(self.rt, places, peer, opened);
+        }
+    }
+}

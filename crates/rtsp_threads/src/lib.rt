@@ -1,0 +1,40 @@
+//! What the threads of a server go by, beside the sockets of their players.
+//!
+//! `limits` has the numbers, `descriptors` what the system allows. `acceptor` is where connections come from, `gate` says which are let in,
+//! `activity` when one was heard of, `hearing_reader` what it begins with. `lane_shares` is what an
+//! address may have of the sessions, `relieving` keeps the journal from filling, `leaving` ends
+//! sessions. `signals` and `stop_bell` are how threads are asked to end.
+
+#![tactic(auto)]
+
+mod acceptor;
+mod activity;
+mod descriptors;
+mod gate;
+mod hearing_reader;
+mod lane_shares;
+mod leaving;
+mod limits;
+mod relieving;
+mod scribe;
+mod scribe_bell;
+mod signals;
+mod stop_bell;
+
+pub use acceptor::{Accepted, Acceptor};
+pub use activity::Activity;
+pub use descriptors::{connections_for, descriptor_limit};
+pub use gate::Gate;
+pub use hearing_reader::HearingReader;
+pub use lane_shares::LaneShares;
+pub use leaving::{close_book, end_expired, take_leave};
+pub use limits::{
+    ACCEPT_RETRY, ACCEPTS, ANSWERS, CONNECTIONS, FEW_LINES, LOG_LINES, MESSAGE_LIMIT, PAUSE, PIECE,
+    PIECES, SIGNALS_EVERY, SILENCE_LIMIT, STANDING_LIMIT, STOP_LIMIT, SWEEP_EVERY, SWEEP_SESSIONS,
+    TURN_EVERY, WAITS,
+};
+pub use relieving::{ask_for_room, make_room};
+pub use scribe::Scribe;
+pub use scribe_bell::ScribeBell;
+pub use signals::{OwnStatus, StopAsked};
+pub use stop_bell::StopBell;

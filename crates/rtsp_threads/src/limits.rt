@@ -1,0 +1,67 @@
+//! The limits of a server. Moments and times are in milliseconds.
+
+use rtsp_content::MAX_CONNECTIONS;
+
+/// The most connections that are open at once. One more is accepted and closed at once.
+pub const CONNECTIONS: u64 = MAX_CONNECTIONS;
+
+/// The most connections that a lane accepts in one turn.
+pub const ACCEPTS: usize = 64;
+
+/// How long a lane waits before it accepts again where it had no descriptor, and no spare one.
+pub const ACCEPT_RETRY: u64 = 100;
+
+/// The bytes of a connection that are read at once.
+pub const PIECE: usize = 4_096;
+
+/// The most pieces of a connection that are read in one visit, before the next connection's turn.
+pub const PIECES: usize = 16;
+
+/// The answers of a visit are written when it ends, and whenever they have grown to so many bytes.
+pub const ANSWERS: usize = 32 * 1_024;
+
+/// A connection isn't read while more bytes than this wait to be written to it.
+pub const PAUSE: usize = 128 * 1_024;
+
+/// A connection that has said nothing for so long is closed. One on which a track was to be set up
+/// may be silent for as long as a session lives, if that is longer.
+pub const SILENCE_LIMIT: u64 = 60_000;
+
+/// A connection that has begun a message and not finished it for so long is closed.
+pub const MESSAGE_LIMIT: u64 = 30_000;
+
+/// How often a lane waits for the others before a piece, where the journal stays more than half full
+/// by sessions that they are setting tracks up in: for a millisecond, then twice as long each time.
+pub const WAITS: u32 = 7;
+
+/// The longest that a lane waits for something to do. Then it tells up to when it has read all that
+/// had come, and a sweep goes no further.
+pub const TURN_EVERY: u64 = 200;
+
+/// The time between two sweeps.
+pub const SWEEP_EVERY: u64 = 1_000;
+
+/// The most sessions that a sweep ends before others get the lock.
+pub const SWEEP_SESSIONS: u32 = 64;
+
+/// So many milliseconds at most it is waited for all lanes to begin, before it is told that the server
+/// listens.
+pub const STANDING_LIMIT: u64 = 1_000;
+
+/// The time between two looks at the signals that ask for an end.
+pub const SIGNALS_EVERY: u64 = 100;
+
+/// How long connections have, once the server stops, to take what waits for them. The lanes then
+/// hang up, so that all is over within 3 s.
+pub const STOP_LIMIT: u64 = 2_500;
+
+/// So many lines of the log wait at most until they are written, where each answer has one; further
+/// ones are dropped and counted.
+pub const LOG_LINES: usize = 4_096;
+
+/// The same where only events have lines.
+pub const FEW_LINES: usize = 128;
+
+/// A file of the journal that has so many entries is followed by a new one. An audit reads a million,
+/// and what is handed out at once is seldom more than half of what the journal has room for.
+pub const LONG_FILE: usize = 400_000;

@@ -1,0 +1,58 @@
+//! Keeps the journal from filling: before a piece is answered there is room for what it may record.
+
+use crate::limits::WAITS;
+use crate::scribe_bell::ScribeBell;
+use rtsp_book::CHECKPOINT_SLACK;
+use rtsp_content::Table;
+use rtsp_lanes::BookHandle;
+use rtsp_lock::Tally;
+use std::sync::Wait;
+use std::time::Duration;
+use std::{rt, thread};
+
+/// Has a checkpoint made where the journal is more than half full, and more so than what is owed
+/// asks for. It stays so only by sessions that other lanes are setting tracks up in. No lane begins
+/// a piece meanwhile, so these come to an end, and the next checkpoint restates every session.
+pub fn make_room<R: Wait + rt::Clock>(rt: &R, table: &Table, lane: &mut BookHandle) {
+    let half = (table.server().journal / 2) as usize;
+    if !lane.relieve(rt, half) {
+        return;
+    }
+    let mut wait = 1;
+    for _ in 0..WAITS {
+        if !lane.relieve(rt, half) {
+            return;
+        }
+        thread::sleep(rt, Duration::from_millis(wait));
+        wait = wait.saturating_mul(2);
+    }
+}
+
+// Whether a checkpoint would pay, with more entries than half of those that there is room for.
+fn is_crowded(tally: Tally, half: usize) -> bool {
+    let settled = tally
+        .owed
+        .saturating_mul(2)
+        .saturating_add(CHECKPOINT_SLACK);
+    half < tally.entries && settled < tally.entries
+}
+
+/// The same where the journal is written to files, so that only the thread that writes it shortens
+/// it: that one is asked to. Where it can't write, there is nothing to wait for.
+pub fn ask_for_room<R: Wait + rt::Clock>(
+    rt: &R,
+    table: &Table,
+    lane: &mut BookHandle,
+    scribe: &ScribeBell,
+) {
+    let half = (table.server().journal / 2) as usize;
+    let mut wait = 1;
+    for _ in 0..WAITS {
+        if scribe.is_stuck() || !is_crowded(lane.tally(rt), half) {
+            return;
+        }
+        scribe.ask(rt);
+        thread::sleep(rt, Duration::from_millis(wait));
+        wait = wait.saturating_mul(2);
+    }
+}
