@@ -1,0 +1,5 @@
+pub mod Families
+pub mod Figures
+pub mod FigureLines
+pub mod Page
+pub mod RowTexts

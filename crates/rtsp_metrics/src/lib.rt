@@ -1,0 +1,25 @@
+//! The figures of a server: counters that its threads add to without a lock, a copy of them with what
+//! the book has at one moment, and that copy as the text of OpenMetrics and as a page.
+//!
+//! The definitions of `specs/` read in this order: Families (what a family of figures is, and its
+//! text), Figures (the families of a server), Page (the page that shows them).
+
+#![tactic(auto)]
+
+mod counters;
+mod families;
+mod figures;
+mod page;
+mod rows;
+mod snapshot;
+
+pub use counters::{Counters, Method, Outcome, Refusal};
+pub use figures::metrics_text;
+pub use page::{PAGE_HEAD, page_text};
+pub use snapshot::{
+    BookFigures, ByMethod, ByOutcome, Connections, Counts, Held, Lateness, Packets, Refusals,
+    Snapshot,
+};
+
+#[cfg(test)]
+mod tests;

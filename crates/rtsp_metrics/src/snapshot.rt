@@ -1,0 +1,120 @@
+//! The figures of a server at one moment.
+
+/// What is held of a whole, and what is free of it.
+#[derive(Clone, Copy, Debug, PartialEq, Eq)]
+pub struct Held {
+    pub held: u64,
+    pub free: u64,
+}
+
+/// What the book has, by one look under its lock.
+#[derive(Clone, Copy, Debug, PartialEq, Eq)]
+pub struct BookFigures {
+    /// Sessions that live.
+    pub sessions: u64,
+    /// The uplink, in bits per second.
+    pub rate: Held,
+    /// Entries of the journal.
+    pub entries: u64,
+    /// Entries of the journal that are kept for what has to be given back.
+    pub owed: u64,
+    /// Entries that the journal takes besides.
+    pub room: u64,
+}
+
+/// What became of connections.
+#[derive(Clone, Copy, Debug, PartialEq, Eq)]
+pub struct Connections {
+    pub accepted: u64,
+    /// Closed at once, because the server or the address of the player had no more.
+    pub refused: u64,
+}
+
+/// Answers by the first digit of their status.
+#[derive(Clone, Copy, Debug, PartialEq, Eq)]
+pub struct ByOutcome {
+    pub success: u64,
+    pub redirection: u64,
+    pub client_error: u64,
+    pub server_error: u64,
+}
+
+/// Requests that were answered, by their method.
+#[derive(Clone, Copy, Debug, PartialEq, Eq)]
+pub struct ByMethod {
+    pub options: ByOutcome,
+    pub describe: ByOutcome,
+    pub setup: ByOutcome,
+    pub play: ByOutcome,
+    pub pause: ByOutcome,
+    pub teardown: ByOutcome,
+    pub get_parameter: ByOutcome,
+    pub set_parameter: ByOutcome,
+    /// Of a method that no server of RTSP knows.
+    pub other: ByOutcome,
+}
+
+/// Requests that were refused, by why.
+#[derive(Clone, Copy, Debug, PartialEq, Eq)]
+pub struct Refusals {
+    /// The uplink has no more (453).
+    pub bandwidth: u64,
+    /// Sessions, ports, channels or the journal have no more, or the share of an address (503).
+    pub unavailable: u64,
+    /// No such session (454).
+    pub session: u64,
+    /// Nothing at this path (404).
+    pub path: u64,
+    /// Not allowed in the state of the session (455).
+    pub state: u64,
+    /// No transport that the server has (461).
+    pub transport: u64,
+    /// Any other status from 400 on.
+    pub other: u64,
+}
+
+/// RTP packets.
+#[derive(Clone, Copy, Debug, PartialEq, Eq)]
+pub struct Packets {
+    pub sent: u64,
+    pub lost: u64,
+}
+
+/// How many packets were sent so late, each counted once, and how late all were together.
+#[derive(Clone, Copy, Debug, PartialEq, Eq)]
+pub struct Lateness {
+    pub within_1_ms: u64,
+    pub within_2_ms: u64,
+    pub within_5_ms: u64,
+    pub within_10_ms: u64,
+    pub within_20_ms: u64,
+    pub within_40_ms: u64,
+    pub within_100_ms: u64,
+    pub within_400_ms: u64,
+    pub later: u64,
+    /// In milliseconds.
+    pub sum_ms: u64,
+}
+
+/// What the counters of a server have counted.
+#[derive(Clone, Copy, Debug, PartialEq, Eq)]
+pub struct Counts {
+    pub connections: Connections,
+    pub requests: ByMethod,
+    pub refusals: Refusals,
+    pub packets: Packets,
+    pub lateness: Lateness,
+    pub log_lines_dropped: u64,
+    /// Sessions that ended since nothing renewed them.
+    pub expired: u64,
+}
+
+/// All figures of a server.
+#[derive(Clone, Copy, Debug, PartialEq, Eq)]
+pub struct Snapshot {
+    /// Since the server began.
+    pub uptime_seconds: u64,
+    pub connections: Held,
+    pub book: BookFigures,
+    pub counts: Counts,
+}

@@ -1,0 +1,211 @@
+//! The thread that serves.
+
+use crate::halt::Halt;
+use crate::limits::{HEAD, LIFE, PEERS};
+use crate::peer::Peer;
+use crate::service::StatusService;
+use crate::shown::Shown;
+use http_server::{Config, Connection};
+use mio::net::{TcpListener, TcpStream};
+use mio::unix::SourceFd;
+use mio::{Events, Interest, Poll, Token};
+use rtsp_metrics::Snapshot;
+use slab::Slab;
+use std::alloc::Global;
+use std::hash::RandomState;
+use std::io;
+use std::net::{Net, SocketAddr};
+use std::random::RandomSource;
+use std::rt::Clock;
+use std::sync::Wait;
+use std::time::{Duration, Instant};
+
+const LISTENER: Token = Token(usize::MAX);
+
+// The most events that are taken at once.
+const EVENTS: usize = 64;
+
+// How often the server looks whether it is to end, and whether a connection has lasted too long.
+const LOOK: u64 = 250;
+
+/// Who tells what the server has now.
+pub trait Source {
+    fn snapshot(&mut self) -> Snapshot;
+}
+
+/// A server that listens.
+#[derive(Drop)]
+pub struct StatusServer {
+    alloc: Global,
+    keys: RandomState,
+    listener: TcpListener,
+    poll: Poll,
+    events: Events<Global>,
+    peers: Slab<Peer>,
+    begun: Instant,
+}
+
+impl StatusServer {
+    /// Listens at an address. An error where it is taken, or where there is no descriptor.
+    pub fn open<R: Net + Clock + RandomSource>(
+        rt: &R,
+        alloc: Global,
+        address: SocketAddr,
+    ) -> io::Result<StatusServer> {
+        let listener = TcpListener::bind(rt, address)?;
+        let poll = Poll::new(rt)?;
+        let fd = std::os::fd::AsRawFd::as_raw_fd(&listener);
+        poll.registry()
+            .register(&mut SourceFd(&fd), LISTENER, Interest::READABLE)?;
+        Ok(StatusServer {
+            alloc,
+            keys: RandomState::new(rt)?,
+            listener,
+            poll,
+            events: Events::with_capacity(alloc, EVENTS)?,
+            peers: Slab::new(alloc),
+            begun: Instant::now(rt)?,
+        })
+    }
+
+    /// Where it listens.
+    pub fn address(&self) -> io::Result<SocketAddr> {
+        self.listener.local_addr()
+    }
+
+    // Milliseconds since it was opened.
+    fn now<R: Clock>(&self, rt: &R) -> u64 {
+        match self.begun.elapsed(rt) {
+            Ok(elapsed) => u64::try_from(elapsed.as_millis()).unwrap_or(u64::MAX),
+            Err(_) => 0,
+        }
+    }
+
+    // The oldest connection.
+    fn oldest(&self) -> Option<usize> {
+        let mut found = None;
+        let mut since = u64::MAX;
+        for key in 0..self.peers.capacity() {
+            if let Some(peer) = self.peers.get(key)
+                && peer.since < since
+            {
+                since = peer.since;
+                found = Some(key);
+            }
+        }
+        found
+    }
+
+    fn end(&mut self, key: usize) {
+        if let Some(peer) = self.peers.try_remove(key) {
+            let fd = peer.fd();
+            let _ = self.poll.registry().deregister(&mut SourceFd(&fd));
+        }
+    }
+
+    // Takes a connection in, or closes it where there is no memory.
+    fn receive(&mut self, stream: TcpStream, now: u64) {
+        if self.peers.len() >= PEERS
+            && let Some(key) = self.oldest()
+        {
+            self.end(key);
+        }
+        let mut config = Config::default();
+        config.limits.max_head_len = HEAD;
+        config.max_body_len = 0;
+        config.read_size = 1_024;
+        let peer = Peer::new(stream, Connection::new(self.alloc, self.keys, config), now);
+        let fd = peer.fd();
+        let Ok(key) = self.peers.insert(peer) else {
+            return;
+        };
+        let both = Interest::READABLE | Interest::WRITABLE;
+        if self
+            .poll
+            .registry()
+            .register(&mut SourceFd(&fd), Token(key), both)
+            .is_err()
+        {
+            drop(self.peers.try_remove(key));
+        }
+    }
+
+    fn accept_all(&mut self, now: u64) {
+        for _ in 0..PEERS {
+            match self.listener.accept() {
+                Ok((stream, _)) => self.receive(stream, now),
+                Err(_) => return,
+            }
+        }
+    }
+
+    // Closes connections that have lasted too long.
+    fn sweep(&mut self, now: u64) {
+        for key in 0..self.peers.capacity() {
+            if let Some(peer) = self.peers.get(key)
+                && now.saturating_sub(peer.since) >= LIFE
+            {
+                self.end(key);
+            }
+        }
+    }
+
+    fn visit(&mut self, shown: &Shown, key: usize) {
+        let mut service = StatusService { shown };
+        let is_over = match self.peers.get_mut(key) {
+            Some(peer) => peer.visit(&mut service),
+            None => false,
+        };
+        if is_over {
+            self.end(key);
+        }
+    }
+
+    // The key of the event of this place, or that of the listener.
+    fn token_at(&self, place: usize) -> Option<usize> {
+        let event = self.events.iter().nth(place)?;
+        Some(event.token().0)
+    }
+
+    // Visits those of which the system tells, and lets in those that wait.
+    fn turn(&mut self, shown: &Shown, now: u64) {
+        for place in 0..EVENTS {
+            let Some(key) = self.token_at(place) else {
+                break;
+            };
+            if key != LISTENER.0 {
+                self.visit(shown, key);
+            }
+        }
+        self.accept_all(now);
+        self.sweep(now);
+    }
+
+    // One wait and what comes of it. The snapshot is taken before any request is answered from it;
+    // where there is no memory for its texts, what was shown last is shown again.
+    fn serve_once<S: Source>(&mut self, source: &mut S, shown: &mut Shown, now: u64) {
+        if !self.events.is_empty()
+            && let Ok(fresh) = Shown::of(self.alloc, &source.snapshot())
+        {
+            *shown = fresh;
+        }
+        self.turn(shown, now);
+    }
+
+    /// Serves until it is told to end. Each turn shows what `source` has then.
+    pub fn run<R: Wait + Clock, S: Source>(&mut self, rt: &R, source: &mut S, halt: &Halt) {
+        let mut shown = Shown {
+            metrics: Vec::new(self.alloc),
+            page: Vec::new(self.alloc),
+        };
+        for _ in rt.forever() {
+            let timeout = Some(Duration::from_millis(LOOK));
+            let _ = self.poll.poll(&mut self.events, timeout);
+            if halt.is_halted() {
+                break;
+            }
+            let now = self.now(rt);
+            self.serve_once(source, &mut shown, now);
+        }
+    }
+}

@@ -1,0 +1,61 @@
+//! Takes the input of a player at a desk of parts that are lent for one piece.
+
+ghost use Rattle.std.specs.Prelude.{◌≡◌, ◌++◌, IfErr, OnOk};
+ghost use Rattle.rtsp_grammar.specs.Answer.{IsUndecided};
+ghost use Rattle.rtsp_lock.specs.Calls.{IsSeatOf, SameSeat};
+ghost use Rattle.rtsp_engine.specs.Devices.{devices};
+ghost use Rattle.rtsp_dialect.specs.Understanding.{TakesPiece, FaultsPiece, gathered};
+
+use crate::understanding::push_understood;
+use crate::witness::Witness;
+use rtsp_content::Table;
+use rtsp_engine::{Asker, Binder, Clock, Connection, Desk, Plays, Shares, Words};
+use rtsp_grammar::MessageFault;
+use rtsp_lock::{BookLock, BookSeat};
+use rtsp_state::Room;
+use std::alloc::Global;
+use std::sync::Wait;
+
+/// Takes a piece as rtsp_dialect's `push_lent` does, byte for byte, and tells the witness of each
+/// request that was answered.
+pub fn push_lent<'a, R: Wait, B: Binder, W: Words, C: Clock, P: Plays, S: Shares, T: Witness>(
+    rt: &'a R,
+    alloc: Global,
+    seat: &'a mut BookSeat,
+    lock: &'a BookLock,
+    binder: &'a mut B,
+    words: &'a mut W,
+    clock: &'a mut C,
+    plays: &'a mut P,
+    shares: &'a mut S,
+    table: &'a Table,
+    asker: Asker,
+    witness: &T,
+    input: &mut Connection,
+    piece: &[u8],
+    room: &mut Room,
+) -> Result<(), MessageFault>
+    requires { IsSeatOf seat.old lock.now }
+    ensures same { SameSeat seat.old seat.new }
+    ensures goes_on { OnOk result (TakesPiece (devices B.calls W.calls C.tells P.calls S.calls)
+        (input.old ++ piece.now) input.new
+        (gathered table.now asker seat.old room.old) (gathered table.now asker seat.new room.new)) }
+    ensures undecided { OnOk result (IsUndecided input.new) }
+    ensures ends { IfErr result (λ f. FaultsPiece (devices B.calls W.calls C.tells P.calls S.calls)
+        (input.old ++ piece.now) f
+        (gathered table.now asker seat.old room.old) (gathered table.now asker seat.new room.new)) }
+{
+    let mut desk = Desk {
+        rt,
+        seat,
+        lock,
+        binder,
+        words,
+        clock,
+        plays,
+        shares,
+        table,
+        asker,
+    };
+    push_understood(alloc, &mut desk, witness, input, piece, room)
+}

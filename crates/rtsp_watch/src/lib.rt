@@ -1,0 +1,18 @@
+//! Requests that are answered, and told of. What is told changes no byte of an answer: whoever is
+//! watched answers as he does unwatched, and `push_watched`, `push_understood` and `push_lent` say so
+//! in the words of the engine and of the players' dialect.
+//!
+//! The definitions of `specs/`: Watching (how items are answered by one who is watched).
+
+#![tactic(auto)]
+
+mod lending;
+mod reading;
+mod understanding;
+mod watching;
+mod witness;
+
+pub use lending::push_lent;
+pub use understanding::push_understood;
+pub use watching::{push_repaired_watched, push_watched};
+pub use witness::{Told, Witness};

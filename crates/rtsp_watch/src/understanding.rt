@@ -1,0 +1,81 @@
+//! Takes the input of a player at a desk, has answered what it means to the players of the
+//! configuration, and tells of each request.
+
+ghost use Rattle.std.specs.Prelude.{◌≡◌, ◌++◌, IfErr, OnOk};
+ghost use Rattle.rtsp_grammar.specs.Answer.{IsUndecided};
+ghost use Rattle.rtsp_engine.specs.Desk.{SameParts};
+ghost use Rattle.rtsp_engine.specs.DeskAnswers.{Takes as TakesStrict, Faults as FaultsStrict};
+ghost use Rattle.rtsp_engine.specs.Devices.{devices};
+ghost use Rattle.rtsp_engine.specs.Served.{at};
+ghost use Rattle.rtsp_dialect.specs.Repairing.{Takes, Faults};
+ghost use Rattle.rtsp_dialect.specs.Understanding.{TakesPiece, FaultsPiece, serves};
+
+use crate::watching::{push_repaired_watched, push_watched};
+use crate::witness::Witness;
+use rtsp_content::Players;
+use rtsp_engine::{Binder, Clock, Connection, Desk, Plays, Shares, Words};
+use rtsp_grammar::MessageFault;
+use rtsp_state::Room;
+use std::alloc::Global;
+use std::sync::Wait;
+
+// Takes a piece as `Desk::push` does.
+fn push_strict<R: Wait, B: Binder, W: Words, C: Clock, P: Plays, S: Shares, T: Witness>(
+    alloc: Global,
+    desk: &mut Desk<'_, R, B, W, C, P, S>,
+    witness: &T,
+    connection: &mut Connection,
+    piece: &[u8],
+    room: &mut Room,
+) -> Result<(), MessageFault>
+    ensures same { SameParts desk.old desk.new }
+    ensures goes_on { OnOk result (TakesStrict (devices B.calls W.calls C.tells P.calls S.calls)
+        (connection.old ++ piece.now) connection.new (at room.old desk.old) (at room.new desk.new)) }
+    ensures undecided { OnOk result (IsUndecided connection.new) }
+    ensures ends { IfErr result (λ f. FaultsStrict (devices B.calls W.calls C.tells P.calls S.calls)
+        (connection.old ++ piece.now) f (at room.old desk.old) (at room.new desk.new)) }
+{
+    push_watched(alloc, desk, witness, connection, piece, room)
+}
+
+// Takes a piece, and has the repaired items answered.
+fn push_repaired<R: Wait, B: Binder, W: Words, C: Clock, P: Plays, S: Shares, T: Witness>(
+    alloc: Global,
+    desk: &mut Desk<'_, R, B, W, C, P, S>,
+    witness: &T,
+    connection: &mut Connection,
+    piece: &[u8],
+    room: &mut Room,
+) -> Result<(), MessageFault>
+    ensures same { SameParts desk.old desk.new }
+    ensures goes_on { OnOk result (Takes (devices B.calls W.calls C.tells P.calls S.calls)
+        (connection.old ++ piece.now) connection.new (at room.old desk.old) (at room.new desk.new)) }
+    ensures undecided { OnOk result (IsUndecided connection.new) }
+    ensures ends { IfErr result (λ f. Faults (devices B.calls W.calls C.tells P.calls S.calls)
+        (connection.old ++ piece.now) f (at room.old desk.old) (at room.new desk.new)) }
+{
+    push_repaired_watched(alloc, desk, witness, connection, piece, room)
+}
+
+/// Takes a piece of a connection's input as rtsp_dialect's `push_understood` does, byte for byte, and
+/// tells the witness of each request that was answered.
+pub fn push_understood<R: Wait, B: Binder, W: Words, C: Clock, P: Plays, S: Shares, T: Witness>(
+    alloc: Global,
+    desk: &mut Desk<'_, R, B, W, C, P, S>,
+    witness: &T,
+    input: &mut Connection,
+    piece: &[u8],
+    room: &mut Room,
+) -> Result<(), MessageFault>
+    ensures same { SameParts desk.old desk.new }
+    ensures goes_on { OnOk result (TakesPiece (devices B.calls W.calls C.tells P.calls S.calls)
+        (input.old ++ piece.now) input.new (serves desk.old room.old) (serves desk.new room.new)) }
+    ensures undecided { OnOk result (IsUndecided input.new) }
+    ensures ends { IfErr result (λ f. FaultsPiece (devices B.calls W.calls C.tells P.calls S.calls)
+        (input.old ++ piece.now) f (serves desk.old room.old) (serves desk.new room.new)) }
+{
+    match desk.table.server().players {
+        Players::Strict => push_strict(alloc, desk, witness, input, piece, room),
+        Players::Gstreamer => push_repaired(alloc, desk, witness, input, piece, room),
+    }
+}
