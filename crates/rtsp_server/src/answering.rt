@@ -6,19 +6,18 @@ ghost use Rattle.rtsp_engine.specs.Devices.{devices};
 ghost use Rattle.rtsp_engine.specs.Serving.{serving_of};
 ghost use Rattle.rtsp_dialect.specs.Understanding.{AnswersUnderstood, GivesUpUnderstood, TakesPiece, FaultsPiece, gathered};
 
-use crate::activity::Activity;
-use crate::lane_shares::LaneShares;
-use crate::limits::{ANSWERS, PAUSE};
-use crate::relieving::make_room;
+use crate::figures::AnswerCounter;
 use crate::shared::Shared;
+use memchr::memmem::find;
 use rtsp_content::Table;
-use rtsp_dialect::push_lent;
 use rtsp_engine::{Asker, Binder, Clock, Connection, PieceAnswerer, Plays, Shares, Words};
 use rtsp_grammar::MessageFault;
 use rtsp_lanes::BookHandle;
 use rtsp_pacing::NotedPlays;
 use rtsp_sockets::{Outlet, PieceClock, PortBinder, RandomWords};
 use rtsp_state::Room;
+use rtsp_threads::{ANSWERS, Activity, LaneShares, PAUSE};
+use rtsp_watch::push_lent;
 use std::alloc::Global;
 use std::net::{Ipv4Addr, Net};
 use std::rt;
@@ -74,6 +73,12 @@ fn answer_piece<R: Wait + Net + rt::Clock, W: Words, P: Plays>(
     let mut binder = PortBinder::new(rt, &shared.ports, host);
     let mut clock = PieceClock::new(rt, shared.begun);
     let mut shares = LaneShares::new(rt, shared.session_shares.as_ref(), lane);
+    let witness = AnswerCounter {
+        rt,
+        shared,
+        peer: asker.peer,
+        conn: asker.conn,
+    };
     push_lent(
         rt,
         alloc,
@@ -86,10 +91,16 @@ fn answer_piece<R: Wait + Net + rt::Clock, W: Words, P: Plays>(
         &mut shares,
         table,
         asker,
+        &witness,
         input,
         piece,
         room,
     )
+}
+
+// Whether a piece that begins with an item may ask for the end of a session.
+fn asks_for_an_end(piece: &[u8]) -> bool {
+    find(piece, b"TEARDOWN").is_some()
 }
 
 impl<R: Wait + Net + rt::Clock> PieceAnswerer for Front<'_, R> {
@@ -110,9 +121,10 @@ impl<R: Wait + Net + rt::Clock> PieceAnswerer for Front<'_, R> {
         piece: &[u8],
         room: &mut Room,
     ) -> Result<(), MessageFault> {
-        make_room(self.rt, self.table, self.lane);
+        self.shared.make_room(self.rt, self.table, self.lane);
         let all = input.len().saturating_add(piece.len());
         let given = self.words.given();
+        let may_end = !input.is_idle() || asks_for_an_end(piece);
         let pushed = answer_piece(
             self.rt,
             alloc,
@@ -130,6 +142,10 @@ impl<R: Wait + Net + rt::Clock> PieceAnswerer for Front<'_, R> {
         );
         let has_setup = self.words.given() != given;
         self.activity.note(self.now, all, input, has_setup);
+        // A session that is refused behind its first words has been opened, and has ended.
+        if may_end || has_setup {
+            self.shared.note_end();
+        }
         pushed
     }
 

@@ -1,10 +1,7 @@
 //! A connection of a lane.
 
-use crate::activity::Activity;
 use crate::answering::Front;
-use crate::hearing::{Hearing, HearingReader};
-use crate::leaving::take_leave;
-use crate::limits::{PAUSE, PIECES};
+use crate::hearing::Hearing;
 use crate::service::Service;
 use crate::shared::Shared;
 use crate::tools::Tools;
@@ -17,6 +14,7 @@ use rtsp_lanes::BookHandle;
 use rtsp_pacing::NotedPlays;
 use rtsp_sockets::{Outlet, RandomWords, prepare};
 use rtsp_state::Room;
+use rtsp_threads::{Activity, HearingReader, PAUSE, PIECES, take_leave};
 use std::alloc::Global;
 use std::net::{Ipv4Addr, Net, SocketAddr};
 use std::os::fd::{AsRawFd, RawFd};
@@ -395,7 +393,10 @@ impl Client {
         } = self;
         outlet.close(rt);
         shared.outlets.remove(rt, asker.conn);
-        take_leave(rt, &mut handle, shared, asker.conn);
+        let mut binder = shared.unbinder(rt);
+        if take_leave(rt, &mut handle, &mut binder, asker.conn) {
+            shared.note_end();
+        }
         shared.gate.leave(rt, asker.peer);
     }
 }

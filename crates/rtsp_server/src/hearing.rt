@@ -1,69 +1,9 @@
 //! Hears the RTCP that comes on a connection.
 
 use crate::service::Service;
-use rtsp_engine::{PieceIn, Reading};
 use rtsp_lanes::BookHandle;
 use rtsp_pacing::{Report, hear, report_step};
 use std::sync::Wait;
-
-// What a frame begins with.
-const DOLLAR: u8 = 0x24;
-
-/// A reader that tells of the frame that the first piece of a visit begins with.
-#[derive(Drop)]
-pub(crate) struct HearingReader<I> {
-    inner: I,
-    // Whether the next piece begins with an item.
-    is_between_items: bool,
-    channel: Option<u8>,
-}
-
-// The channel of the frame that the bytes begin with, where they have all of it.
-fn channel_of(bytes: &[u8]) -> Option<u8> {
-    let [DOLLAR, channel, high, low, payload @ ..] = bytes else {
-        return None;
-    };
-    let len = usize::from(u16::from_be_bytes([*high, *low]));
-    if payload.len() >= len {
-        Some(*channel)
-    } else {
-        None
-    }
-}
-
-impl<I> HearingReader<I> {
-    /// Hears what the other one reads. Whether nothing of an item was read before.
-    pub(crate) fn new(inner: I, is_between_items: bool) -> HearingReader<I> {
-        HearingReader {
-            inner,
-            is_between_items,
-            channel: None,
-        }
-    }
-
-    /// The channel of the frame that came first.
-    pub(crate) fn channel(&self) -> Option<u8> {
-        self.channel
-    }
-}
-
-impl<I: PieceIn> PieceIn for HearingReader<I> {
-    ghost remaining = { λ s. I.remaining s.inner };
-
-    ghost failures = { λ s. I.failures s.inner };
-
-    fn read_piece(&mut self, buffer: &mut [u8]) -> Reading {
-        let reading = self.inner.read_piece(buffer);
-        if self.is_between_items
-            && let Reading::Bytes(len) = reading
-            && let Some(bytes) = buffer.get(..len)
-        {
-            self.channel = channel_of(bytes);
-        }
-        self.is_between_items = false;
-        reading
-    }
-}
 
 /// Whose RTCP a connection hears: that of the session whose play was begun on it last.
 #[derive(Clone, Copy, Debug)]

@@ -1,16 +1,19 @@
 //! What the threads of a server share.
 
-use crate::gate::Gate;
-use crate::session_shares::SessionShares;
-use crate::stop_bell::StopBell;
-use crate::watermark::Watermark;
 use mio::Waker;
 use mio::net::TcpListener;
 use rtsp_content::{Server, Table};
+use rtsp_lanes::BookHandle;
+use rtsp_log::Log;
+use rtsp_metrics::Counters;
 use rtsp_pacing::Bells;
-use rtsp_sockets::{Outlets, PortTable};
+use rtsp_shares::{ShareTable, Watermark};
+use rtsp_sockets::{Outlets, PortBinder, PortTable};
+use rtsp_status::Halt;
+use rtsp_threads::{FEW_LINES, Gate, LOG_LINES, ScribeBell, StopBell, ask_for_room, make_room};
 use std::alloc::{AllocError, Global};
-use std::sync::atomic::{AtomicU64, Ordering};
+use std::net::Ipv4Addr;
+use std::sync::atomic::{AtomicBool, AtomicU64, Ordering};
 use std::sync::{Mutex, Wait};
 use std::time::Instant;
 use std::{io, rt};
@@ -21,39 +24,48 @@ pub(crate) struct Shared {
     pub(crate) listener: TcpListener,
     pub(crate) gate: Gate,
     /// What addresses have of the sessions, where each has a share of them.
-    pub(crate) session_shares: Option<Mutex<SessionShares>>,
+    pub(crate) session_shares: Option<Mutex<ShareTable>>,
     pub(crate) outlets: Outlets,
     pub(crate) ports: PortTable,
     /// The pacers', by which they learn of plays.
     pub(crate) bells: Bells,
     /// The sweeper's.
     pub(crate) stop_bell: StopBell,
+    /// That of the thread that writes the journal to files, where one does.
+    pub(crate) scribe: Option<ScribeBell>,
+    /// Ends the thread that shows the figures.
+    pub(crate) halt: Halt,
+    /// What is counted for whoever runs the server.
+    pub(crate) counters: Counters,
+    /// What is told to whoever runs the server.
+    pub(crate) log: Log,
     /// From when on moments are counted.
     pub(crate) begun: Instant,
     watermark: Mutex<Watermark>,
+    // Whether a session may have ended since this was asked last.
+    has_ended: AtomicBool,
     wakers: Mutex<Vec<Waker>>,
     // The moment from which on no connection is waited for, the greatest while the server serves.
     stop_by: AtomicU64,
+    // How many lanes have begun.
+    standing: AtomicU64,
 }
 
 // What addresses have of the sessions, where each has at most so many. There is room for all that live
 // and for one more of each lane, and for as many that don't live any more: so it is seldom that these
 // have to be looked for.
-fn session_shares(
-    alloc: Global,
-    numbers: Server,
-) -> Result<Option<Mutex<SessionShares>>, AllocError> {
+fn session_shares(alloc: Global, numbers: Server) -> Result<Option<Mutex<ShareTable>>, AllocError> {
     let Some(share) = numbers.sessions_per_address else {
         return Ok(None);
     };
     let most = 2 * usize::from(numbers.sessions) + usize::from(numbers.workers);
-    let shares = SessionShares::new(alloc, usize::from(share), most)?;
+    let shares = ShareTable::new(alloc, usize::from(share), most)?;
     Ok(Some(Mutex::new(shares)))
 }
 
 impl Shared {
     /// What the threads of a server of this configuration share, which serves so many connections of
-    /// this listener, or any number, and has so many pacers.
+    /// this listener, or any number, has so many pacers, and may have one that writes the journal.
     pub(crate) fn open<R: rt::Clock>(
         rt: &R,
         alloc: Global,
@@ -61,8 +73,11 @@ impl Shared {
         listener: TcpListener,
         connections: Option<u64>,
         pacers: usize,
+        scribe: Option<ScribeBell>,
+        logs_access: bool,
     ) -> io::Result<Shared> {
         let numbers = table.server();
+        let lines = if logs_access { LOG_LINES } else { FEW_LINES };
         let watermark = Watermark::new(alloc, usize::from(numbers.workers))?;
         Ok(Shared {
             listener,
@@ -72,10 +87,16 @@ impl Shared {
             ports: PortTable::open(alloc, numbers.first_port, numbers.pairs)?,
             bells: Bells::new(alloc, pacers, numbers.sessions)?,
             stop_bell: StopBell::new(),
+            scribe,
+            halt: Halt::new(),
+            counters: Counters::new(),
+            log: Log::new(alloc, lines, logs_access)?,
             begun: Instant::now(rt)?,
             watermark: Mutex::new(watermark),
+            has_ended: AtomicBool::new(false),
             wakers: Mutex::new(Vec::new(alloc)),
             stop_by: AtomicU64::new(u64::MAX),
+            standing: AtomicU64::new(0),
         })
     }
 
@@ -85,6 +106,11 @@ impl Shared {
             Ok(elapsed) => u64::try_from(elapsed.as_millis()).unwrap_or(u64::MAX),
             Err(_) => 0,
         }
+    }
+
+    /// A binder that unbinds what sessions leave, and binds nothing.
+    pub(crate) fn unbinder<'a, R>(&'a self, rt: &'a R) -> PortBinder<'a, R> {
+        PortBinder::new(rt, &self.ports, Ipv4Addr::UNSPECIFIED)
     }
 
     /// A lane has read all that had come up to a moment.
@@ -104,6 +130,39 @@ impl Shared {
         let moment = watermark.moment(now);
         watermark.note_sweep(now);
         moment
+    }
+
+    /// Keeps the journal from filling, before a lane has a piece answered.
+    pub(crate) fn make_room<R: Wait + rt::Clock>(
+        &self,
+        rt: &R,
+        table: &Table,
+        lane: &mut BookHandle,
+    ) {
+        match &self.scribe {
+            Some(scribe) => ask_for_room(rt, table, lane, scribe),
+            None => make_room(rt, table, lane),
+        }
+    }
+
+    /// A lane has begun.
+    pub(crate) fn note_standing(&self) {
+        self.standing.fetch_add(1, Ordering::Relaxed);
+    }
+
+    /// How many lanes have begun.
+    pub(crate) fn standing(&self) -> u64 {
+        self.standing.load(Ordering::Relaxed)
+    }
+
+    /// A session may have ended.
+    pub(crate) fn note_end(&self) {
+        self.has_ended.store(true, Ordering::SeqCst);
+    }
+
+    /// Whether a session may have ended since this was asked last.
+    pub(crate) fn take_ends(&self) -> bool {
+        self.has_ended.swap(false, Ordering::SeqCst)
     }
 
     /// A lane is woken by this.
@@ -140,5 +199,10 @@ impl Shared {
     pub(crate) fn stop<R: Wait>(&self, rt: &R) {
         self.bells.stop(rt);
         self.stop_bell.ring(rt);
+        if let Some(scribe) = &self.scribe {
+            scribe.stop(rt);
+        }
+        self.log.close();
+        self.halt.halt();
     }
 }

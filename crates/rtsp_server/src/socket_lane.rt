@@ -1,8 +1,6 @@
 //! A lane of sockets.
 
-use crate::acceptor::{Accepted, Acceptor};
 use crate::client::{Client, Visit};
-use crate::limits::{ACCEPTS, SWEEP_EVERY, TURN_EVERY};
 use crate::service::Service;
 use crate::shared::Shared;
 use crate::tools::Tools;
@@ -12,6 +10,7 @@ use mio::{Events, Interest, Poll, Token, Waker};
 use rtsp_content::Table;
 use rtsp_lanes::{BookHandle, Lane, LaneTurn};
 use rtsp_sockets::RandomWords;
+use rtsp_threads::{ACCEPTS, Accepted, Acceptor, SWEEP_EVERY, TURN_EVERY};
 use slab::Slab;
 use std::alloc::Global;
 use std::collections::VecDeque;
@@ -36,6 +35,8 @@ const EVENTS: usize = 256;
 pub struct SocketLane {
     shared: Arc<Shared>,
     clients: Clients,
+    // Whether it has begun.
+    stands: bool,
 }
 
 // The connections of a lane.
@@ -88,7 +89,11 @@ impl SocketLane {
             ended: 0,
         };
         let shared = Arc::try_clone(shared)?;
-        Ok(SocketLane { shared, clients })
+        Ok(SocketLane {
+            shared,
+            clients,
+            stands: false,
+        })
     }
 }
 
@@ -162,8 +167,10 @@ impl Clients {
     ) {
         let gate = &service.shared.gate;
         if !gate.enter(service.rt, peer) {
+            service.shared.counters.turned_away();
             return;
         }
+        service.shared.counters.accepted();
         if gate.is_shut() {
             service.shared.wake_lanes(service.rt);
         }
@@ -363,7 +370,15 @@ impl Lane for SocketLane {
         handle: &mut BookHandle,
         table: &Table,
     ) -> LaneTurn {
-        let SocketLane { shared, clients } = self;
+        if !self.stands {
+            self.stands = true;
+            self.shared.note_standing();
+        }
+        let SocketLane {
+            shared,
+            clients,
+            ..
+        } = self;
         let shared = &*shared;
         clients.turn(rt, alloc, table, shared, handle)
     }

@@ -1,8 +1,8 @@
 //! The thread that looks for the signals that end the server.
 
-use crate::limits::{SIGNALS_EVERY, STOP_LIMIT};
 use crate::shared::Shared;
-use crate::signals::{OwnStatus, StopAsked};
+use rtsp_log::Event;
+use rtsp_threads::{OwnStatus, SIGNALS_EVERY, STOP_LIMIT, StopAsked};
 use std::rt;
 use std::sync::Wait;
 use std::time::Duration;
@@ -20,7 +20,12 @@ pub(crate) fn watch_signals<R: Wait + rt::Clock>(rt: &R, status: &OwnStatus, sha
         }
         let now = shared.now(rt);
         match status.stop_asked() {
-            Some(StopAsked::Stop) => shared.begin_stop(rt, now.saturating_add(STOP_LIMIT)),
+            Some(StopAsked::Stop) => {
+                if shared.stop_by().is_none() {
+                    shared.log.event(rt, Event::Stopping);
+                }
+                shared.begin_stop(rt, now.saturating_add(STOP_LIMIT));
+            }
             Some(StopAsked::StopNow) => shared.begin_stop(rt, now),
             Some(StopAsked::Nothing) | None => {}
         }

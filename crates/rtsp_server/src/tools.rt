@@ -1,9 +1,9 @@
 //! What a lane answers with.
 
-use crate::limits::PIECE;
 use rtsp_pacing::NotedPlays;
 use rtsp_sockets::RandomWords;
 use rtsp_state::Room;
+use rtsp_threads::PIECE;
 use std::alloc::{AllocError, Global};
 
 /// What a lane answers with, for one connection after another.

@@ -1,8 +1,8 @@
 //! A server with its sockets and threads, and a player on this host.
 
 use rtsp_book::BookRep;
-use rtsp_content::Table;
-use rtsp_server::{PoolEnd, Server};
+use rtsp_content::{Operation, Table};
+use rtsp_server::{Announce, PoolEnd, Server};
 use std::io::{Read, Write};
 use std::net::{Ipv4Addr, Net, SocketAddr, SocketAddrV4, TcpStream};
 use std::test::Fail;
@@ -82,15 +82,31 @@ fn play<R: Net<Stream = TcpStream> + AllocGlobal>(
     Ok(said)
 }
 
+// Nobody is told where the server listens.
+#[derive(Drop)]
+struct Untold;
+
+impl Announce for Untold {
+    fn announce(&mut self, _address: SocketAddr) -> bool {
+        true
+    }
+}
+
 #[test]
 fn a_server_answers_three_requests(rt: HostRuntime) -> Result<(), Fail> {
     let media = Vec::from_elem(rt.alloc(), 0u8, 1600)?;
     fs::write(&rt, MEDIA, &media)?;
     let table = Table::read(rt.alloc(), CONFIGURATION.as_bytes())?;
     let any = SocketAddr::V4(SocketAddrV4::new(Ipv4Addr::LOCALHOST, 0));
-    let server = Server::open(&rt, rt.alloc(), table, any, Some(1))?;
+    let errors = rt.stderr();
+    let operation = Operation::read_at(rt.alloc(), CONFIGURATION.as_bytes(), "")?;
+    let server = Server::open(&rt, rt.alloc(), table, operation, any, Some(1))?;
     let address = server.address();
-    let (ended, said) = thread::join(&rt, || server.run(&rt), || play(&rt, address));
+    let (ended, said) = thread::join(
+        &rt,
+        || server.run(&rt, Untold, errors),
+        || play(&rt, address),
+    );
     let said = said?;
     let end = ended?;
     assert!(rt; end.pool == PoolEnd { served: 1, idle: 0 });

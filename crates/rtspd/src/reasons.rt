@@ -1,5 +1,6 @@
 //! Why there is no server, for whoever started it.
 
+use crate::running::read_operation;
 use crate::serving::address_of;
 use rtsp_command_line::{CommandLine, Exit, read_words};
 use rtsp_content::{Presentation, Table, Track};
@@ -17,7 +18,9 @@ pub fn tell_reasons<
         return;
     }
     if let Ok(Some(CommandLine::Serve { config, listen, .. })) = read_words(rt.alloc(), words) {
-        let has_told = tell_of_files(rt, config) || tell_of_address(rt, listen);
+        let has_told = tell_of_files(rt, config)
+            || tell_of_operation(rt, config)
+            || tell_of_address(rt, listen);
         if !has_told {
             let _ = eprintln!(rt;
                 "rtspd: files and address are right; a thread, a descriptor or the output failed"
@@ -85,6 +88,43 @@ fn tell_of_track<R: Files<File = File> + Eprint>(
         "rtspd: {path}: it has {length} bytes, and {units} units of {octets} octets are {wanted} ({name})"
     );
     true
+}
+
+// Tells what is wrong with where the journal is written, or with the address of the figures, if
+// anything is.
+fn tell_of_operation<
+    R: Files<File = File> + AllocGlobal + Net<Listener = TcpListener, Stream = TcpStream> + Eprint,
+>(rt: &R, config: &str) -> bool {
+    let operation = match read_operation(rt, config) {
+        Ok(operation) => operation,
+        Err(_) => {
+            let _ = eprintln!(rt; "rtspd: {config}: ./explain-configuration {config} says where");
+            return true;
+        }
+    };
+    if let Some(files) = operation.journal()
+        && let Err(error) = fs::metadata(rt, files.folder())
+    {
+        let folder = files.folder();
+        let _ = eprintln!(rt; "rtspd: {folder}: {error}");
+        return true;
+    }
+    match operation.status() {
+        Some(address) => tell_of_status(rt, address),
+        None => false,
+    }
+}
+
+// Tells why the figures can't be shown at this address, if they can't.
+fn tell_of_status<R: Net<Listener = TcpListener, Stream = TcpStream> + Eprint>(
+    rt: &R,
+    address: &str,
+) -> bool {
+    if address_of(Some(address)).is_err() {
+        let _ = eprintln!(rt; "rtspd: {address}: no address");
+        return true;
+    }
+    tell_of_address(rt, Some(address))
 }
 
 // Tells why the address can't be listened on, if it can't.

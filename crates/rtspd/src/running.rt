@@ -1,27 +1,34 @@
 //! The programs, by their command lines: a conversation over standard input and output, the audit
 //! of a journal, and the server.
 
+ghost use Rattle.std.specs.Prelude.{IfOk};
+ghost use Rattle.rtsp_record.specs.Choices.{HasPorts};
+
 use crate::example::EXAMPLE;
 use crate::serving::run_serve;
 use rtsp_book::PlainBook;
 use rtsp_command_line::{CommandLine, Exit, read_words};
-use rtsp_content::{Table, TableFault};
+use rtsp_content::{Operation, Table, TableFault};
 use rtsp_devices::{Conversation, serve_alone};
 use rtsp_engine::{ByteOut, CountedReader, CountedWriter, ServeEnd, StreamFault, TURNS};
 use rtsp_grammar::MessageFault;
-use rtsp_record::{Entry, JournalFault, read_journal, write_journal};
+use rtsp_record::{Entry, JournalFault, Whole, read_journal, write_journal};
 use rtsp_server::whole_of;
 use rtsp_undo::{
     AuditFault, book_text, replay, rewind, without_admission, without_ended, without_session,
 };
 use std::alloc::Global;
 use std::fs::File;
-use std::io::{self, ErrorKind, Read, Write};
+use std::io::{self, Eprint, ErrorKind, Read, Write};
 use std::net::{Net, TcpListener, TcpStream};
+use std::random::RandomSource;
 use std::rt::Files;
 use std::sync::Wait;
 use std::thread::Threads;
 use std::{fs, rt};
+
+// The most entries that a journal may have.
+const MAX_JOURNAL: u32 = 1_000_000;
 
 /// Runs a command line that needs no socket, and returns how that ended. First the words are read,
 /// then the configuration, then the journal or the conversation; the first fault met is returned.
@@ -40,7 +47,8 @@ pub fn run_words<R: Files + AllocGlobal + Wait, I: Read + Drop, O: Write + Drop>
     exit_of(ended)
 }
 
-/// Runs any command line: `serve` by sockets and threads, and others as `run_words` does.
+/// Runs any command line: `serve` by sockets and threads, and others as `run_words` does. The log of
+/// `serve` goes to the stream of errors.
 pub fn run_program<
     R: Files<File = File>
         + AllocGlobal
@@ -48,10 +56,13 @@ pub fn run_program<
         + Wait
         + Net<Listener = TcpListener, Stream = TcpStream>
         + rt::Clock
+        + Eprint
+        + RandomSource
         + Sync,
     I: Read + Drop,
     O: Write + Drop,
->(rt: &R, words: &[&str], reader: I, writer: O) -> Exit
+    E: Write + Drop + Send,
+>(rt: &R, words: &[&str], reader: I, writer: O, errors: E) -> Exit
 where
     R: Net<Listener = TcpListener, Stream = TcpStream>,
 {
@@ -64,7 +75,7 @@ where
                     connections,
                 },
             ),
-        ) => run_serve(rt, config, listen, connections, writer),
+        ) => run_serve(rt, config, listen, connections, writer, errors),
         Ok(Some(line)) => run_line(rt, line, reader, writer),
         Ok(None) => Err(Exit::BadCommandLine),
         Err(_) => Err(Exit::OutOfMemory),
@@ -145,6 +156,44 @@ pub(crate) fn read_table<R: Files + AllocGlobal>(
         Err(TableFault::OutOfMemory) => Err(Exit::OutOfMemory),
         Err(_) => Err(Exit::BadConfiguration),
     }
+}
+
+// What `serve` keeps and shows by the configuration of a file.
+pub(crate) fn read_operation<R: Files + AllocGlobal>(
+    rt: &R,
+    config: &str,
+) -> Result<Operation, Exit> {
+    let text = match fs::read(rt, config) {
+        Ok(text) => text,
+        Err(error) => return Err(file_fault(&error)),
+    };
+    match Operation::read_at(rt.alloc(), &text, config) {
+        Ok(operation) => Ok(operation),
+        Err(TableFault::OutOfMemory) => Err(Exit::OutOfMemory),
+        Err(_) => Err(Exit::BadConfiguration),
+    }
+}
+
+// All that there is to hold by a configuration, for an audit. A file of a journal that is written to
+// files has more entries than stood at home at once, so it is read up to the greatest limit.
+fn audited_whole<R: Files + AllocGlobal>(
+    rt: &R,
+    config: Option<&str>,
+    table: &Table,
+) -> Result<Whole, Exit>
+    ensures { IfOk result (λ w. HasPorts w) }
+{
+    let whole = whole_of(table);
+    let Some(path) = config else {
+        return Ok(whole);
+    };
+    if read_operation(rt, path)?.journal().is_none() {
+        return Ok(whole);
+    }
+    Ok(Whole {
+        journal: MAX_JOURNAL,
+        ..whole
+    })
 }
 
 fn run_stdio<R: Files + AllocGlobal + Wait, I: Read + Drop, O: Write + Drop>(
@@ -247,8 +296,9 @@ fn run_audit<R: Files + AllocGlobal, O: Write + Drop>(
     writer: O,
 ) -> Result<(), Exit> {
     let table = read_table(rt, config)?;
+    let whole = audited_whole(rt, config, &table)?;
     let journal = omit(rt.alloc(), read_in(rt, journal)?, &omitted)?;
-    let mut kept = match replay::<PlainBook>(rt.alloc(), &whole_of(&table), journal) {
+    let mut kept = match replay::<PlainBook>(rt.alloc(), &whole, journal) {
         Ok(kept) => kept,
         Err(AuditFault::NotAllowed(n)) => return Err(Exit::NotAllowed(n as u64)),
         Err(AuditFault::TooLong) => return Err(Exit::JournalTooLong),

@@ -1,17 +1,22 @@
 //! The program that serves the connections of a socket.
 
-use crate::running::read_table;
+use crate::running::{read_operation, read_table};
 use rtsp_command_line::Exit;
-use rtsp_engine::{ByteOut, CountedWriter, StreamFault};
-use rtsp_server::{Server, ServerFault};
+use rtsp_engine::{ByteOut, CountedWriter};
+use rtsp_server::{Announce, Server, ServerFault};
 use std::alloc::Global;
 use std::fs::File;
-use std::io::Write;
+use std::io::{Eprint, Write};
 use std::net::{Ipv4Addr, Net, SocketAddr, SocketAddrV4, TcpListener, TcpStream};
+use std::os::fd::{AsRawFd, RawFd};
+use std::random::RandomSource;
 use std::rt;
 use std::rt::Files;
 use std::sync::Wait;
 use std::thread::Threads;
+
+// The greatest number of a standard stream.
+const STANDARD_ERROR: RawFd = 2;
 
 // The port that is listened on where no address is named, on 127.0.0.1.
 const PORT: u16 = 8_554;
@@ -37,19 +42,51 @@ fn fault_exit(fault: ServerFault) -> Exit {
 }
 
 // Tells where the server listens.
-fn announce<O: Write + Drop>(alloc: Global, address: SocketAddr, writer: O) -> Result<(), Exit> {
-    let Ok(line) = format!(in alloc; "rtspd: listening on {address}\n") else {
-        return Err(Exit::OutOfMemory);
-    };
-    let mut writer = CountedWriter::new(writer);
-    match writer.write(line.as_bytes()) {
-        Ok(()) => Ok(()),
-        Err(StreamFault) => Err(Exit::DeviceFailed),
+#[derive(Drop)]
+struct Announcer<O> {
+    alloc: Global,
+    writer: CountedWriter<O>,
+}
+
+impl<O: Write + Drop> Announce for Announcer<O> {
+    fn announce(&mut self, address: SocketAddr) -> bool {
+        match format!(in self.alloc; "rtspd: listening on {address}\n") {
+            Ok(line) => self.writer.write(line.as_bytes()).is_ok(),
+            Err(_) => false,
+        }
+    }
+}
+
+// Takes the numbers of the standard streams, as far as they are closed: else a connection would get
+// one of them, and the log would be written to a player.
+fn hold_standard_streams<R: Files<File = File>>(rt: &R, alloc: Global) -> Result<Vec<File>, Exit> {
+    let mut held = Vec::new(alloc);
+    for _ in 0..=STANDARD_ERROR {
+        let Ok(file) = File::open(rt, "/dev/null") else {
+            return Err(Exit::DeviceFailed);
+        };
+        if file.as_raw_fd() > STANDARD_ERROR {
+            break;
+        }
+        if held.push(file).is_err() {
+            return Err(Exit::OutOfMemory);
+        }
+    }
+    Ok(held)
+}
+
+// Tells on standard error where the limit of descriptors leaves less connections than pairs of ports.
+fn tell_of_descriptors<R: Eprint>(rt: &R, server: &Server) {
+    if server.lacks_descriptors() {
+        let room = server.connections();
+        let _ = eprintln!(rt;
+            "rtspd: beside the pairs there are descriptors for {room} connections"
+        );
     }
 }
 
 /// Serves the connections of a socket by the configuration of a file, for ever or until so many
-/// have ended. One line is written, once the server listens.
+/// have ended. One line is written, once the server listens and all its threads stand.
 pub(crate) fn run_serve<
     R: Files<File = File>
         + AllocGlobal
@@ -57,26 +94,36 @@ pub(crate) fn run_serve<
         + Wait
         + Net<Listener = TcpListener, Stream = TcpStream>
         + rt::Clock
+        + Eprint
+        + RandomSource
         + Sync,
     O: Write + Drop,
+    E: Write + Drop + Send,
 >(
     rt: &R,
     config: &str,
     listen: Option<&str>,
     connections: Option<u64>,
     writer: O,
+    errors: E,
 ) -> Result<(), Exit>
 where
     R: Net<Listener = TcpListener, Stream = TcpStream>,
 {
     let address = address_of(listen)?;
+    let _held = hold_standard_streams(rt, rt.alloc())?;
     let table = read_table(rt, Some(config))?;
-    let server = match Server::open(rt, rt.alloc(), table, address, connections) {
+    let operation = read_operation(rt, config)?;
+    let server = match Server::open(rt, rt.alloc(), table, operation, address, connections) {
         Ok(server) => server,
         Err(fault) => return Err(fault_exit(fault)),
     };
-    announce(rt.alloc(), server.address(), writer)?;
-    match server.run(rt) {
+    tell_of_descriptors(rt, &server);
+    let announcer = Announcer {
+        alloc: rt.alloc(),
+        writer: CountedWriter::new(writer),
+    };
+    match server.run(rt, announcer, errors) {
         Ok(_) => Ok(()),
         Err(fault) => Err(fault_exit(fault)),
     }

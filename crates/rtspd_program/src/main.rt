@@ -7,6 +7,7 @@ use std::fs::File;
 use std::io::{Eprint, ErrorKind, Read, Write};
 use std::net::{Net, TcpListener, TcpStream};
 use std::process::ExitCode;
+use std::random::RandomSource;
 use std::rt::{Clock, Env, Files};
 use std::sync::Wait;
 use std::thread::Threads;
@@ -31,10 +32,19 @@ fn words_fault(error: &io::Error) -> Exit {
 
 // Runs the words of the command line, and tells what went wrong.
 fn run<
-    R: Env + Files<File = File> + AllocGlobal + Threads + Wait + Clock + Eprint + Sync,
+    R: Env
+        + Files<File = File>
+        + AllocGlobal
+        + Threads
+        + Wait
+        + Clock
+        + Eprint
+        + RandomSource
+        + Sync,
     I: Read + Drop,
     O: Write + Drop,
->(rt: &R, reader: I, writer: O) -> io::Result<Exit>
+    E: Write + Drop + Send,
+>(rt: &R, reader: I, writer: O, errors: E) -> io::Result<Exit>
 where
     R: Net<Listener = TcpListener, Stream = TcpStream>,
 {
@@ -43,7 +53,7 @@ where
     for word in &words {
         texts.push(word.as_str())?;
     }
-    let exit = run_program(rt, &texts, reader, writer);
+    let exit = run_program(rt, &texts, reader, writer, errors);
     tell(rt, exit);
     tell_reasons(rt, &texts, exit);
     Ok(exit)
@@ -56,7 +66,7 @@ fn tell<R: Eprint>(rt: &R, exit: Exit) {
 }
 
 fn main(rt: HostRuntime) -> ExitCode {
-    let exit = match run(&rt, rt.stdin(), rt.stdout()) {
+    let exit = match run(&rt, rt.stdin(), rt.stdout(), rt.stderr()) {
         Ok(exit) => exit,
         Err(error) => {
             let exit = words_fault(&error);

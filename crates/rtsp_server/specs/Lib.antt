@@ -1,4 +1,0 @@
-pub mod Watermark
-pub mod Shares
-pub mod Looks
-pub mod Places
