@@ -29,8 +29,9 @@ MOST_JOBS = 8
 READING = 40_000
 # The part of the longest chain that makes another one long.
 NEARLY = 0.95
-# How a command is run that gets only what others leave of the cores.
-AFTER_OTHERS = ["nice", "-n", "10"]
+# How a command is run that gets only what others leave of the cores. Where the kernel groups processes by session, and
+# each command has a session of its own, only the group's own number counts against others.
+AFTER_OTHERS = ["sh", "-c", '{ echo 10 >/proc/self/autogroup; } 2>/dev/null; exec nice -n 10 "$0" "$@"']
 # Lines of rt that say nothing to someone who looks for what went wrong.
 PLAIN = re.compile(
     r"(statements|library|logic|crate|axioms|linked|by-macro:|so far:) ?"

@@ -1,8 +1,10 @@
-//! The work of `rtspd stdio` in plain Rust, with nothing proved: the measure for bench/conversation.
+//! The work of `rtspd stdio` in plain Rust, with nothing proved: the measure for bench/conversation and
+//! bench/instructions.
 //!
 //! It reads heads and bodies, checks the values that it uses, looks up the path and the session, makes each step with
-//! its refusals and its records, and writes the same responses, one write each. It reads no folded headers and no
-//! URIs but `rtsp://HOST/PATH`, and keeps only what the five methods of the bench need.
+//! its refusals and its records, and writes the same responses: one write each, or with the word `batch` one write for
+//! all that a piece asked for, as `rtspd stdio` does. It reads no folded headers and no URIs but `rtsp://HOST/PATH`, and
+//! keeps only what the five methods of the benches need.
 
 mod book;
 mod content;
@@ -145,6 +147,7 @@ impl Server {
 }
 
 fn main() -> std::io::Result<()> {
+    let in_batches = std::env::args().nth(1).as_deref() == Some("batch");
     let mut server = Server {
         book: Book::new(),
         numbers: Numbers {
@@ -165,13 +168,17 @@ fn main() -> std::io::Result<()> {
         unread.extend_from_slice(&piece[..read]);
         let mut at = 0;
         while let Some((request, size)) = read_request(&unread[at..]) {
-            out.clear();
             server
                 .answer(&mut out, &request)
                 .expect("each request of the bench is answered 200");
-            output.write_all(&out)?;
+            if !in_batches {
+                output.write_all(&out)?;
+                out.clear();
+            }
             at += size;
         }
+        output.write_all(&out)?;
+        out.clear();
         unread.drain(..at);
     }
 }
