@@ -1,5 +1,7 @@
 """Many connections at once: those that say nothing, those that say little, and more than are allowed."""
+import re
 import resource
+import select
 import socket
 import statistics
 import threading
@@ -10,7 +12,7 @@ from checks import Checks
 from rtsp_client.messages import Message, Reader, written
 
 from .runner import serving_test
-from .server import Server
+from .server import Server, leases
 
 IDLE = 10_000
 MOST_CONNECTIONS = 16_384
@@ -136,32 +138,58 @@ def a_byte_a_second_on_a_thousand_connections(checks: Checks) -> None:
 
 @serving_test(limit=30)
 def sixty_four_descriptors(checks: Checks) -> None:
-    """Where none is left, a connection is accepted and closed; those that are there are served, and nothing spins."""
+    """Connections get what all pairs leave. One more is accepted and closed; those that are there are served, each pair
+    can be bound, and nothing spins."""
     with Server(checks, descriptors=64) as server:
         before = server.descriptors_at_rest()
-        first = [server.connect() for _ in range(20)]
-        checks.same("the first 20", [200] * 20, [talk.ask("OPTIONS", "*").status for talk in first])
+        first = [server.connect() for _ in range(10)]
+        checks.same("the first 10", [200] * 10, [talk.ask("OPTIONS", "*").status for talk in first])
         more = many(server, 120)
         left = answered_among(more, 3.0)
         waiting = [talk for talk in more if talk not in left and not is_closed_by_server(talk, 0.01)]
         checks.same("of 120 more, those that wait", 0, len(waiting))
         closed = len(more) - len(left)
         checks.that("of 120 more at least 60 are closed at once", closed >= 60, closed)
-        checks.same("the first 20 are still served", [200] * 20, [talk.ask("OPTIONS", "*").status for talk in first])
-        udp = ("Transport", 'RTP/AVP;unicast;dest_addr=":9"/":9"')
-        refused = first[0].ask("SETUP", f"{server.uri}/a", [udp]).status
-        checks.same("a SETUP for which there are no descriptors", 503, refused)
+        checks.same("the first 10 are still served", [200] * 10, [talk.ask("OPTIONS", "*").status for talk in first])
+        began = time.monotonic()
+        granted = leases(first[0], f"{server.uri}/a", server.pairs)
+        took = time.monotonic() - began
+        checks.same("beside all connections, the pairs that are granted", server.pairs, len(granted))
+        checks.that("they are granted within a second", took < 1, took)
         spent = server.processor_seconds()
         time.sleep(1.0)
         spent = server.processor_seconds() - spent
         checks.that("it doesn't spin meanwhile", spent <= 0.3, spent)
         for talk in left:
             talk.close()
-        checks.that("descriptors are free again", server.descriptors_fall_to(before + 20, 3.0) <= before + 20)
+        wanted = before + len(first) + 2 * len(granted)
+        checks.that("descriptors are free again", server.descriptors_fall_to(wanted, 3.0) <= wanted)
         server.answers("then a new connection is answered")
-        last = time.monotonic() + 3.0
-        while (status := first[0].ask("SETUP", f"{server.uri}/a", [udp]).status) == 503 and time.monotonic() < last:
-            time.sleep(0.2)
-        checks.same("and a SETUP over UDP", 200, status)
         for talk in first:
             talk.close()
+
+
+@serving_test(limit=30)
+def more_pairs_than_connections(checks: Checks) -> None:
+    """A server whose descriptors suffice for less connections than pairs says for how many, and serves as many."""
+    with Server(checks, descriptors=140, pairs=40) as server:
+        ready, _, _ = select.select([server.process.stderr], [], [], 1.0)
+        told = server.process.stderr.readline() if ready else b""
+        said = re.fullmatch(rb"rtspd: beside the pairs there are descriptors for (\d+) connections\n", told)
+        room = int(said[1]) if said else None
+        checks.that("it says for how many connections there is room", room is not None and 20 <= room < 40, told)
+        left = answered_among(many(server, 60), 3.0)
+        checks.same("those that are served", room, len(left))
+
+
+@serving_test(limit=30)
+def no_room_for_a_connection(checks: Checks) -> None:
+    """A server whose pairs may take all descriptors doesn't start."""
+    server = Server(checks, descriptors=64, pairs=40)
+    server.write_media()
+    with server.start() as starting:
+        said, complaint = starting.communicate(timeout=10)
+    server.folder.cleanup()
+    why = b"rtspd: files and address are right; a thread, a descriptor or the output failed\n"
+    failed = b"rtspd: read or write failed\n"
+    checks.same("how it ends", (4, b"", failed + why), (starting.returncode, said, complaint))

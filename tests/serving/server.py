@@ -22,6 +22,8 @@ TCP_PORTS, UDP_PORTS = range(10_240, 18_000), range(18_000, 32_000)
 TICK = os.sysconf("SC_CLK_TCK")
 PAGE = os.sysconf("SC_PAGE_SIZE")
 STARTS_WITHIN = 20.0
+# A line of the log that tells of nothing wrong.
+LOGGED = re.compile(rb"\d{4}-\d\d-\d\dT\d\d:\d\d:\d\d\.\d{3}Z (info|access) [^\n]*\n")
 
 
 class Track(NamedTuple):
@@ -118,6 +120,7 @@ class Server:
         self.folder = tempfile.TemporaryDirectory()
         self.environment: Dict[str, str] = {}
         self.status: Optional[int] = None
+        self.log: List[bytes] = []
 
     @property
     def path(self) -> pathlib.Path:
@@ -165,6 +168,8 @@ class Server:
             said, complaint = self.process.communicate()
             if self.status is None:
                 self.checks.that("the server runs until the test ends", False, self.process.returncode)
+        self.log = [it[0] for it in LOGGED.finditer(complaint)]
+        complaint = LOGGED.sub(b"", complaint)
         self.checks.same("what the server writes besides, and on standard error", (b"", b""), (said, complaint))
         self.folder.cleanup()
 

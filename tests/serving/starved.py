@@ -13,7 +13,7 @@ from rtsp_client.player import Way
 from .failing import MOST_CALLS, failing_server, rests
 from .faults import FOR_EVER, Faults
 from .runner import serving_test
-from .server import Server, is_free
+from .server import LOGGED, Server, is_free
 
 LANES = 2
 # A play is sent if so many of its packets come within so many seconds.
@@ -40,13 +40,14 @@ def without_threads(checks: Checks, first: int, last: int) -> Tuple[int, Tuple[b
         _, complaint = running.communicate(timeout=10)
     checks.that("its port is free", is_free(socket.SOCK_STREAM, server.port))
     server.folder.cleanup()
-    return faults.asked("thread"), (is_served, running.returncode, complaint)
+    return faults.asked("thread"), (is_served, running.returncode, LOGGED.sub(b"", complaint))
 
 
 @serving_test(limit=60)
 def every_thread_refused_in_turn(checks: Checks) -> None:
-    """Without a pacer, the sweeper, the watcher or all lanes the program ends; it serves where only some lane has no thread."""
-    others = max(len(os.sched_getaffinity(0)) // 2, 1) + 2
+    """Without a pacer, the sweeper, the watcher, those of the log, of the figures and of the pool, or all lanes the program
+    ends; it serves where only some lane has no thread."""
+    others = max(len(os.sched_getaffinity(0)) // 2, 1) + 5
     why = b"rtspd: files and address are right; a thread, a descriptor or the output failed\n"
     ends, serves = (False, 4, b"rtspd: read or write failed\n" + why), (True, 0, b"")
     for number in range(1, others + LANES + 1):

@@ -114,7 +114,7 @@ def ranges(text: str, names: List[str]) -> List[Tuple[str, str]]:
 
 
 def quoted(text: str) -> Tuple[str, ...]:
-    return tuple(sorted({*re.findall(r'"(\w+)"', text)}))
+    return tuple(sorted({*re.findall(r'"(\w+)"', text), *re.findall(r"\b(?:true|false)\b", text)}))
 
 
 def omitted(comment: str) -> str:
