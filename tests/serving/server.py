@@ -23,7 +23,9 @@ TICK = os.sysconf("SC_CLK_TCK")
 PAGE = os.sysconf("SC_PAGE_SIZE")
 STARTS_WITHIN = 20.0
 # A line of the log that tells of nothing wrong.
-LOGGED = re.compile(rb"\d{4}-\d\d-\d\dT\d\d:\d\d:\d\d\.\d{3}Z (info|access) [^\n]*\n")
+LOGGED = re.compile(
+    rb"\d{4}-\d\d-\d\dT\d\d:\d\d:\d\d\.\d{3}Z (?:info [^\n]*|access [^\n]*|warning \d+ lines were dropped)\n"
+)
 
 
 class Track(NamedTuple):
