@@ -1,5 +1,6 @@
-/* The yardstick: sends RTP packets of 172 bytes over so many connected UDP sockets, each 20 ms, spread over that time.
- *   pacer STREAMS PORT PEERS SECONDS
+/* The yardstick: sends RTP packets over so many connected UDP sockets, one each unit of time, spread over that: of 172
+ * bytes each 20 ms, or of other units.
+ *   pacer STREAMS PORT PEERS SECONDS [UNIT_MS OCTETS TICKS]
  * Stream i goes to PORT + 2 * (i % PEERS). Prints how many were sent, how many failed, and the processor time in
  * microseconds. */
 #define _GNU_SOURCE
@@ -14,7 +15,9 @@
 #include <time.h>
 #include <unistd.h>
 
-enum { UNIT_MS = 20, TICKS = 160, HEADER = 12, PACKET = 172 };
+enum { HEADER = 12, MOST = 1500 };
+
+static int unit_ms = 20, octets = 160, ticks = 160;
 
 static long microseconds(void) {
     struct timespec time;
@@ -29,7 +32,7 @@ static void wait_until(long moment) {
 }
 
 static void put(uint8_t *packet, uint32_t stream, uint32_t unit) {
-    uint32_t timestamp = unit * TICKS;
+    uint32_t timestamp = unit * ticks;
     packet[0] = 0x80;
     packet[1] = 0;
     packet[2] = unit >> 8;
@@ -38,11 +41,15 @@ static void put(uint8_t *packet, uint32_t stream, uint32_t unit) {
         packet[4 + i] = timestamp >> (24 - 8 * i);
         packet[8 + i] = stream >> (24 - 8 * i);
     }
-    memset(packet + HEADER, unit, PACKET - HEADER);
+    memset(packet + HEADER, unit, octets);
 }
 
 int main(int count, char **words) {
-    if (count != 5)
+    if (count != 5 && count != 8)
+        return 2;
+    if (count == 8)
+        unit_ms = atoi(words[5]), octets = atoi(words[6]), ticks = atoi(words[7]);
+    if (unit_ms < 1 || octets < 1 || octets > MOST - HEADER)
         return 2;
     int streams = atoi(words[1]), port = atoi(words[2]), peers = atoi(words[3]), *fds = malloc(streams * sizeof *fds);
     struct sockaddr_in address = {.sin_family = AF_INET};
@@ -55,13 +62,13 @@ int main(int count, char **words) {
             return 1;
         }
     }
-    uint8_t packet[PACKET];
+    uint8_t packet[MOST];
     long began = microseconds() + 100000, slots = atof(words[4]) * 1000, sent = 0, failed = 0;
     for (long slot = 0; slot < slots; slot++) {
         wait_until(began + slot * 1000);
-        for (int i = slot % UNIT_MS; i < streams; i += UNIT_MS) {
-            put(packet, i, slot / UNIT_MS);
-            if (send(fds[i], packet, PACKET, MSG_NOSIGNAL) == PACKET)
+        for (int i = slot % unit_ms; i < streams; i += unit_ms) {
+            put(packet, i, slot / unit_ms);
+            if (send(fds[i], packet, HEADER + octets, MSG_NOSIGNAL) == HEADER + octets)
                 sent++;
             else
                 failed++;

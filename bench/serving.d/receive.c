@@ -1,8 +1,8 @@
 /* Receives RTP packets, and tells how late they were beside the earliest of their stream, by the system's own moments.
- *   receive PORT PEERS TICKS_A_SECOND
+ *   receive PORT PEERS TICKS_A_SECOND [UNIT_MS]
  * Listens on PORT + 2 * i for each of the peers, says so, and receives until its input ends. Prints how many packets
  * came in how many streams, how many were missing between them, and the lateness in microseconds: the middle, 99 % and
- * the greatest. A stream is told by the port and the SSRC that it comes from. */
+ * the greatest. A stream is told by the port that it comes from; its packets are a unit apart, of 20 ms without a word. */
 #define _GNU_SOURCE
 #include <arpa/inet.h>
 #include <netinet/in.h>
@@ -115,10 +115,10 @@ static void tell(double ticks, long step) {
 }
 
 int main(int words_count, char **words) {
-    if (words_count != 4)
+    if (words_count != 4 && words_count != 5)
         return 2;
     int poll_all = epoll_create1(0), is_over = 0;
-    double ticks = atof(words[3]);
+    double ticks = atof(words[3]), unit_ms = words_count == 5 ? atof(words[4]) : 20;
     arrivals = malloc(MOST * sizeof *arrivals);
     for (int i = 0; i < atoi(words[2]); i++)
         bind_to(atoi(words[1]) + 2 * i, poll_all);
@@ -133,6 +133,6 @@ int main(int words_count, char **words) {
         char byte;
         is_over = poll(&input, 1, 0) > 0 && read(0, &byte, 1) <= 0;
     }
-    tell(ticks, ticks / 50);
+    tell(ticks, ticks * unit_ms / 1000);
     return 0;
 }

@@ -22,6 +22,8 @@ pairs = 1024
 uplink = 1000000000
 sessions = 512
 media = "media"
+# Other players are answered as without it.
+players = "gstreamer"
 """
 
 

@@ -184,7 +184,7 @@ def stops_as_process_1(checks: Checks) -> None:
         # The one that the harness has started is done with; its configuration and ports are used again.
         server.process.send_signal(signal.SIGTERM)
         server.ends(WITHIN + 5)
-        command = ["unshare", "--pid", "--fork", "--kill-child", "--mount-proc", "env", "--block-signal=TERM,INT"]
+        command = ["unshare", "--pid", "--fork", "--kill-child", "--mount-proc", "env", "--block-signal=TERM,INT,XFSZ"]
         with subprocess.Popen(
             [*command, *server.command()], cwd=server.path, stdout=subprocess.PIPE, stdin=subprocess.DEVNULL
         ) as outer:

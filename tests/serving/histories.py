@@ -13,7 +13,7 @@ from checks import TOP, Checks
 from rtsp_client.connection import Connection
 
 from .runner import serving_test
-from .server import Server
+from .server import TONE, TRIED, Presentation, Server
 
 TCP = ("Transport", "RTP/AVP/TCP;unicast;interleaved=0-1")
 FOLDER = "history"
@@ -26,7 +26,7 @@ def audited(server: Server, file: pathlib.Path) -> Tuple[int, str, str]:
     whole = server.path / "whole.txt"
     with whole.open("wb") as out:
         subprocess.run([sys.executable, TOP / "whole-lines", file], stdout=out, stderr=subprocess.DEVNULL, check=True)
-    words = [server.command()[0], "audit", "--config", "server.toml", "--journal", "whole.txt"]
+    words = [str(TRIED), "audit", "--config", "server.toml", "--journal", "whole.txt"]
     done = subprocess.run(words, cwd=server.path, capture_output=True, text=True, timeout=60)
     return done.returncode, done.stdout, done.stderr
 
@@ -39,8 +39,8 @@ def sessions_in(book: str) -> List[str]:
     return re.findall(r"(?m)^session \d+ ([0-9a-f]{32}) ", book)
 
 
-def chronicled(checks: Checks, **more: object) -> Server:
-    server = Server(checks, journal_files=f'"{FOLDER}"', journal_period=50, timeout=60, **more)
+def chronicled(checks: Checks, presentation: Presentation = TONE, **more: object) -> Server:
+    server = Server(checks, presentation, journal_files=f'"{FOLDER}"', journal_period=50, timeout=60, **more)
     (server.path / FOLDER).mkdir()
     return server
 
@@ -97,6 +97,37 @@ def two_runs_over_a_folder(checks: Checks) -> None:
             again.communicate()
         checks.same("the first is as it was", text, first.read_bytes())
         checked(checks, server, "two runs")
+
+
+def begun_by(server: Server) -> List[str]:
+    """The files that one more run makes."""
+    before = files(server)
+    with server.start() as running:
+        running.stdout.readline()
+        running.kill()
+        running.communicate()
+    return [it.name for it in files(server) if it not in before]
+
+
+@serving_test(limit=60)
+def numbers_go_on(checks: Checks) -> None:
+    """A run's number is above all that are there, though smaller ones are free, and has more digits from a million on."""
+    server = chronicled(checks)
+    server.write_media()
+    folder = server.path / FOLDER
+    for others, wanted in (
+        ([], "journal-000001.txt"),
+        (["journal-000007.txt", "journal-000009.txt.gz", "journal-0000012.txt"], "journal-000008.txt"),
+        (["journal-999999.txt"], "journal-1000000.txt"),
+        ([], "journal-1000001.txt"),
+    ):
+        for name in others:
+            (folder / name).touch()
+        checks.same(f"above {others or 'what was there'}", [wanted], begun_by(server))
+    for name in "journal-000001.txt", "journal-000007.txt", "journal-999999.txt":
+        (folder / name).unlink()
+    checks.same("where others were taken away", ["journal-1000002.txt"], begun_by(server))
+    server.folder.cleanup()
 
 
 @serving_test(limit=120)

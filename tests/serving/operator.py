@@ -1,14 +1,13 @@
-"""What whoever runs the server sees: figures at an address of their own, and the log on standard error."""
+"""What whoever runs the server sees: figures at an address of their own, and the access log on standard error."""
 import http.client
 import re
-import select
 import signal
 import socket
-import threading
 import time
 from typing import Dict, List, Tuple
 
 import open_metrics
+import status_page
 from checks import Checks
 from rtsp_client.player import Way
 
@@ -17,6 +16,36 @@ from .runner import serving_test
 from .server import HERE, Presentation, Server, free_ports
 
 SHORT = Presentation(units=25)
+# How the page calls what /metrics has under other names: refusals, lateness and counts.
+REFUSALS = {
+    "Bandwidth (453)": "bandwidth",
+    "Unavailable (503)": "unavailable",
+    "No such session (454)": "session",
+    "No such path (404)": "path",
+    "Not in this state (455)": "state",
+    "Transport (461)": "transport",
+    "Other": "other",
+}
+LATE = {f"Within {ms} ms": str(ms / 1000) for ms in (1, 2, 5, 10, 20, 40, 100, 400)}
+COUNTS = {
+    "Packets sent": "packets_sent",
+    "Packets lost": "packets_lost",
+    "Connections let in": "connections_accepted",
+    "Connections closed at once": "connections_refused",
+    "Media not read": "media_failures",
+    "Sessions expired": "sessions_expired",
+    "Journal shortened": "journal_shortenings",
+    "Log lines dropped": "log_lines_dropped",
+}
+# What is refused by each reason that needs no crowd, and what no server knows.
+OVER_UDP = ("Transport", 'RTP/AVP;unicast;dest_addr=":9"/":9"')
+ASKED = [
+    ("DESCRIBE", "-other", ()),
+    ("TEARDOWN", "", (("Session", "0" * 32),)),
+    ("SETUP", "/a", (("Transport", "RTP/AVP;multicast"),)),
+    *[("SETUP", "/a", (OVER_UDP,))] * 3,
+    ("RECORD", "", ()),
+]
 ACCESS = re.compile(rb'\S+Z access 127\.0\.0\.1 (\d+) "([^"]*)" "([^"]*)" (\d+) ([0-9a-f]{8}|-)\n')
 
 
@@ -61,6 +90,8 @@ def figures_of_a_server(checks: Checks) -> None:
         rate = held["rtspd_uplink_bits_per_second,state=held"] + held["rtspd_uplink_bits_per_second,state=free"]
         checks.same("held and free is the whole", 8 * SHORT.whole_rate, rate)
         checks.same("connections", 1, held["rtspd_connections,state=held"])
+        checks.same("pairs of ports", (2, 6), tuple(held[f"rtspd_port_pairs,state={it}"] for it in ("held", "free")))
+        checks.same("ports", (4, 12), tuple(held[f"rtspd_ports,state={it}"] for it in ("held", "free")))
         checks.same("SETUPs", 2, held["rtspd_requests_total,method=SETUP,class=2xx"])
         player.play(0.0)
         time.sleep(1.5)
@@ -73,28 +104,107 @@ def figures_of_a_server(checks: Checks) -> None:
         checks.that("it has no script", "<script" not in page)
         player.tear_down()
         player.close()
+        talk = server.connect()
+        alone = talk.ask("SETUP", f"{server.uri}/a", [("Transport", 'RTP/AVP;unicast;dest_addr=":9";RTCP-mux')])
+        shared = figures(port)
+        checks.same("pairs that are free beside one port", 7, shared["rtspd_port_pairs,state=free"])
+        checks.same("ports that are free beside it", 15, shared["rtspd_ports,state=free"])
+        session = (alone.header("Session") or "").partition(";")[0]
+        checks.same("it is given back", 200, talk.ask("TEARDOWN", server.uri, [("Session", session)]).status)
+        talk.close()
         gone = figures(port)
         checks.same("sessions at the end", 0, gone["rtspd_sessions"])
         checks.same("nothing is owed", 0, gone["rtspd_journal_entries,state=owed"])
 
 
-@serving_test(limit=60)
-def strangers_at_the_figures(checks: Checks) -> None:
-    """Garbage, half a head, a body, and 200 who say nothing: each is answered or closed, and a scrape comes through."""
+def shown_by(figures: Dict[str, float]) -> Dict[str, status_page.Rows]:
+    """What the page has to show beside these figures."""
+    of = {name: int(value) for name, value in figures.items() if not name.endswith("_sum")}
+
+    def held(family: str) -> Tuple[int, int]:
+        part = of[f"{family},state=held"]
+        return part, part + of[f"{family},state=free"]
+
+    def journal(state: str) -> Tuple[int, int]:
+        whole = sum(of[f"rtspd_journal_entries,state={it}"] for it in ("written", "owed", "free"))
+        return of[f"rtspd_journal_entries,state={state}"], whole
+
+    def late(le: str) -> Tuple[int, int]:
+        family = "rtspd_packet_lateness_seconds"
+        return of[f"{family}_bucket,le={le}"], of[f"{family}_count"]
+
+    def total(family: str) -> Tuple[int]:
+        return (of[f"{family}_total"],)
+
+    classes = "2xx", "3xx", "4xx", "5xx"
+    methods = {it[len("rtspd_requests_total,method=") : it.rindex(",")] for it in of if it.startswith("rtspd_requests")}
+    return {
+        "Now": {
+            "Seconds since it began": (of["rtspd_uptime_seconds"],),
+            "Sessions": (of["rtspd_sessions"],),
+            "Uplink, bit/s": held("rtspd_uplink_bits_per_second"),
+            "Pairs of ports": held("rtspd_port_pairs"),
+            "Ports": held("rtspd_ports"),
+            "Journal, written": journal("written"),
+            "Journal, owed": journal("owed"),
+            "Connections": held("rtspd_connections"),
+        },
+        "Answers": {
+            it: tuple(of[f"rtspd_requests_total,method={it},class={number}"] for number in classes) for it in methods
+        },
+        "Refused": {name: (of[f"rtspd_refusals_total,reason={it}"],) for name, it in REFUSALS.items()},
+        "How late packets were sent": {name: late(le) for name, le in LATE.items()},
+        "Since it began": {name: total(f"rtspd_{it}") for name, it in COUNTS.items()},
+    }
+
+
+def figures_at_rest(port: int) -> Tuple[Dict[str, float], Dict[str, status_page.Rows]]:
+    """The figures and the page of one moment: nothing but the time changed from the figures before to those after."""
+    while True:
+        before = figures(port)
+        page = status_page.read(ask(port, path="/")[1])
+        if before == figures(port):
+            return before, page
+
+
+@serving_test(limit=40)
+def the_page_shows_the_figures(checks: Checks) -> None:
+    """Each number of the page is one of /metrics, and the page leaves none of them out."""
     port, address = shown_at()
-    with Server(checks, status=address) as server:
-        checks.same("a method that isn't there", 405, ask(port, "POST")[0])
-        checks.same("a path that isn't there", 404, ask(port, path="/other")[0])
-        checks.same("HEAD", (200, ""), ask(port, "HEAD"))
-        silent = [socket.create_connection((HERE, port), timeout=10) for _ in range(200)]
-        for talk, text in zip(silent, (b"GET /metr", b"\r\n\r\n\0\0garbage\r\n\r\n", b"x" * 10_000, b"GET / HTTP/1.1\r\n" * 500)):
-            talk.sendall(text)
-        began = time.monotonic()
-        checks.same("a scrape beside them", 200, ask(port)[0])
-        checks.that("within a second", time.monotonic() - began < 1.0, time.monotonic() - began)
-        for talk in silent:
-            talk.close()
-        server.answers("then a player is answered")
+    settings = {"status": address, "pairs": 2, "sessions_per_address": 2, "timeout": 6}
+    with Server(checks, SHORT, **settings) as server:
+        found, page = figures_at_rest(port)
+        checks.same("at first", shown_by(found), page)
+        player = server.player(Way.TCP)
+        set_up_all(player)
+        player.play(0.0)
+        player.listen(8.0)
+        talk = server.connect()
+        for method, path, headers in ASKED:
+            talk.ask(method, f"{server.uri}{path}", [*headers])
+        time.sleep(7.5)
+        found, page = figures_at_rest(port)
+        checks.same("after a play", shown_by(found), page)
+        counted = [it for it in found if "_total" in it or it.endswith("_count")]
+        is_moved = {it for it in counted if found[it]}
+        wanted = {
+            "rtspd_packets_sent_total",
+            "rtspd_packet_lateness_seconds_count",
+            "rtspd_requests_total,method=SETUP,class=2xx",
+            "rtspd_requests_total,method=DESCRIBE,class=4xx",
+            "rtspd_requests_total,method=other,class=5xx",
+            "rtspd_refusals_total,reason=path",
+            "rtspd_refusals_total,reason=session",
+            "rtspd_refusals_total,reason=transport",
+            "rtspd_refusals_total,reason=unavailable",
+            "rtspd_sessions_expired_total",
+            "rtspd_journal_shortenings_total",
+        }
+        checks.same("what was to be counted, and wasn't", set(), wanted - is_moved)
+        shown = {name for rows in page.values() for name in rows}
+        checks.same("rows", 8 + 9 + len(REFUSALS) + len(LATE) + len(COUNTS), len(shown))
+        player.close()
+        talk.close()
 
 
 @serving_test(limit=30)
@@ -142,24 +252,3 @@ def lines_of_the_log(checks: Checks) -> None:
     checks.that("and no more of them", not any(session.encode() in it for it in server.log))
     checks.that("its start is told", any(b" info started with 1 presentations" in it for it in server.log), server.log[:2])
     checks.that("its stop is told", any(b"info a signal came" in it for it in server.log), server.log[-1:])
-
-
-@serving_test(limit=60)
-def a_log_that_nobody_reads(checks: Checks) -> None:
-    """Standard error is a pipe that is full: the server goes on, and counts the lines that it drops."""
-    port, address = shown_at()
-    with Server(checks, access_log="true", status=address) as server:
-        talk = server.socket()
-        sent = threading.Thread(target=lambda: [talk.sendall(b"OPTIONS * RTSP/2.0\r\nCSeq: 7\r\n\r\n" * 500) for _ in range(40)])
-        sent.start()
-        wanted, came = 20_000, b""
-        while came.count(b"RTSP/2.0 200") < wanted:
-            ready, _, _ = select.select([talk], [], [], 10)
-            if not ready:
-                break
-            came += talk.recv(1 << 20)
-        sent.join()
-        checks.same("each is answered", wanted, came.count(b"RTSP/2.0 200"))
-        dropped = figures(port)["rtspd_log_lines_dropped_total"]
-        checks.that("lines were dropped and counted", dropped > 1_000, dropped)
-        server.answers("and another")

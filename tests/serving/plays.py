@@ -25,7 +25,7 @@ from .witness import Punctuality, Witness
 
 # A window in which packets are counted, in seconds, and how many of a stream may come in it: at twice its pace it is 10.
 WINDOW, MOST_IN_IT = 0.1, 20
-# A packet that is sent before the PAUSE is answered may come after that answer, in seconds.
+# A packet that is before the point of a PAUSE may come after its answer, in seconds.
 UNDER_WAY = 0.1
 
 
@@ -95,7 +95,7 @@ def play_with_a_pause(checks: Checks, server: Server, way: Way) -> List[Played]:
     streams = set_up_all(player)
     player.play(0.0)
     player.listen(8.0, lambda: all(len(stream.reception.packets) >= 200 for stream in streams))
-    # In the middle of a unit: one that is due and hasn't left yet isn't sent any more.
+    # In the middle of a unit: of one that is due and hasn't left yet the packet comes after the answer.
     player.connection.wait(TONE.unit_ms / 2000)
     paused = player.pause()
     player.connection.wait(UNDER_WAY)
@@ -363,6 +363,7 @@ LONG = Presentation("long", units=200_000, tracks=(Track("a", octets=1400),))
 def a_file_that_is_cut_short(checks: Checks) -> None:
     """A file too large to be held in memory is cut while it plays: its packets stop, the server goes on."""
     server = Server(checks, LONG)
+    server.may_tell = b"can't be read"
     track = LONG.tracks[0]
     first = b"".join(map(track.unit, range(500)))
     # Behind its first units the file is zeros, which take no room.

@@ -22,10 +22,8 @@ TCP_PORTS, UDP_PORTS = range(10_240, 18_000), range(18_000, 32_000)
 TICK = os.sysconf("SC_CLK_TCK")
 PAGE = os.sysconf("SC_PAGE_SIZE")
 STARTS_WITHIN = 20.0
-# A line of the log that tells of nothing wrong.
-LOGGED = re.compile(
-    rb"\d{4}-\d\d-\d\dT\d\d:\d\d:\d\d\.\d{3}Z (?:info [^\n]*|access [^\n]*|warning \d+ lines were dropped)\n"
-)
+# A line of the log.
+LOGGED = re.compile(rb"\d{4}-\d\d-\d\dT\d\d:\d\d:\d\d\.\d{3}Z (?:info|access|warning|error) [^\n]*\n")
 
 
 class Track(NamedTuple):
@@ -123,6 +121,8 @@ class Server:
         self.environment: Dict[str, str] = {}
         self.status: Optional[int] = None
         self.log: List[bytes] = []
+        # Words of errors that the log may tell of.
+        self.may_tell: Optional[bytes] = None
 
     @property
     def path(self) -> pathlib.Path:
@@ -145,7 +145,7 @@ class Server:
     def start(self) -> "subprocess.Popen[bytes]":
         (self.path / "server.toml").write_text(self.text)
         limit = self.descriptors_allowed or "$(ulimit -Hn)"
-        held = ["--block-signal=TERM,INT"] if self.holds_signals else []
+        held = ["--block-signal=TERM,INT,XFSZ"] if self.holds_signals else []
         given = [*held, *(f"{name}={value}" for name, value in self.environment.items())]
         shell = ["bash", "-c", f'ulimit -n {limit} && exec "$0" "$@"', "env", *given, *self.command()]
         pipes = {"stdout": subprocess.PIPE, "stderr": subprocess.PIPE, "stdin": subprocess.DEVNULL}
@@ -171,6 +171,9 @@ class Server:
             if self.status is None:
                 self.checks.that("the server runs until the test ends", False, self.process.returncode)
         self.log = [it[0] for it in LOGGED.finditer(complaint)]
+        if not self.environment:
+            errors = [it for it in self.log if b"Z error " in it and (self.may_tell is None or self.may_tell not in it)]
+            self.checks.same("errors that the log tells of", [], errors)
         complaint = LOGGED.sub(b"", complaint)
         self.checks.same("what the server writes besides, and on standard error", (b"", b""), (said, complaint))
         self.folder.cleanup()

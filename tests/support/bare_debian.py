@@ -9,6 +9,47 @@ from checks import Checks, Failed
 SUITE = "bookworm"
 # What reads the unit and the manual.
 READERS = "systemd,man-db,mandoc"
+# What whoever runs the server may want: to be seen at its work by the keys that are for that, and stopped.
+SEEN = r'''
+set -eu
+install -d -m 700 -o nobody /var/lib/rtspd
+keys='access_log = true\nstatus = "127.0.0.1:29554"\njournal_files = "/var/lib/rtspd"\njournal_period = 50'
+sed "s|^\[server\]|&\n$keys|" /etc/rtspd.toml > /tmp/seen.toml
+grep -q journal_period /tmp/seen.toml
+run="setpriv --reuid=nobody --regid=nogroup --clear-groups env --block-signal=TERM,INT"
+$run rtspd serve --config /tmp/seen.toml --listen 127.0.0.1:28554 > /tmp/out 2> /tmp/errors &
+for _ in $(seq 50); do grep -q listening /tmp/out && break; sleep 0.1; done
+exec 3<> /dev/tcp/127.0.0.1/28554
+printf 'SETUP rtsp://h/tone/a RTSP/2.0\r\nCSeq: 1\r\nTransport: RTP/AVP/TCP;interleaved=0-1\r\n\r\n' >&3
+read -r answer <&3
+echo "${answer%?}"
+exec 4<> /dev/tcp/127.0.0.1/29554
+printf 'GET /metrics HTTP/1.1\r\nHost: h\r\n\r\n' >&4
+grep -a -e '^rtspd_sessions ' -e '^# EOF' <&4
+sleep 0.2
+cut -d ' ' -f 2 /var/lib/rtspd/journal-000001.txt | head -n 1
+kill %1
+wait %1 && echo ended cleanly
+cut -d ' ' -f 2- /tmp/errors | sed 's/^\(access 127.0.0.1\) [0-9]*/\1 N/; s/ [0-9a-f]\{8\}$/ ID/'
+rm -r /var/lib/rtspd
+'''
+SHOWN = [
+    "RTSP/2.0 200 OK",
+    "rtspd_sessions 1",
+    "# EOF",
+    "open",
+    "ended cleanly",
+    "info started with 1 presentations",
+    'access 127.0.0.1 N "SETUP" "rtsp://h/tone/a" 200 ID',
+    "info a signal came: no more connections are let in",
+    "info stopped",
+]
+# The unit with a folder for the journal's files, as docs/OPERATING.md has it.
+WITH_STATE = (
+    "mkdir /etc/systemd/system/rtspd.service.d && cd /etc/systemd/system/rtspd.service.d"
+    " && printf '[Service]\\nStateDirectory=rtspd\\nStateDirectoryMode=0700\\n' > state.conf"
+    " && systemd-analyze verify rtspd.service && rm -r /etc/systemd/system/rtspd.service.d"
+)
 # With processes of its own to be seen, which end with the command.
 ENTER = 'mount -t proc proc "$0/proc" && exec chroot "$0" env LC_ALL=C.UTF-8 "$@"'
 
@@ -44,6 +85,7 @@ def test(checks: Checks, deb: pathlib.Path, work: pathlib.Path, is_proved: bool)
     for words in (
         ["rtspd", "audit", "--journal", "/dev/null"],
         ["systemd-analyze", "verify", "rtspd.service"],
+        ["sh", "-c", WITH_STATE],
         ["sh", "-c", "zcat /usr/share/man/man1/rtspd.1.gz | mandoc -Tlint -Wwarning"],
         ["sh", "-c", "zcat /usr/share/man/man5/rtspd.toml.5.gz | mandoc -Tlint -Wwarning"],
         ["man", "--warnings", "1", "rtspd"],
@@ -57,6 +99,9 @@ def test(checks: Checks, deb: pathlib.Path, work: pathlib.Path, is_proved: bool)
         done = debian.call("runuser", "-u", "nobody", "--", "timeout", "2", *served)
         line = "rtspd: listening on 127.0.0.1:28554\n"
         checks.same("in a bare Debian: serve, for two seconds", (124, line), (done.returncode, done.stdout))
+        done = debian.call("bash", "-c", SEEN)
+        came = done.returncode, done.stdout.splitlines(), done.stderr
+        checks.same("in a bare Debian: serve, with its log, figures and journal", (0, SHOWN, ""), came)
     done = debian.call("dpkg", "--remove", "rtspd")
     checks.same("dpkg removes the package", (0, ""), (done.returncode, done.stderr))
     checks.same("what is left: the configuration", {"etc/rtspd.toml"}, debian.named())

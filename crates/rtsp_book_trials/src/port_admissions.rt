@@ -145,6 +145,7 @@ fn the_port_of_a_session_that_expires_is_unbound(rt: HostRuntime) -> Result<(), 
     let all = Swept {
         ended: 1,
         more: false,
+        last: Some(2),
     };
     assert!(rt; swept == all && binder.unbound == Some((3, 5001)));
     Ok(())

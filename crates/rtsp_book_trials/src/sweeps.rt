@@ -79,7 +79,7 @@ fn asked(session: u64, expires: u64, wanted: Wanted, startup: Option<Startup>) -
 }
 
 fn is_swept(swept: Swept, ended: u32, more: bool) -> bool {
-    swept == (Swept { ended, more })
+    swept.ended == ended && swept.more == more && swept.last.is_some() == (ended > 0)
 }
 
 // Opens a session that holds a pair of ports.
@@ -107,8 +107,10 @@ fn sessions_end_when_they_are_due(rt: HostRuntime) -> Result<(), Fail> {
     assert!(rt; is_swept(early, 0, false) && binder.unbound == 0);
     let first = sweep(&rt, &mut seat, &lock, &mut binder, 60_000, 1);
     assert!(rt; is_swept(first, 1, true) && binder.last == Some((3, 5000)));
+    assert!(rt; first.last == Some(2));
     let second = sweep(&rt, &mut seat, &lock, &mut binder, 60_000, 8);
     assert!(rt; is_swept(second, 1, false) && binder.last == Some((7, 5004)));
+    assert!(rt; second.last == Some(6));
     let none = sweep(&rt, &mut seat, &lock, &mut binder, u64::MAX, 0);
     assert!(rt; is_swept(none, 0, true) && binder.unbound == 2);
     let kept = seat.finish(&rt, lock);

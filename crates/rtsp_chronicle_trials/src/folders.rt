@@ -1,10 +1,12 @@
 //! Files of a real folder.
 
 use crate::books::{SMALL, ends, entries, opens};
-use rtsp_chronicle::{Chronicler, FileSink, Pause, Plan, Turned, run_scribe};
+use rtsp_chronicle::{Chronicler, FileSink, Pause, Plan, SinkFault, Turned, run_scribe};
 use rtsp_lock::{Then, open};
-use std::fs;
+use std::alloc::Global;
+use std::fs::{self, File};
 use std::os::unix::fs::PermissionsExt;
+use std::rt::Files;
 use std::sync::Wait;
 use std::test::Fail;
 
@@ -56,21 +58,54 @@ fn files_follow_each_other(rt: HostRuntime) -> Result<(), Fail> {
         plan,
     );
     assert!(rt; begun && first == Turned::Written && pause.told == 3);
-    assert!(rt; sink.number() == 3);
+    assert!(rt; sink.number() == 4);
     let ended = ends(&rt, &lock, &mut one, 10);
     let last = chronicler.turn(&rt, &mut own, &lock, Then::Forget, &mut sink);
     assert!(rt; ended && last == Turned::Written);
-    let old = fs::read(&rt, "journals/journal-000001.txt")?;
-    let new = fs::read(&rt, "journals/journal-000003.txt")?;
+    let old = fs::read(&rt, "journals/journal-000003.txt")?;
+    let new = fs::read(&rt, "journals/journal-000004.txt")?;
     assert!(rt; entries(rt.alloc(), &old)?.len() == 2);
     assert!(rt; entries(rt.alloc(), &new)?.len() == 3);
     let other = fs::read(&rt, "journals/journal-000002.txt")?;
     assert!(rt; other.as_slice() == b"another's".as_slice());
-    let mode = fs::metadata(&rt, "journals/journal-000003.txt")?
+    let mode = fs::metadata(&rt, "journals/journal-000004.txt")?
         .permissions()
         .mode();
     assert!(rt; mode & 0o777 == 0o600);
     fs::remove_dir_all(&rt, "journals")?;
+    Ok(())
+}
+
+// The number of a new file.
+fn next_number<R: Files<File = File>>(rt: &R, alloc: Global) -> Result<u64, SinkFault> {
+    let sink = FileSink::open(rt, alloc, "numbers")?;
+    Ok(sink.number())
+}
+
+#[test]
+fn numbers_go_on_above_all(rt: HostRuntime) -> Result<(), Fail> {
+    let _left = fs::remove_dir_all(&rt, "numbers");
+    fs::create_dir(&rt, "numbers")?;
+    assert!(rt; next_number(&rt, rt.alloc())? == 1);
+    // These are names of nothing that a run writes.
+    for name in [
+        "journal-1.txt",
+        "journal-0000005.txt",
+        "journal-000007.txt.gz",
+        "journal-+00009.txt",
+    ] {
+        fs::write(&rt, format!(in rt.alloc(); "numbers/{name}")?.as_str(), "")?;
+    }
+    fs::write(&rt, "numbers/journal-99999999999999999999.txt", "")?;
+    fs::write(&rt, "numbers/notes", "")?;
+    assert!(rt; next_number(&rt, rt.alloc())? == 2);
+    fs::remove_file(&rt, "numbers/journal-000001.txt")?;
+    assert!(rt; next_number(&rt, rt.alloc())? == 3);
+    fs::write(&rt, "numbers/journal-999999.txt", "")?;
+    assert!(rt; next_number(&rt, rt.alloc())? == 1_000_000);
+    assert!(rt; next_number(&rt, rt.alloc())? == 1_000_001);
+    fs::metadata(&rt, "numbers/journal-1000001.txt")?;
+    fs::remove_dir_all(&rt, "numbers")?;
     Ok(())
 }
 

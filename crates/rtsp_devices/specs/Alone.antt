@@ -11,7 +11,7 @@ use Rattle.rtsp_engine.specs.Additions.{GrowsBy, end_records}
 use Rattle.rtsp_engine.specs.Conducting.{HasPlace, ConductsSetup}
 use Rattle.rtsp_engine.specs.Desk.{State}
 use Rattle.rtsp_engine.specs.DeskAnswers.{EndsAt}
-use Rattle.rtsp_engine.specs.Devices.{Devices, devices}
+use Rattle.rtsp_traits.specs.Devices.{Devices, devices}
 use Rattle.rtsp_engine.specs.Numbers.{EndsCleanly}
 use Rattle.rtsp_engine.specs.Served.{line, parts}
 use Rattle.rtsp_engine.specs.declared.desk.Asker.{Asker}

@@ -1,7 +1,7 @@
 -- Ids and SSRCs that are counted from 1; sequence numbers and timestamps begin at 0.
 use Rattle.std.specs.Prelude.{◌≡◌, ◌⊎◌, ℕ, ◌+◌, ◌-◌, ◌^◌}
 use Rattle.rtsp_admit.specs.Binder.{raised}
-use Rattle.rtsp_engine.specs.Devices.{WordCalls}
+use Rattle.rtsp_traits.specs.Devices.{WordCalls}
 use Rattle.rtsp_devices.specs.declared.counted_words.CountedWords.{CountedWords}
 
 -- one more id

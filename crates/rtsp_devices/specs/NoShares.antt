@@ -1,6 +1,6 @@
 -- Nobody counts the sessions of an address: each place can be had.
 use Rattle.std.specs.Prelude.{⊤}
-use Rattle.rtsp_engine.specs.Devices.{ShareCalls}
+use Rattle.rtsp_traits.specs.Devices.{ShareCalls}
 use Rattle.rtsp_devices.specs.declared.no_shares.NoShares.{NoShares}
 
 -- none is refused

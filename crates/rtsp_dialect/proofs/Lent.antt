@@ -10,7 +10,7 @@ use Rattle.rtsp_grammar.specs.declared.message.Item.TheVariants as items
 use Rattle.rtsp_engine.specs.Conversing.{Answers, GivesUp}
 use Rattle.rtsp_engine.specs.Desk.{service, served, state, SameParts}
 use Rattle.rtsp_engine.specs.DeskAnswers.{AnswersAt, GivesUpAt}
-use Rattle.rtsp_engine.specs.Devices.{Devices}
+use Rattle.rtsp_traits.specs.Devices.{Devices}
 use Rattle.rtsp_engine.specs.Served.{Output, Served, Answered, Faulted, FaultedAfter}
 use Rattle.rtsp_engine.specs.Serving.{Serving, desk_serving}
 use Rattle.rtsp_engine.specs.declared.desk.Desk.{Desk}

@@ -5,7 +5,7 @@ use Rattle.rtsp_grammar.specs.declared.message.Item.{Item}
 use Rattle.rtsp_grammar.specs.declared.message.Item.TheVariants as items
 use Rattle.rtsp_engine.specs.Desk.{SameParts}
 use Rattle.rtsp_engine.specs.DeskAnswers.{AnswersAt, GivesUpAt}
-use Rattle.rtsp_engine.specs.Devices.{Devices}
+use Rattle.rtsp_traits.specs.Devices.{Devices}
 use Rattle.rtsp_engine.specs.Served.{Output}
 use Rattle.rtsp_engine.specs.declared.desk.Desk.{Desk}
 use Rattle.rtsp_engine.proofs.Keeping.{answered_keeps, fault_keeps}

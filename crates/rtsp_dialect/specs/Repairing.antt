@@ -4,7 +4,7 @@ use Rattle.rtsp_grammar.specs.declared.fault.MessageFault.{MessageFault}
 use Rattle.rtsp_grammar.specs.declared.message.Item.{Item}
 use Rattle.rtsp_grammar.specs.declared.message.Item.TheVariants as items
 use Rattle.rtsp_engine.specs.DeskAnswers.{AnswersAt, GivesUpAt}
-use Rattle.rtsp_engine.specs.Devices.{Devices}
+use Rattle.rtsp_traits.specs.Devices.{Devices}
 use Rattle.rtsp_engine.specs.Served.{Output, Parts, Answered, FaultedAfter, Ends}
 use Rattle.rtsp_engine.specs.declared.desk.Desk.{Desk}
 use Rattle.rtsp_engine.specs.declared.serving.ServeEnd.{ServeEnd}

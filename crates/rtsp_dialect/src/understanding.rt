@@ -4,7 +4,7 @@ ghost use Rattle.std.specs.Prelude.{◌≡◌, ◌++◌, IfErr, OnOk};
 ghost use Rattle.rtsp_grammar.specs.Answer.{IsUndecided};
 ghost use Rattle.rtsp_lock.specs.Calls.{IsSeatOf, SameSeat};
 ghost use Rattle.rtsp_engine.specs.Desk.{SameParts};
-ghost use Rattle.rtsp_engine.specs.Devices.{devices};
+ghost use Rattle.rtsp_traits.specs.Devices.{devices};
 ghost use Rattle.rtsp_dialect.specs.Understanding.{TakesPiece, FaultsPiece, serves, gathered};
 
 use crate::visits::push;

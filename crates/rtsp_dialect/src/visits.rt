@@ -3,7 +3,7 @@
 ghost use Rattle.std.specs.Prelude.{◌≡◌, ◌++◌, IfErr, OnOk};
 ghost use Rattle.rtsp_grammar.specs.Answer.{IsUndecided};
 ghost use Rattle.rtsp_engine.specs.Desk.{SameParts};
-ghost use Rattle.rtsp_engine.specs.Devices.{devices};
+ghost use Rattle.rtsp_traits.specs.Devices.{devices};
 ghost use Rattle.rtsp_engine.specs.Served.{at};
 ghost use Rattle.rtsp_dialect.specs.Repairing.{Takes, Faults};
 

@@ -28,7 +28,7 @@ use Rattle.rtsp_engine.specs.Conducting.{drawn_with, SetsUp, Conducts}
 use Rattle.rtsp_engine.specs.Conversing.{Finds, Ends, RespondsFound, RespondsScreened, LacksFound, LacksScreened, Answers, GivesUp}
 use Rattle.rtsp_engine.specs.Desk.{Service, State, state, service}
 use Rattle.rtsp_engine.specs.DeskAnswers.{AnswersAt, GivesUpAt, Takes, Faults}
-use Rattle.rtsp_engine.specs.Devices.{Devices}
+use Rattle.rtsp_traits.specs.Devices.{Devices}
 use Rattle.rtsp_engine.specs.Drawing.{DrawsNumbers, LacksNumber}
 use Rattle.rtsp_engine.specs.Renewing.{Looks, LooksAgain, RenewsBy, Renews, renewal_at}
 use Rattle.rtsp_engine.specs.Served.{Output, Line, Served, Faulted, Gathered, BreaksOff, EndsFrom, with_text, answered_by}

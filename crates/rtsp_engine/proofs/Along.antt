@@ -4,7 +4,7 @@ use Rattle.rtsp_grammar.specs.declared.fault.MessageFault.{MessageFault}
 use Rattle.rtsp_grammar.specs.declared.message.Item.{Item}
 use Rattle.rtsp_engine.specs.Desk.{service, served, state, SameParts}
 use Rattle.rtsp_engine.specs.DeskAnswers.{AnswersAt, GivesUpAt, Takes, Faults}
-use Rattle.rtsp_engine.specs.Devices.{Devices}
+use Rattle.rtsp_traits.specs.Devices.{Devices}
 use Rattle.rtsp_engine.specs.Served.{Output, Served, Answered, Faulted, FaultedAfter}
 use Rattle.rtsp_engine.specs.Serving.{Serving, AnswersFrom, GivesUpFrom, desk_serving}
 use Rattle.rtsp_engine.specs.declared.desk.Desk.{Desk}

@@ -32,7 +32,7 @@ use Rattle.rtsp_engine.specs.Conducting.{drawn_with, SetsUp, Conducts}
 use Rattle.rtsp_engine.specs.Conversing.{RespondsFound, RespondsScreened, Answers}
 use Rattle.rtsp_engine.specs.Desk.{Service, State, state, service}
 use Rattle.rtsp_engine.specs.DeskAnswers.{AnswersAt, GivesUpAt, Takes, Faults}
-use Rattle.rtsp_engine.specs.Devices.{Devices}
+use Rattle.rtsp_traits.specs.Devices.{Devices}
 use Rattle.rtsp_engine.specs.Drawing.{DrawsNumbers}
 use Rattle.rtsp_engine.specs.Served.{Output}
 use Rattle.rtsp_engine.specs.Numbers.{SeatOwnsAll, DeskKeepsNumbers, SetupLeaves, PlanLeaves, FoundLeaves, ResponseLeaves, ItemLeaves, AnswersCleanly, ServedKeepsNumbers, ServedCleanly}

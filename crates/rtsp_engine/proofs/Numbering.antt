@@ -41,7 +41,7 @@ use Rattle.rtsp_state.proofs.ShownLemmas.{shows_session}
 use Rattle.rtsp_engine.specs.Conducting.{drawn_with, SetsUp, Conducts}
 use Rattle.rtsp_engine.specs.Conversing.{Finds, Ends, RespondsFound, RespondsScreened, LacksFound, LacksScreened, Answers, GivesUp}
 use Rattle.rtsp_engine.specs.Desk.{Service, State}
-use Rattle.rtsp_engine.specs.Devices.{Devices}
+use Rattle.rtsp_traits.specs.Devices.{Devices}
 use Rattle.rtsp_engine.specs.Drawing.{DrawsNumbers, LacksNumber}
 use Rattle.rtsp_engine.specs.Renewing.{Looks, LooksAgain, RenewsBy, Renews, renewing, renewal_at}
 use Rattle.rtsp_engine.specs.declared.conducting.SetUp.{SetUp}

@@ -7,7 +7,7 @@ use Rattle.rtsp_state.specs.ParsedRequest.{ParsedValue}
 use Rattle.rtsp_engine.specs.Conducting.{DoesNothing}
 use Rattle.rtsp_engine.specs.Conversing.{Finds, OnlyRenews, ConductsRenewed, Ends, RespondsFound, RespondsParsed, LacksFound, OnlyFinds}
 use Rattle.rtsp_engine.specs.Desk.{Service, State}
-use Rattle.rtsp_engine.specs.Devices.{Devices}
+use Rattle.rtsp_traits.specs.Devices.{Devices}
 use Rattle.rtsp_engine.specs.Writing.{Writes}
 
 module _ {B W C P S : Type 0} (d : Devices B W C P S) (service : Service) where

@@ -3,7 +3,7 @@ use Rattle.std.proofs.Common.{ℕ, Bool, true, false}
 use Rattle.rtsp_state.specs.declared.setup_plan.SetupPlan.{SetupPlan}
 use Rattle.rtsp_engine.specs.Conducting.{HasPlace, AsksShare, NeverWantsPlace}
 use Rattle.rtsp_engine.specs.Desk.{State}
-use Rattle.rtsp_engine.specs.Devices.{Devices, LacksPlace, RefusesNone}
+use Rattle.rtsp_traits.specs.Devices.{Devices, LacksPlace, RefusesNone}
 use Rattle.rtsp_engine.specs.Drawing.{opens}
 use Rattle.rtsp_engine.specs.declared.conducting.SetUp.{SetUp}
 use Rattle.rtsp_engine.specs.declared.conducting.SetUp.TheVariants.{NoShare, NoWord, NoNumber, Tried}

@@ -27,7 +27,7 @@ use Rattle.rtsp_engine.specs.Conducting.{drawn_with, SetsUp, Conducts}
 use Rattle.rtsp_engine.specs.Conversing.{RespondsFound, RespondsScreened, LacksFound, LacksScreened, Answers, GivesUp}
 use Rattle.rtsp_engine.specs.Desk.{Service, State, state, service}
 use Rattle.rtsp_engine.specs.DeskAnswers.{AnswersAt, GivesUpAt, Takes, Faults}
-use Rattle.rtsp_engine.specs.Devices.{Devices}
+use Rattle.rtsp_traits.specs.Devices.{Devices}
 use Rattle.rtsp_engine.specs.Renewing.{RenewsBy, Renews, renewal_at}
 use Rattle.rtsp_engine.specs.Served.{Output, Line, Served, Answered, Faulted, FaultedAfter, Gathered, BreaksOff, EndsFrom, with_text, answered_by}
 use Rattle.rtsp_engine.specs.declared.conducting.SetUp.{SetUp}

@@ -22,7 +22,7 @@ use Rattle.rtsp_state.specs.Answer.{step_answer, setup_answer}
 use Rattle.rtsp_state.specs.Response.{refused}
 use Rattle.rtsp_state.specs.SetupPlan.{setup_start, ask_of}
 use Rattle.rtsp_engine.specs.Desk.{State}
-use Rattle.rtsp_engine.specs.Devices.{Devices, Noted, Settled, UsesPlace, LacksPlace, RefusesNone}
+use Rattle.rtsp_traits.specs.Devices.{Devices, Noted, Settled, UsesPlace, LacksPlace, RefusesNone}
 use Rattle.rtsp_engine.specs.Drawing.{opens, GivesWords, LacksWord, DrawsNumbers, LacksNumber}
 use Rattle.rtsp_engine.specs.declared.conducting.SetUp.{SetUp}
 use Rattle.rtsp_engine.specs.declared.conducting.SetUp.TheVariants.{NoShare, NoWord, NoNumber, Tried}

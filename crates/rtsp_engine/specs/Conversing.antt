@@ -13,7 +13,7 @@ use Rattle.rtsp_state.specs.Screen.{screen}
 use Rattle.rtsp_state.specs.StateTable.{decide}
 use Rattle.rtsp_engine.specs.Conducting.{Conducts, DoesNothing}
 use Rattle.rtsp_engine.specs.Desk.{Service, State}
-use Rattle.rtsp_engine.specs.Devices.{Devices}
+use Rattle.rtsp_traits.specs.Devices.{Devices}
 use Rattle.rtsp_engine.specs.Renewing.{Looks, Renews, RefusesRenewal}
 
 module _ {B W C P S : Type 0} (d : Devices B W C P S) (service : Service) where

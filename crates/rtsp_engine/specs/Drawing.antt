@@ -4,7 +4,7 @@ use Rattle.rtsp_lock.specs.declared.view.View.{View}
 use Rattle.rtsp_lock.specs.Calls.{Looked, Drew}
 use Rattle.rtsp_state.specs.declared.setup_plan.SetupSession.{SetupSession}
 use Rattle.rtsp_state.specs.declared.setup_plan.SetupSession.TheVariants.{New, Living}
-use Rattle.rtsp_engine.specs.Devices.{WordCalls, Gave, Lacked}
+use Rattle.rtsp_traits.specs.Devices.{WordCalls, Gave, Lacked}
 use Rattle.rtsp_engine.specs.declared.drawing.GivenWords.{GivenWords}
 use Rattle.rtsp_engine.specs.declared.drawing.Lacking.{Lacking}
 use Rattle.rtsp_engine.specs.declared.drawing.Lacking.TheVariants as lacking

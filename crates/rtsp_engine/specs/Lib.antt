@@ -1,6 +1,5 @@
 pub mod Streams
 pub mod FaultResponses
-pub mod Devices
 pub mod Desk
 pub mod Drawing
 pub mod Renewing

@@ -24,7 +24,7 @@ use Rattle.rtsp_engine.specs.Conducting.{drawn_with, SetsUp, Conducts}
 use Rattle.rtsp_engine.specs.Conversing.{RespondsFound, RespondsScreened, Responds, Lacks, Answers}
 use Rattle.rtsp_engine.specs.Desk.{Service, State, state, service}
 use Rattle.rtsp_engine.specs.DeskAnswers.{AnswersAt, GivesUpAt, Takes, Faults}
-use Rattle.rtsp_engine.specs.Devices.{Devices}
+use Rattle.rtsp_traits.specs.Devices.{Devices}
 use Rattle.rtsp_engine.specs.Served.{Output, Line, Parts, Answered, FaultedAfter, EndsFrom, Ends}
 use Rattle.rtsp_engine.specs.declared.conducting.SetUp.{SetUp}
 use Rattle.rtsp_engine.specs.declared.conducting.SetUp.TheVariants.{NoShare, NoWord, NoNumber, Tried}

@@ -8,7 +8,7 @@ use Rattle.rtsp_lock.specs.declared.seat.BookSeat.{BookSeat}
 use Rattle.rtsp_lock.specs.Calls.{seat_view}
 use Rattle.rtsp_engine.specs.Conversing.{Answers, GivesUp}
 use Rattle.rtsp_engine.specs.Desk.{Service, State, served, service}
-use Rattle.rtsp_engine.specs.Devices.{Devices}
+use Rattle.rtsp_traits.specs.Devices.{Devices}
 use Rattle.rtsp_engine.specs.declared.desk.Asker.{Asker}
 use Rattle.rtsp_engine.specs.declared.desk.Desk.{Desk}
 

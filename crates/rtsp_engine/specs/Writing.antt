@@ -13,7 +13,7 @@ use Rattle.rtsp_state.specs.Room.{RoomText}
 use Rattle.rtsp_engine.specs.Conducting.{ConductsStep, ConductsSetup, Conducts, DoesNothing}
 use Rattle.rtsp_engine.specs.Conversing.{ConductsRenewed, RespondsFound, RespondsParsed, Responds, LacksFound, OnlyFinds, Lacks}
 use Rattle.rtsp_engine.specs.Desk.{state, service}
-use Rattle.rtsp_engine.specs.Devices.{Devices}
+use Rattle.rtsp_traits.specs.Devices.{Devices}
 use Rattle.rtsp_engine.specs.declared.desk.Desk.{Desk}
 
 -- such a response is written behind what is there

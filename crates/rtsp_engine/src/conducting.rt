@@ -12,19 +12,16 @@ ghost use Rattle.rtsp_state.specs.Bounds.{setup_room};
 ghost use Rattle.rtsp_state.specs.Conduct.{IsConducted};
 ghost use Rattle.rtsp_engine.specs.Conducting.{played, freed_by, drawn_with, opened, setup_response, HasPlace, SetsUp, AsksShare};
 ghost use Rattle.rtsp_engine.specs.Desk.{state, SameParts};
-ghost use Rattle.rtsp_engine.specs.Devices.{devices, Noted, NotNoted, Settled};
+ghost use Rattle.rtsp_traits.specs.Devices.{devices, Noted, NotNoted, Settled};
 ghost use Rattle.rtsp_engine.specs.Writing.{WritesStep, WritesSetup, WritesOutcome, WantsOutcome};
 
-use crate::clock::Clock;
 use crate::desk::Desk;
 use crate::drawing::{GivenWords, Lacking, Numbers, Spent, draw_numbers, draw_words, opens};
-use crate::plays::Plays;
-use crate::shares::{ShareSpent, Shares};
-use crate::words::Words;
 use rtsp_admit::{Binder, admit, unbind_freed};
 use rtsp_book::{Admitted, Receipt, Refusal, Step};
 use rtsp_lock::{BookLock, BookSeat};
 use rtsp_state::{Drawn, Plan, Reply, Room, SessionKey, SetupPlan, Status, StepPlan};
+use rtsp_traits::{Clock, Plays, ShareSpent, Shares, Words};
 use std::alloc::{AllocError, Global};
 use std::sync::Wait;
 

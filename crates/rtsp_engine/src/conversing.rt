@@ -3,21 +3,18 @@
 ghost use Rattle.std.specs.Prelude.{◌≡◌, OnOk, OnErr, option_map};
 ghost use Rattle.rtsp_engine.specs.DeskAnswers.{AnswersAt, GivesUpAt};
 ghost use Rattle.rtsp_engine.specs.Desk.{SameParts};
-ghost use Rattle.rtsp_engine.specs.Devices.{devices};
+ghost use Rattle.rtsp_traits.specs.Devices.{devices};
 ghost use Rattle.rtsp_engine.specs.Writing.{WritesRenewed, WritesFound, WritesParsed, WritesResponse, WantsOutcome, WantsFound, WantsParsed, WantsResponse};
 
-use crate::clock::Clock;
 use crate::conducting::{conduct, reply_with};
 use crate::connection::Answerer;
 use crate::desk::Desk;
-use crate::plays::Plays;
 use crate::renewing::{look, renew};
-use crate::shares::Shares;
-use crate::words::Words;
 use rtsp_admit::Binder;
 use rtsp_book::SessionView;
 use rtsp_grammar::{Item, Request};
 use rtsp_state::{ParsedRequest, Room, Screen, decide, screen};
+use rtsp_traits::{Clock, Plays, Shares, Words};
 use std::alloc::{AllocError, Global};
 use std::sync::Wait;
 

@@ -4,10 +4,10 @@ ghost use Rattle.std.specs.Prelude.{◌≡◌, IfOk, IfErr, OnErr, OnOk};
 ghost use Rattle.rtsp_lock.specs.Calls.{seat_view, IsSeatOf, SameSeat};
 ghost use Rattle.rtsp_engine.specs.Drawing.{opens, GivesId, LacksId, GivesWords, LacksWord, Draws, DrawsNone, DrawsNumbers, LacksNumber};
 
-use crate::words::{Words, WordsFault};
 use rtsp_book::NumbersSpent;
 use rtsp_lock::{BookLock, BookSeat};
 use rtsp_state::{SessionKey, SetupSession};
+use rtsp_traits::{Words, WordsFault};
 use std::sync::Wait;
 
 // The words of an admission. A living session keeps its id, and none is taken.

@@ -2,14 +2,11 @@
 
 ghost use Rattle.rtsp_engine.specs.Additions.{ServedGrows};
 ghost use Rattle.rtsp_engine.specs.Conducting.{NeverWantsPlace};
-ghost use Rattle.rtsp_engine.specs.Devices.{devices};
+ghost use Rattle.rtsp_traits.specs.Devices.{devices};
 ghost use Rattle.rtsp_engine.specs.Numbers.{ServedKeepsNumbers, ServedCleanly};
 
-use crate::clock::Clock;
-use crate::plays::Plays;
-use crate::shares::Shares;
-use crate::words::Words;
 use rtsp_admit::Binder;
+use rtsp_traits::{Clock, Plays, Shares, Words};
 
 /// Over a connection what its seat has seen of the history goes on by the records of the replies to
 /// its requests, in the order of the requests, among the entries of others; and its own entries grow

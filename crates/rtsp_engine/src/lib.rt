@@ -4,15 +4,14 @@
 //! gathers what is to be written; `serving` is the loop around it that reads and writes.
 //! `conversing` answers one request from a `Desk`, the parts that are lent to a connection.
 //!
-//! The definitions of `specs/` read in this order: Devices (what clocks, words, plays and shares do),
-//! Desk (what is before and after a request), Renewing, Conducting, Conversing (how one item is
-//! answered), Writing (the same, in a room), Served (what a connection has written), DeskAnswers
-//! (the same from a desk), Additions (what it has recorded), Numbers (under which numbers, and what
-//! a refused SETUP leaves), Causes (faults are told where they were counted).
+//! What clocks, words, plays and shares do stands in `rtsp_traits`. The definitions of `specs/` read
+//! in this order: Desk (what is before and after a request), Renewing, Conducting, Conversing (how one
+//! item is answered), Writing (the same, in a room), Served (what a connection has written),
+//! DeskAnswers (the same from a desk), Additions (what it has recorded), Numbers (under which numbers,
+//! and what a refused SETUP leaves), Causes (faults are told where they were counted).
 
 #![tactic(auto)]
 
-mod clock;
 mod conducting;
 mod connection;
 mod conversing;
@@ -21,16 +20,12 @@ mod drawing;
 mod fault_responses;
 mod laws;
 mod piece_reader;
-mod plays;
 mod renewing;
 mod serving;
-mod shares;
 mod streams;
 mod visiting;
 mod visits;
-mod words;
 
-pub use clock::Clock;
 pub use connection::{Answerer, Connection};
 pub use conversing::respond;
 pub use desk::{Asker, Desk};
@@ -39,10 +34,8 @@ pub use laws::{
     law_never_wants_place, law_served_cleanly, law_served_grows, law_served_keeps_numbers,
 };
 pub use piece_reader::PieceReader;
-pub use plays::Plays;
 pub use rtsp_admit::{BindFault, Binder, law_owns_all};
+pub use rtsp_traits::{Clock, Plays, ShareSpent, Shares, Words, WordsFault};
 pub use serving::{ServeEnd, TURNS, serve, serve_turns};
-pub use shares::{ShareSpent, Shares};
 pub use streams::{ByteIn, ByteOut, CountedReader, CountedWriter, StreamFault};
 pub use visiting::{PieceAnswerer, PieceIn, Reading, VisitEnd, law_visits, visit};
-pub use words::{Words, WordsFault};

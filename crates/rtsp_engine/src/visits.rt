@@ -6,22 +6,19 @@ ghost use Rattle.rtsp_engine.specs.Additions.{Grows};
 ghost use Rattle.rtsp_engine.specs.Causes.{ReadFails, WriteFails, ClosesAtEnd, SpendsTurns};
 ghost use Rattle.rtsp_engine.specs.Desk.{SameParts};
 ghost use Rattle.rtsp_engine.specs.DeskAnswers.{Takes, Faults, EndsAt};
-ghost use Rattle.rtsp_engine.specs.Devices.{devices};
+ghost use Rattle.rtsp_traits.specs.Devices.{devices};
 ghost use Rattle.rtsp_engine.specs.Numbers.{SeatOwnsAll, DeskKeepsNumbers, EndsCleanly};
 ghost use Rattle.rtsp_engine.specs.Served.{at, parts};
 
-use crate::clock::Clock;
 use crate::connection::Connection;
 use crate::desk::Desk;
 use crate::laws::{law_served_cleanly, law_served_grows, law_served_keeps_numbers};
-use crate::plays::Plays;
 use crate::serving::{ServeEnd, serve_turns};
-use crate::shares::Shares;
 use crate::streams::{ByteIn, ByteOut};
-use crate::words::Words;
 use rtsp_admit::Binder;
 use rtsp_grammar::MessageFault;
 use rtsp_state::Room;
+use rtsp_traits::{Clock, Plays, Shares, Words};
 use std::alloc::Global;
 use std::sync::Wait;
 

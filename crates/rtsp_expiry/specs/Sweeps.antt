@@ -1,6 +1,7 @@
 -- The run of a sweep: accepted steps, each with the unbinding of the ports that it freed. Between any two of them other seats may act.
-use Rattle.std.specs.Prelude.{◌≡◌, ℕ, ◌≤◌, ◌<◌, Bool, true, false, List, [], ◌∷◌, length, Ok, Err}
+use Rattle.std.specs.Prelude.{◌≡◌, ℕ, ◌≤◌, ◌<◌, Bool, true, false, List, [], ◌∷◌, length, slice_get, Option, None, option_map, Ok, Err}
 use Rattle.rtsp_record.specs.declared.changes.Record.{Record}
+use Rattle.rtsp_record.specs.Records.{session_of}
 use Rattle.rtsp_book.specs.declared.refusals.Refusal.TheVariants.{NothingDue}
 use Rattle.rtsp_book.specs.declared.steps.Step.{Step}
 use Rattle.rtsp_book.specs.declared.steps.Step.TheVariants as step
@@ -14,6 +15,15 @@ abbrev pub IsSweeping : Step → Type 0
 IsSweeping (step.Expire now) = Unit {0}
 IsSweeping (step.Hangup conn) = Unit {0}
 IsSweeping other = ⊥
+
+-- the session that the records of a step are about
+abbrev pub session_in : List Record → Option ℕ
+session_in made = option_map session_of (slice_get made 0)
+
+-- that of the step that was accepted last, of the records of each, the last first
+abbrev pub last_session : List (List Record) → Option ℕ
+last_session [] = None
+last_session (made ∷ before) = session_in made
 
 module _ {B : Type 0} (calls : Calls B) (step : Step) where
   -- after an earlier run the step is accepted with these records, and the ports that they free are unbound
@@ -45,4 +55,5 @@ module _ {B : Type 0} (calls : Calls B) (step : Step) where
     pub last : State B
     pub accepted : Accepted made s last
     pub count : swept.ended ≡ length made
+    pub told : swept.last ≡ last_session made
     pub stops : Stops limit swept.ended swept.more last t

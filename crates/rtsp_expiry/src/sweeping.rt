@@ -4,14 +4,25 @@ ghost use Rattle.std.specs.Prelude.{◌≡◌, true, false};
 ghost use Rattle.rtsp_book.specs.declared.steps.Step.TheVariants.{Expire, Hangup};
 ghost use Rattle.rtsp_lock.specs.Calls.{seat_view, IsSeatOf, SameSeat};
 ghost use Rattle.rtsp_admit.specs.Runs.{state_of};
-ghost use Rattle.rtsp_expiry.specs.Sweeps.{IsSweeping, Sweeps};
+ghost use Rattle.rtsp_expiry.specs.Sweeps.{IsSweeping, Sweeps, session_in};
 ghost use Rattle.rtsp_expiry.specs.Endings.{EndsExpired, NoneExpired, EndsOn, NoneOn};
 
 use crate::swept::Swept;
 use rtsp_admit::{Binder, unbind_freed};
 use rtsp_book::{Receipt, Step};
 use rtsp_lock::{BookLock, BookSeat};
+use rtsp_record::Record;
 use std::sync::Wait;
+
+// The session that the records of a step are about.
+fn session_in(made: &[Record]) -> Option<u64>
+    ensures { result ≡ session_in made.now }
+{
+    match made.first() {
+        Some(first) => Some(first.session()),
+        None => None,
+    }
+}
 
 // Acts the step until nothing is due, or until it was accepted so often, and unbinds the ports that
 // each step freed.
@@ -30,15 +41,26 @@ fn act_all<R: Wait, B: Binder>(
     ensures run { Sweeps B.calls step.now limit result (state_of seat.old binder.old) (state_of seat.new binder.new) }
 {
     let mut made = Receipt::new();
+    let mut last = None;
     for ended in 0..limit {
         match seat.act_into(rt, lock, step, &mut made) {
-            Ok(()) => unbind_freed(binder, &made),
-            Err(_) => return Swept { ended, more: false },
+            Ok(()) => {
+                unbind_freed(binder, &made);
+                last = session_in(made.records());
+            }
+            Err(_) => {
+                return Swept {
+                    ended,
+                    more: false,
+                    last,
+                };
+            }
         }
     }
     Swept {
         ended: limit,
         more: true,
+        last,
     }
 }
 

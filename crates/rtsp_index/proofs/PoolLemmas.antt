@@ -15,14 +15,15 @@ use Rattle.rtsp_record.specs.Books.{Session, Book, after}
 use Rattle.rtsp_record.specs.Sums.{Measure, one_if, covers, Spot, UdpPort, Channel, amount, covering, rates, held_rate}
 use Rattle.rtsp_record.specs.Rules.{InWhole, IsFree, Own, Living, MayFree}
 use Rattle.rtsp_record.specs.Sound.{SoundRow}
-use Rattle.rtsp_record.specs.Choices.{least_of, from_on, least_pair_by, least_port_by, least_pair, least_port, is_free, is_port_free, is_pair_free, is_chan_free}
+use Rattle.rtsp_record.specs.Choices.{least_of, count_of, from_on, least_pair_by, least_port_by, least_pair, least_port, is_free, is_port_free, is_pair_free, is_chan_free}
 use Rattle.rtsp_record.proofs.Choices.{at_first, from_next}
 use Rattle.rtsp_record.proofs.Sound.{amount-empty}
 use Rattle.rtsp_record.proofs.Balance.{balance}
 use Rattle.rtsp_sessions.proofs.FreeLemmas.{free_pair, free_port, free_chan}
-use Rattle.rtsp_pools.specs.Pools.{is_free_port, is_free_pair, is_free_chan}
+use Rattle.rtsp_pools.specs.Pools.{is_free_port, is_free_pair, is_free_chan, free_ports as pool_ports, free_pairs as pool_pairs}
 use Rattle.rtsp_index.specs.declared.pools.Pools.{Pools}
 use Rattle.rtsp_index.specs.Following.{Follows}
+use Rattle.rtsp_index.specs.Free.{free_pairs, free_ports}
 use Rattle.rtsp_index.specs.Pooling.{ArePoolsOf, IsFreeIn, IsHeldIn, IsTaken, IsGiven}
 
 -- In the empty book all is free.
@@ -64,6 +65,28 @@ second_port w q at = (2 * at.0 + 1, omega (arith, at.1), omega (arith, at.2))
 
 pub pairs_same : (b : Book) (p : Pools) → ArePoolsOf b p → (q : ℕ) → InWhole p.pairs.whole (Pair q) → is_free_pair p.pairs q ≡ is_pair_free b q
 pairs_same b p ok q at = λ t. ok.ports q (first_port p.pairs.whole q at) t && ok.ports (q + 1) (second_port p.pairs.whole q at) t
+
+-- How many of two tests that agree.
+
+count_same : (step : ℕ) (t u : ℕ → Bool) (p n : ℕ) → ((i : ℕ) → i < n → t (p + step * i) ≡ u (p + step * i)) → count_of step t p n ≡ count_of step u p n
+unfolding count_of
+count_same step t u p zero h = refl
+count_same step t u p (suc n) h =
+    let here : t p ≡ u p = ap t (sym (at_first step p)) ∙ h 0 (omega arith) ∙ ap u (at_first step p) in
+    let rest : count_of step t (p + step) n ≡ count_of step u (p + step) n =
+    count_same step t u (p + step) n (λ i lt. ap t (from_next step p i) ∙ h (i + 1) (omega (arith, lt)) ∙ sym (ap u (from_next step p i))) in
+    omega (arith, ap one_if here, rest)
+
+pub free_pairs_same : (b : Book) (p : Pools) → ArePoolsOf b p → pool_pairs p.pairs ≡ free_pairs p.pairs.whole b
+free_pairs_same b p ok =
+    let w = p.pairs.whole in
+    count_same 2 (is_free_pair p.pairs) (is_pair_free b) w.first_port w.pairs (λ i lt. pairs_same b p ok (w.first_port + 2 * i) (i, lt, refl))
+
+pub free_ports_same : (b : Book) (p : Pools) → ArePoolsOf b p → pool_ports p.pairs ≡ free_ports p.pairs.whole b
+free_ports_same b p ok =
+    let w = p.pairs.whole in
+    count_same 1 (is_free_port p.pairs) (is_port_free b) w.first_port (2 * w.pairs)
+    (λ i lt. ok.ports (w.first_port + 1 * i) (i, lt, ap (λ i. w.first_port + i) (one-mul i)))
 
 -- What is free beside a thing, and without it.
 

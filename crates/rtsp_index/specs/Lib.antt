@@ -10,3 +10,4 @@ pub mod Counted
 pub mod Naming
 pub mod Named
 pub mod Agreeing
+pub mod Free

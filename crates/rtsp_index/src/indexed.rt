@@ -2,6 +2,7 @@
 
 ghost use Rattle.std.specs.Prelude.{◌≡◌};
 ghost use Rattle.rtsp_index.specs.Agreeing.{book_in, AllAgree};
+ghost use Rattle.rtsp_index.specs.Free.{free_pairs, free_ports};
 
 use crate::parts::Parts;
 use crate::search::Search;
@@ -47,6 +48,20 @@ impl IndexedBook {
         ensures book { book_in result.now ≡ self.now.book }
     {
         &self.parts
+    }
+
+    /// How many pairs of ports have both of them free.
+    pub fn free_pairs(&self) -> usize
+        ensures { result ≡ free_pairs self.now.whole self.now.book }
+    {
+        self.parts().pools.free_pairs()
+    }
+
+    /// How many ports are free.
+    pub fn free_ports(&self) -> usize
+        ensures { result ≡ free_ports self.now.whole self.now.book }
+    {
+        self.parts().pools.free_ports()
     }
 }
 

@@ -8,6 +8,7 @@ ghost use Rattle.rtsp_record.specs.Sums.{one_if, held_rate, Channel};
 ghost use Rattle.rtsp_record.specs.Rules.{InWhole, IsFree};
 ghost use Rattle.rtsp_record.specs.Choices.{HasPorts, is_free, least_pair, least_port, chosen_chan};
 ghost use Rattle.rtsp_index.specs.Following.{Follows, is_chan, is_chan_hold};
+ghost use Rattle.rtsp_index.specs.Free.{free_pairs, free_ports};
 
 use rtsp_pools::{ChanPool, PairPool, RatePool};
 use rtsp_record::{Record, Thing, Whole};
@@ -138,6 +139,20 @@ impl Pools {
         ensures no { (b : Book) → ArePoolsOf b self.now → result ≡ false → (l : ℕ) → is_free b (Channel conn l) ≡ true }
     {
         self.chans.has_held(conn)
+    }
+
+    /// How many pairs of ports are free.
+    pub(crate) fn free_pairs(&self) -> usize
+        ensures { (b : Book) → ArePoolsOf b self.now → result ≡ free_pairs self.now.pairs.whole b }
+    {
+        self.pairs.free_count()
+    }
+
+    /// How many ports are free.
+    pub(crate) fn free_ports(&self) -> usize
+        ensures { (b : Book) → ArePoolsOf b self.now → result ≡ free_ports self.now.pairs.whole b }
+    {
+        self.pairs.free_ports()
     }
 
     /// All bits per second that are held.

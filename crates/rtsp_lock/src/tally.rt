@@ -2,6 +2,7 @@
 
 ghost use Rattle.rtsp_lock.specs.Tallies.{IsTallyOf};
 
+use crate::rule::LockBook;
 use rtsp_book::{BookRep, Kept};
 
 /// The figures of the book at one moment.
@@ -11,6 +12,10 @@ pub struct Tally {
     pub sessions: usize,
     /// Bits per second that are held.
     pub rate: u64,
+    /// Pairs of ports of which both are free.
+    pub free_pairs: usize,
+    /// Ports that are free.
+    pub free_ports: usize,
     /// Entries of the journal.
     pub entries: usize,
     /// Records that would end all sessions.
@@ -20,7 +25,7 @@ pub struct Tally {
 }
 
 // The figures, none of which takes longer for a larger book.
-pub(crate) fn tally_of<B: BookRep>(kept: &Kept<B>) -> Tally
+pub(crate) fn tally_of(kept: &Kept<LockBook>) -> Tally
     ensures { IsTallyOf kept.now.whole kept.now.journal result }
 {
     let limit = kept.whole().journal as usize;
@@ -29,6 +34,8 @@ pub(crate) fn tally_of<B: BookRep>(kept: &Kept<B>) -> Tally
     Tally {
         sessions: kept.book().living(),
         rate: kept.book().held_rate(),
+        free_pairs: kept.book().free_pairs(),
+        free_ports: kept.book().free_ports(),
         entries,
         owed,
         room: limit - (entries + owed),

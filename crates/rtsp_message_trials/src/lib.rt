@@ -10,6 +10,8 @@ mod example;
 #[cfg(test)]
 mod header_values;
 #[cfg(test)]
+mod last_turns;
+#[cfg(test)]
 mod messages;
 #[cfg(test)]
 mod normal_play_time;

@@ -75,7 +75,11 @@ fn set_up(book: &mut PlainBook, admission: u64, track: u16) -> Result<(), Fail> 
 }
 
 // A session in this phase, with streams of these tracks.
-fn session(alloc: Global, tracks: &[u16], phase: Phase) -> Result<Option<SessionView>, Fail> {
+pub(crate) fn session(
+    alloc: Global,
+    tracks: &[u16],
+    phase: Phase,
+) -> Result<Option<SessionView>, Fail> {
     let mut book = PlainBook::open(alloc, &SMALL)?;
     let life = Life {
         session: 2,
@@ -98,11 +102,11 @@ fn session(alloc: Global, tracks: &[u16], phase: Phase) -> Result<Option<Session
 
 // Keeps the first bytes of what it is sent, and fails at one packet.
 #[derive(Drop)]
-struct Keeps {
-    sent: usize,
+pub(crate) struct Keeps {
+    pub(crate) sent: usize,
     fails_at: usize,
     failures: u64,
-    last_unit: u32,
+    pub(crate) last_unit: u32,
     heads: [[u8; 12]; 8],
 }
 
@@ -134,7 +138,7 @@ impl Sink for Keeps {
     }
 }
 
-fn failing_at(fails_at: usize) -> Keeps {
+pub(crate) fn failing_at(fails_at: usize) -> Keeps {
     Keeps {
         sent: 0,
         fails_at,
@@ -216,7 +220,7 @@ fn assert_turned(
 }
 
 // A pacer of a session that plays.
-fn pacer_of(rt: &impl Abort, alloc: Global, view: &SessionView) -> Result<Pacer, Fail> {
+pub(crate) fn pacer_of(rt: &impl Abort, alloc: Global, view: &SessionView) -> Result<Pacer, Fail> {
     let table = Table::read(alloc, EXAMPLE.as_bytes())?;
     let Some(pacer) = Pacer::start(view, &table.presentations()[0]) else {
         panic!(rt; "it plays")

@@ -36,6 +36,8 @@ unfoldable pub book_families : BookFigures → List Family
 book_families b =
     gauge (codes "rtspd_sessions") None (codes "Sessions that live.") b.sessions ∷
     held_and_free (codes "rtspd_uplink_bits_per_second") (Some (codes "bits_per_second")) (codes "The uplink, as sessions hold it.") b.rate ∷
+    held_and_free (codes "rtspd_port_pairs") None (codes "Pairs of UDP ports: free where both ports are.") b.pairs ∷
+    held_and_free (codes "rtspd_ports") None (codes "UDP ports, as sessions hold them.") b.ports ∷
     journal_family b ∷ []
 
 -- the mark of requests of a method, by the first digit of their status
@@ -144,6 +146,8 @@ traffic_families n =
 unfoldable pub keeping_families : Counts → List Family
 keeping_families n =
     counter (codes "rtspd_sessions_expired") (codes "Sessions that ended since nothing renewed them.") n.expired ∷
+    counter (codes "rtspd_journal_shortenings") (codes "Times that entries left the journal: of ended sessions, or by a checkpoint.") n.shortenings ∷
+    counter (codes "rtspd_media_failures") (codes "Times that the file of a track could not be read.") n.media_failures ∷
     counter (codes "rtspd_log_lines_dropped") (codes "Lines of the log for which there was no room.") n.log_lines_dropped ∷ []
 
 -- what was asked, and how it was answered

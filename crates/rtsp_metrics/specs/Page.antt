@@ -51,6 +51,8 @@ server_rows s =
     number_row (codes "Seconds since it began") s.uptime_seconds ∷
     number_row (codes "Sessions") s.book.sessions ∷
     bar_row (codes "Uplink, bit/s") s.book.rate.held (s.book.rate.held + s.book.rate.free) ∷
+    bar_row (codes "Pairs of ports") s.book.pairs.held (s.book.pairs.held + s.book.pairs.free) ∷
+    bar_row (codes "Ports") s.book.ports.held (s.book.ports.held + s.book.ports.free) ∷
     bar_row (codes "Journal, written") s.book.entries (s.book.entries + s.book.owed + s.book.room) ∷
     bar_row (codes "Journal, owed") s.book.owed (s.book.entries + s.book.owed + s.book.room) ∷
     bar_row (codes "Connections") s.connections.held (s.connections.held + s.connections.free) ∷ [])
@@ -95,7 +97,9 @@ count_rows n =
     concat (
     number_row (codes "Packets sent") n.packets.sent ∷ number_row (codes "Packets lost") n.packets.lost ∷
     number_row (codes "Connections let in") n.connections.accepted ∷ number_row (codes "Connections closed at once") n.connections.refused ∷
-    number_row (codes "Sessions expired") n.expired ∷ number_row (codes "Log lines dropped") n.log_lines_dropped ∷ [])
+    number_row (codes "Media not read") n.media_failures ∷
+    number_row (codes "Sessions expired") n.expired ∷ number_row (codes "Journal shortened") n.shortenings ∷
+    number_row (codes "Log lines dropped") n.log_lines_dropped ∷ [])
 
 -- the figures behind what every such page begins with
 unfoldable pub page_text : List ℕ → Snapshot → List ℕ

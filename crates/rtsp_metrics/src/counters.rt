@@ -1,252 +1,8 @@
 //! Counters that threads add to.
 
-use crate::snapshot::{ByMethod, ByOutcome, Connections, Counts, Lateness, Packets, Refusals};
-use std::sync::atomic::{AtomicU64, Ordering};
-
-/// The method of a request, as the figures name it.
-#[derive(Clone, Copy, Debug, PartialEq, Eq)]
-pub enum Method {
-    Options,
-    Describe,
-    Setup,
-    Play,
-    Pause,
-    Teardown,
-    GetParameter,
-    SetParameter,
-    Other,
-}
-
-/// What the first digit of a status says.
-#[derive(Clone, Copy, Debug, PartialEq, Eq)]
-pub enum Outcome {
-    Success,
-    Redirection,
-    ClientError,
-    ServerError,
-}
-
-/// Why a request was refused, as the figures name it.
-#[derive(Clone, Copy, Debug, PartialEq, Eq)]
-pub enum Refusal {
-    Bandwidth,
-    Unavailable,
-    Session,
-    Path,
-    State,
-    Transport,
-    Other,
-}
-
-impl Method {
-    /// The method of this name; any other name is `Other`.
-    pub fn of(name: &[u8]) -> Method {
-        match name {
-            b"OPTIONS" => Method::Options,
-            b"DESCRIBE" => Method::Describe,
-            b"SETUP" => Method::Setup,
-            b"PLAY" => Method::Play,
-            b"PAUSE" => Method::Pause,
-            b"TEARDOWN" => Method::Teardown,
-            b"GET_PARAMETER" => Method::GetParameter,
-            b"SET_PARAMETER" => Method::SetParameter,
-            _ => Method::Other,
-        }
-    }
-}
-
-impl Outcome {
-    /// Of this status. One below 300 is a success, one from 500 on an error of the server.
-    pub fn of(status: u16) -> Outcome {
-        match status {
-            0..=299 => Outcome::Success,
-            300..=399 => Outcome::Redirection,
-            400..=499 => Outcome::ClientError,
-            _ => Outcome::ServerError,
-        }
-    }
-}
-
-impl Refusal {
-    /// Of this status. None below 400.
-    pub fn of(status: u16) -> Option<Refusal> {
-        match status {
-            0..=399 => None,
-            404 => Some(Refusal::Path),
-            453 => Some(Refusal::Bandwidth),
-            454 => Some(Refusal::Session),
-            455 => Some(Refusal::State),
-            461 => Some(Refusal::Transport),
-            503 => Some(Refusal::Unavailable),
-            _ => Some(Refusal::Other),
-        }
-    }
-}
-
-// One count, which wraps at 2^64. It orders nothing beside it.
-#[derive(Drop)]
-struct Counter {
-    count: AtomicU64,
-}
-
-impl Counter {
-    const fn new() -> Counter {
-        Counter {
-            count: AtomicU64::new(0),
-        }
-    }
-
-    fn add(&self, more: u64) {
-        self.count.fetch_add(more, Ordering::Relaxed);
-    }
-
-    fn read(&self) -> u64 {
-        self.count.load(Ordering::Relaxed)
-    }
-}
-
-#[derive(Drop)]
-struct OutcomeCounters {
-    success: Counter,
-    redirection: Counter,
-    client_error: Counter,
-    server_error: Counter,
-}
-
-impl OutcomeCounters {
-    fn new() -> OutcomeCounters {
-        OutcomeCounters {
-            success: Counter::new(),
-            redirection: Counter::new(),
-            client_error: Counter::new(),
-            server_error: Counter::new(),
-        }
-    }
-
-    fn add(&self, outcome: Outcome) {
-        match outcome {
-            Outcome::Success => self.success.add(1),
-            Outcome::Redirection => self.redirection.add(1),
-            Outcome::ClientError => self.client_error.add(1),
-            Outcome::ServerError => self.server_error.add(1),
-        }
-    }
-
-    fn read(&self) -> ByOutcome {
-        ByOutcome {
-            success: self.success.read(),
-            redirection: self.redirection.read(),
-            client_error: self.client_error.read(),
-            server_error: self.server_error.read(),
-        }
-    }
-}
-
-#[derive(Drop)]
-struct MethodCounters {
-    options: OutcomeCounters,
-    describe: OutcomeCounters,
-    setup: OutcomeCounters,
-    play: OutcomeCounters,
-    pause: OutcomeCounters,
-    teardown: OutcomeCounters,
-    get_parameter: OutcomeCounters,
-    set_parameter: OutcomeCounters,
-    other: OutcomeCounters,
-}
-
-impl MethodCounters {
-    fn new() -> MethodCounters {
-        MethodCounters {
-            options: OutcomeCounters::new(),
-            describe: OutcomeCounters::new(),
-            setup: OutcomeCounters::new(),
-            play: OutcomeCounters::new(),
-            pause: OutcomeCounters::new(),
-            teardown: OutcomeCounters::new(),
-            get_parameter: OutcomeCounters::new(),
-            set_parameter: OutcomeCounters::new(),
-            other: OutcomeCounters::new(),
-        }
-    }
-
-    fn of(&self, method: Method) -> &OutcomeCounters {
-        match method {
-            Method::Options => &self.options,
-            Method::Describe => &self.describe,
-            Method::Setup => &self.setup,
-            Method::Play => &self.play,
-            Method::Pause => &self.pause,
-            Method::Teardown => &self.teardown,
-            Method::GetParameter => &self.get_parameter,
-            Method::SetParameter => &self.set_parameter,
-            Method::Other => &self.other,
-        }
-    }
-
-    fn read(&self) -> ByMethod {
-        ByMethod {
-            options: self.options.read(),
-            describe: self.describe.read(),
-            setup: self.setup.read(),
-            play: self.play.read(),
-            pause: self.pause.read(),
-            teardown: self.teardown.read(),
-            get_parameter: self.get_parameter.read(),
-            set_parameter: self.set_parameter.read(),
-            other: self.other.read(),
-        }
-    }
-}
-
-#[derive(Drop)]
-struct RefusalCounters {
-    bandwidth: Counter,
-    unavailable: Counter,
-    session: Counter,
-    path: Counter,
-    state: Counter,
-    transport: Counter,
-    other: Counter,
-}
-
-impl RefusalCounters {
-    fn new() -> RefusalCounters {
-        RefusalCounters {
-            bandwidth: Counter::new(),
-            unavailable: Counter::new(),
-            session: Counter::new(),
-            path: Counter::new(),
-            state: Counter::new(),
-            transport: Counter::new(),
-            other: Counter::new(),
-        }
-    }
-
-    fn add(&self, refusal: Refusal) {
-        match refusal {
-            Refusal::Bandwidth => self.bandwidth.add(1),
-            Refusal::Unavailable => self.unavailable.add(1),
-            Refusal::Session => self.session.add(1),
-            Refusal::Path => self.path.add(1),
-            Refusal::State => self.state.add(1),
-            Refusal::Transport => self.transport.add(1),
-            Refusal::Other => self.other.add(1),
-        }
-    }
-
-    fn read(&self) -> Refusals {
-        Refusals {
-            bandwidth: self.bandwidth.read(),
-            unavailable: self.unavailable.read(),
-            session: self.session.read(),
-            path: self.path.read(),
-            state: self.state.read(),
-            transport: self.transport.read(),
-            other: self.other.read(),
-        }
-    }
-}
+use crate::counter::Counter;
+use crate::media_failures::MediaFailures;
+use crate::snapshot::{ByMethod, Connections, Counts, Lateness, Packets, Refusals};
 
 #[derive(Drop)]
 struct LatenessCounters {
@@ -308,17 +64,16 @@ impl LatenessCounters {
     }
 }
 
-/// The counters of a server. Any number of threads add to them, without a lock and without waiting;
+/// The counters of a server but for those of its answers, which each lane has to itself. Any number of threads add to them, without a lock and without waiting;
 /// each wraps at 2^64. A copy of them is exact for each counter, and not for one moment of all.
 #[derive(Drop)]
 pub struct Counters {
     accepted: Counter,
     turned_away: Counter,
-    requests: MethodCounters,
-    refusals: RefusalCounters,
     sent: Counter,
     lost: Counter,
     lateness: LatenessCounters,
+    media_failures: MediaFailures,
     log_lines_dropped: Counter,
     expired: Counter,
 }
@@ -329,11 +84,10 @@ impl Counters {
         Counters {
             accepted: Counter::new(),
             turned_away: Counter::new(),
-            requests: MethodCounters::new(),
-            refusals: RefusalCounters::new(),
             sent: Counter::new(),
             lost: Counter::new(),
             lateness: LatenessCounters::new(),
+            media_failures: MediaFailures::new(),
             log_lines_dropped: Counter::new(),
             expired: Counter::new(),
         }
@@ -349,14 +103,6 @@ impl Counters {
         self.turned_away.add(1);
     }
 
-    /// A request of this method was answered with this status.
-    pub fn answered(&self, method: Method, status: u16) {
-        self.requests.of(method).add(Outcome::of(status));
-        if let Some(refusal) = Refusal::of(status) {
-            self.refusals.add(refusal);
-        }
-    }
-
     /// So many packets were sent, each so many milliseconds late.
     pub fn sent(&self, packets: u64, late_ms: u64) {
         self.sent.add(packets);
@@ -369,6 +115,17 @@ impl Counters {
         self.lost.add(packets);
     }
 
+    /// The file of a track of a presentation couldn't be read, each by its place in the configuration.
+    pub fn media_failed(&self, presentation: u16, track: u16) {
+        self.media_failures.note(presentation, track);
+    }
+
+    /// The presentation and the track whose file couldn't be read last, if there was one since this
+    /// was asked.
+    pub fn take_media_failure(&self) -> Option<(u16, u16)> {
+        self.media_failures.take()
+    }
+
     /// So many lines of the log were dropped.
     pub fn log_lines_dropped(&self, lines: u64) {
         self.log_lines_dropped.add(lines);
@@ -379,15 +136,16 @@ impl Counters {
         self.expired.add(sessions);
     }
 
-    /// What was counted so far.
+    /// What was counted so far, without answers. How often the journal was shortened is for the book to
+    /// say.
     pub fn read(&self) -> Counts {
         Counts {
             connections: Connections {
                 accepted: self.accepted.read(),
                 refused: self.turned_away.read(),
             },
-            requests: self.requests.read(),
-            refusals: self.refusals.read(),
+            requests: ByMethod::NONE,
+            refusals: Refusals::NONE,
             packets: Packets {
                 sent: self.sent.read(),
                 lost: self.lost.read(),
@@ -395,6 +153,8 @@ impl Counters {
             lateness: self.lateness.read(),
             log_lines_dropped: self.log_lines_dropped.read(),
             expired: self.expired.read(),
+            shortenings: 0,
+            media_failures: self.media_failures.count(),
         }
     }
 }

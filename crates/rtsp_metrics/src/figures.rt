@@ -72,6 +72,10 @@ fn write_book(out: &mut Vec<u8>, of: &BookFigures) -> Result<(), AllocError>
         b"The uplink, as sessions hold it.",
         &of.rate,
     )?;
+    let pairs = b"Pairs of UDP ports: free where both ports are.";
+    write_held(out, b"rtspd_port_pairs", None, pairs, &of.pairs)?;
+    let ports = b"UDP ports, as sessions hold them.";
+    write_held(out, b"rtspd_ports", None, ports, &of.ports)?;
     write_journal(out, of)
 }
 
@@ -285,8 +289,12 @@ fn write_keeping(out: &mut Vec<u8>, of: &Counts) -> Result<(), AllocError>
     ensures { OnOk result (out.new.items ≡ out.old.items ++ families_text (keeping_families of.now)) }
 {
     let expired = b"Sessions that ended since nothing renewed them.";
+    let shortened = b"Times that entries left the journal: of ended sessions, or by a checkpoint.";
+    let media = b"Times that the file of a track could not be read.";
     let dropped = b"Lines of the log for which there was no room.";
     write_counter(out, b"rtspd_sessions_expired", expired, of.expired)?;
+    write_counter(out, b"rtspd_journal_shortenings", shortened, of.shortenings)?;
+    write_counter(out, b"rtspd_media_failures", media, of.media_failures)?;
     write_counter(
         out,
         b"rtspd_log_lines_dropped",

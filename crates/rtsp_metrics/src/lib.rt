@@ -6,15 +6,21 @@
 
 #![tactic(auto)]
 
+mod answer_counters;
+mod counter;
 mod counters;
 mod families;
 mod figures;
+mod kinds;
+mod media_failures;
 mod page;
 mod rows;
 mod snapshot;
 
-pub use counters::{Counters, Method, Outcome, Refusal};
+pub use answer_counters::AnswerCounters;
+pub use counters::Counters;
 pub use figures::metrics_text;
+pub use kinds::{Method, Outcome, Refusal};
 pub use page::{PAGE_HEAD, page_text};
 pub use snapshot::{
     BookFigures, ByMethod, ByOutcome, Connections, Counts, Held, Lateness, Packets, Refusals,

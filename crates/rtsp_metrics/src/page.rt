@@ -52,6 +52,12 @@ fn server_section(alloc: Global, of: &Snapshot) -> Result<Vec<u8>, AllocError>
                 u128::from(book.rate.held),
                 whole(&book.rate),
             ),
+            Row::Bar(
+                b"Pairs of ports",
+                u128::from(book.pairs.held),
+                whole(&book.pairs),
+            ),
+            Row::Bar(b"Ports", u128::from(book.ports.held), whole(&book.ports)),
             Row::Bar(b"Journal, written", u128::from(book.entries), journal(book)),
             Row::Bar(b"Journal, owed", u128::from(book.owed), journal(book)),
             Row::Bar(
@@ -141,7 +147,9 @@ fn count_section(alloc: Global, of: &Counts) -> Result<Vec<u8>, AllocError>
             Row::Number(b"Packets lost", of.packets.lost),
             Row::Number(b"Connections let in", of.connections.accepted),
             Row::Number(b"Connections closed at once", of.connections.refused),
+            Row::Number(b"Media not read", of.media_failures),
             Row::Number(b"Sessions expired", of.expired),
+            Row::Number(b"Journal shortened", of.shortenings),
             Row::Number(b"Log lines dropped", of.log_lines_dropped),
         ],
     )

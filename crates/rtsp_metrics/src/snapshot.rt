@@ -14,6 +14,10 @@ pub struct BookFigures {
     pub sessions: u64,
     /// The uplink, in bits per second.
     pub rate: Held,
+    /// Pairs of UDP ports: free ones, of which both ports are, and the others.
+    pub pairs: Held,
+    /// UDP ports.
+    pub ports: Held,
     /// Entries of the journal.
     pub entries: u64,
     /// Entries of the journal that are kept for what has to be given back.
@@ -39,6 +43,15 @@ pub struct ByOutcome {
     pub server_error: u64,
 }
 
+impl ByOutcome {
+    const NONE: ByOutcome = ByOutcome {
+        success: 0,
+        redirection: 0,
+        client_error: 0,
+        server_error: 0,
+    };
+}
+
 /// Requests that were answered, by their method.
 #[derive(Clone, Copy, Debug, PartialEq, Eq)]
 pub struct ByMethod {
@@ -52,6 +65,20 @@ pub struct ByMethod {
     pub set_parameter: ByOutcome,
     /// Of a method that no server of RTSP knows.
     pub other: ByOutcome,
+}
+
+impl ByMethod {
+    pub(crate) const NONE: ByMethod = ByMethod {
+        options: ByOutcome::NONE,
+        describe: ByOutcome::NONE,
+        setup: ByOutcome::NONE,
+        play: ByOutcome::NONE,
+        pause: ByOutcome::NONE,
+        teardown: ByOutcome::NONE,
+        get_parameter: ByOutcome::NONE,
+        set_parameter: ByOutcome::NONE,
+        other: ByOutcome::NONE,
+    };
 }
 
 /// Requests that were refused, by why.
@@ -71,6 +98,18 @@ pub struct Refusals {
     pub transport: u64,
     /// Any other status from 400 on.
     pub other: u64,
+}
+
+impl Refusals {
+    pub(crate) const NONE: Refusals = Refusals {
+        bandwidth: 0,
+        unavailable: 0,
+        session: 0,
+        path: 0,
+        state: 0,
+        transport: 0,
+        other: 0,
+    };
 }
 
 /// RTP packets.
@@ -107,6 +146,10 @@ pub struct Counts {
     pub log_lines_dropped: u64,
     /// Sessions that ended since nothing renewed them.
     pub expired: u64,
+    /// How often entries left the journal: those of sessions that had ended, or by a checkpoint.
+    pub shortenings: u64,
+    /// How often the file of a track couldn't be read.
+    pub media_failures: u64,
 }
 
 /// All figures of a server.

@@ -1,6 +1,6 @@
 -- The plays of a connection that are noted, and those that were begun.
 use Rattle.std.specs.Prelude.{◌≡◌, ◌++◌, [], ℕ, Bool, true, false, List, Option, Some, None, option_to_list}
-use Rattle.rtsp_engine.specs.Devices.{PlayCalls}
+use Rattle.rtsp_traits.specs.Devices.{PlayCalls}
 use Rattle.rtsp_state.specs.Notify.{media_uri}
 use Rattle.rtsp_pacing.specs.declared.noted.NotedPlay.{NotedPlay}
 use Rattle.rtsp_pacing.specs.declared.noted.NotedPlays.{NotedPlays}

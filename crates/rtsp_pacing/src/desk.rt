@@ -106,7 +106,7 @@ impl<R> PacerDesk<'_, R> {
 impl<R: Clock> PacerDesk<'_, R> {
     // The present moment.
     pub(crate) fn now(&mut self) -> u64 {
-        rtsp_engine::Clock::now(&mut self.clock)
+        rtsp_traits::Clock::now(&mut self.clock)
     }
 }
 

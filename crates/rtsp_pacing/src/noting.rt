@@ -3,8 +3,8 @@
 ghost use Rattle.rtsp_pacing.specs.Noted.{calls};
 
 use crate::noted::{NotedPlay, NotedPlays};
-use rtsp_engine::Plays;
 use rtsp_state::MediaUri;
+use rtsp_traits::Plays;
 use std::alloc::{AllocError, Global};
 
 impl Plays for NotedPlays {

@@ -11,7 +11,7 @@ use rtsp_book::{Refusal, SessionView};
 use rtsp_content::{Players, Presentation};
 use rtsp_grammar::write_request;
 use rtsp_record::Phase;
-use rtsp_rtp::{Pacer, Turn};
+use rtsp_rtp::{LastTurn, Pacer, Turn};
 use rtsp_sockets::Message;
 use rtsp_state::notify;
 use std::alloc::{AllocError, Global};
@@ -75,6 +75,8 @@ pub(crate) struct PacedPlay {
     pacer: Pacer,
     ways: Ways,
     stage: Stage,
+    // The phase in which the session was seen first after it had left the play.
+    left: Option<Phase>,
     renewal: Renewal,
     // The moments of its last turn and of its next one. A wheel that is late comes to it sooner.
     last: u64,
@@ -115,6 +117,15 @@ fn is_past(phase: Phase, unit_ms: u32, moment: u64) -> bool {
     }
 }
 
+// How a play goes on that the session has left. Once what was counted is sent there is nothing more
+// to do, and what can't be read then is lost.
+fn after(last: LastTurn) -> Turn {
+    match last {
+        LastTurn::More => Turn::More,
+        LastTurn::Done | LastTurn::NotLeft | LastTurn::SinkFailed => Turn::OtherPlay,
+    }
+}
+
 impl PacedPlay {
     // The play that the session is in, and the moment of its first turn. `None` where it is in
     // none.
@@ -132,6 +143,7 @@ impl PacedPlay {
             pacer,
             ways: Ways::of(desk.rt, &desk.parts, view),
             stage: Stage::Sending,
+            left: None,
             renewal: Renewal::unseen(),
             last: due,
             next: due,
@@ -152,6 +164,13 @@ impl PacedPlay {
 
     pub(crate) fn ask_again(&mut self, asked: NewPlay) {
         self.asked = asked;
+    }
+
+    // The session is in another play, as the view shows: what was counted up to there is this one's.
+    pub(crate) fn leave(&mut self, view: &SessionView) {
+        if self.left.is_none() {
+            self.left = Some(view.phase());
+        }
     }
 
     // Takes the turn of the play, if its moment has come.
@@ -248,6 +267,7 @@ impl PacedPlay {
         let mut sink = PacketSink {
             rt: desk.rt,
             media: desk.parts.media,
+            counters: desk.parts.counters,
             ways: &self.ways,
             presentation: usize::from(self.presentation),
             now: moment,
@@ -257,9 +277,15 @@ impl PacedPlay {
         };
         let due = self.pacer.next_due().unwrap_or(moment);
         let until = measured(due, unit_ms, moment.saturating_sub(self.last), moment);
-        let turn = self
-            .pacer
-            .turn(session, phase, until, &mut desk.packet, &mut sink);
+        let packet = &mut desk.packet;
+        let mut turn = self.pacer.turn(session, phase, until, packet, &mut sink);
+        if turn == Turn::OtherPlay {
+            let left = *self.left.get_or_insert(phase);
+            let last = self
+                .pacer
+                .last_turn(session, left, until, packet, &mut sink);
+            turn = after(last);
+        }
         let (packets, lost, failed) = (sink.packets, sink.lost, sink.failed);
         self.last = moment;
         desk.count(packets, lost, failed, moment.saturating_sub(due));

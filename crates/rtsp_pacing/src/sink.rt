@@ -1,6 +1,7 @@
 //! Where the packets of a turn get their media, and where they and RTCP go.
 
 use crate::ways::Ways;
+use rtsp_metrics::Counters;
 use rtsp_rtp::{ControlSink, Packet, Sink, SinkFault};
 use rtsp_sockets::Media;
 use std::sync::Wait;
@@ -11,6 +12,7 @@ use std::sync::Wait;
 pub(crate) struct PacketSink<'a, 'w, R> {
     pub(crate) rt: &'a R,
     pub(crate) media: &'a Media,
+    pub(crate) counters: &'a Counters,
     pub(crate) ways: &'w Ways,
     pub(crate) presentation: usize,
     pub(crate) now: u64,
@@ -33,6 +35,8 @@ impl<R: Wait> Sink for PacketSink<'_, '_, R> {
             return Ok(());
         }
         self.failed = self.failed.saturating_add(1);
+        let presentation = u16::try_from(self.presentation).unwrap_or(u16::MAX);
+        self.counters.media_failed(presentation, track);
         Err(SinkFault)
     }
 

@@ -5,7 +5,7 @@ use crate::refusals::Refusals;
 use rtsp_book::SessionView;
 use rtsp_record::{Admission, Stream, Thing};
 use rtsp_rtp::Packet;
-use rtsp_sockets::{Message, Outlet, PortSockets, Put};
+use rtsp_sockets::{FrameRoom, Outlet, PortSockets, Put};
 use std::io::ErrorKind;
 use std::net::{Ipv4Addr, SocketAddrV4};
 use std::sync::{Arc, Mutex, Wait};
@@ -24,6 +24,15 @@ pub(crate) struct PlayerPort {
     refusals: Mutex<Refusals>,
 }
 
+// A channel of a connection that frames go to.
+#[derive(Drop)]
+pub(crate) struct Channel {
+    outlet: Arc<Outlet>,
+    number: u8,
+    // How much may wait there of all streams of the session.
+    room: FrameRoom,
+}
+
 // Where the packets of a stream go.
 #[derive(Drop)]
 pub(crate) enum Way {
@@ -32,7 +41,7 @@ pub(crate) enum Way {
     // As datagrams to a player's port.
     Datagrams(PlayerPort),
     // As frames of a channel of a connection.
-    Frames(Arc<Outlet>, u8),
+    Frames(Channel),
 }
 
 // The ways of a play, by track.
@@ -63,16 +72,34 @@ fn way_of<R: Wait>(
     number: u64,
     admission: &Admission,
     stream: &Stream,
+    room: FrameRoom,
 ) -> Way {
     match admission.address {
         Some(Thing::Pair(pair)) => datagrams(parts.ports.pair_sockets(rt, number, pair), stream),
         Some(Thing::Port(port)) => datagrams(parts.ports.port_socket(rt, number, port), stream),
-        Some(Thing::Chan(conn, channel)) => match parts.outlets.get(rt, conn) {
-            Some(outlet) => Way::Frames(outlet, channel),
+        Some(Thing::Chan(conn, number)) => match parts.outlets.get(rt, conn) {
+            Some(outlet) => Way::Frames(Channel {
+                outlet,
+                number,
+                room,
+            }),
             None => Way::Nowhere,
         },
         Some(Thing::Rate(_)) | None => Way::Nowhere,
     }
+}
+
+// How much may wait of what a session's streams send over connections.
+fn room_of(view: &SessionView) -> FrameRoom {
+    let admissions = view.admissions();
+    let mut rate = 0u64;
+    for place in 0..admissions.len() {
+        let (_, admission) = admissions.at(place);
+        if let Some(Thing::Chan(_, _)) = admission.address {
+            rate = rate.saturating_add(admission.rate.unwrap_or(0));
+        }
+    }
+    FrameRoom::of_rate(rate)
 }
 
 // Connects the socket of RTP to the player's.
@@ -109,12 +136,18 @@ impl PlayerPort {
     }
 }
 
+impl Channel {
+    fn put<R: Wait>(&self, rt: &R, now: u64, frame: &[u8]) -> Put {
+        self.outlet.put_frame(rt, now, self.room, frame)
+    }
+}
+
 impl Way {
     // Whether its player's port is sent none at this moment.
     fn is_spared<R: Wait>(&self, rt: &R, now: u64) -> bool {
         match self {
             Way::Datagrams(port) => port.refusals.lock(rt).is_spared(now),
-            Way::Nowhere | Way::Frames(_, _) => false,
+            Way::Nowhere | Way::Frames(_) => false,
         }
     }
 
@@ -123,12 +156,9 @@ impl Way {
         match self {
             Way::Nowhere => false,
             Way::Datagrams(port) => port.send(rt, now, packet.datagram()),
-            Way::Frames(outlet, channel) => {
-                let frame = packet.frame(*channel);
-                matches!(
-                    outlet.put(rt, now, Message::Frame, frame),
-                    Put::Sent | Put::Kept
-                )
+            Way::Frames(channel) => {
+                let put = channel.put(rt, now, packet.frame(channel.number));
+                matches!(put, Put::Sent | Put::Kept)
             }
         }
     }
@@ -139,9 +169,8 @@ impl Way {
         match self {
             Way::Nowhere => {}
             Way::Datagrams(port) => port.send_control(packet.datagram()),
-            Way::Frames(outlet, channel) => {
-                let frame = packet.frame(*channel | 1);
-                outlet.put(rt, now, Message::Frame, frame);
+            Way::Frames(channel) => {
+                channel.put(rt, now, packet.frame(channel.number | 1));
             }
         }
     }
@@ -162,13 +191,14 @@ impl Ways {
                 Way::Nowhere,
             ],
         };
+        let room = room_of(view);
         let admissions = view.admissions();
         for place in 0..admissions.len() {
             let (number, admission) = admissions.at(place);
             if let Some(stream) = admission.stream
                 && let Some(way) = ways.ways.get_mut(usize::from(stream.track))
             {
-                *way = way_of(rt, parts, number, &admission, &stream);
+                *way = way_of(rt, parts, number, &admission, &stream, room);
             }
         }
         ways

@@ -12,7 +12,7 @@ use Rattle.rtsp_rtp.proofs.Scheduling.{right_pos}
 use Rattle.rtsp_rtp.specs.Moments.{HasDue, IsNextDue, IsNeverDue}
 
 -- the units that are due of a play
-due_is : (p : Phase) (unit_ms m : ℕ) → due p unit_ms m ≡ min (units_in p) ((m - begun_at p) / unit_ms + 1)
+pub due_is : (p : Phase) (unit_ms m : ℕ) → due p unit_ms m ≡ min (units_in p) ((m - begun_at p) / unit_ms + 1)
 due_is (Ready at sent) unit_ms m = grind arith
 due_is (Playing from stop sent since) unit_ms m = refl
 due_is (Ended at sent) unit_ms m = grind arith

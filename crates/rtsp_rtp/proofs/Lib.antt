@@ -5,3 +5,4 @@ pub mod Turning
 pub mod Dues
 pub mod Progressing
 pub mod Leaving
+pub mod Departing

@@ -3,6 +3,7 @@ pub mod Sinks
 pub mod Buffers
 pub mod Pacing
 pub mod Turns
+pub mod Leaving
 pub mod Progress
 pub mod PacerView
 pub mod Moments

@@ -4,14 +4,17 @@
 //! A packet stands in a buffer of fixed size with room before it for the head of an interleaved
 //! frame, so that datagram and frame are slices of one buffer. A `Pacer` is one play of one
 //! session: each turn sends what is due and unsent, and goes on after a failure where it stopped.
+//! Once the session has left the play a last turn sends what was counted as sent and wasn't.
 //!
 //! The definitions of `specs/` read in this order: Packets (the bytes of a packet), Buffers, Sinks
 //! (where packets go), Pacing (what is sent of a play, in which order), Turns (what a turn does),
-//! Moments (when the next packet is due), Goodbyes (RTCP that ends the streams of a play).
+//! Leaving (what a last turn does), Moments (when the next packet is due), Goodbyes (RTCP that ends
+//! the streams of a play).
 
 #![tactic(auto)]
 
 mod buffer;
+mod departure;
 mod goodbye;
 mod pacer;
 mod play;
@@ -26,5 +29,5 @@ pub use goodbye::ControlSink;
 pub use pacer::Pacer;
 pub use sink::{Sink, SinkFault};
 pub use source::Source;
-pub use turn::Turn;
+pub use turn::{LastTurn, Turn};
 pub use unit::packet;

@@ -1,8 +1,9 @@
 //! The pace of one play.
 
-ghost use Rattle.std.specs.Prelude.{◌≡◌, ◌↔◌, IsTrue, IfSome, IfNone};
-ghost use Rattle.rtsp_rtp.specs.Pacing.{IsOfPlay, packets_in, started};
+ghost use Rattle.std.specs.Prelude.{◌≡◌, ◌↔◌, ◌<◌, ◌^◌, IsTrue, IfSome, IfNone};
+ghost use Rattle.rtsp_rtp.specs.Pacing.{IsOfPlay, packets_in, started, units_in};
 ghost use Rattle.rtsp_rtp.specs.Turns.{Turned, CountsFault};
+ghost use Rattle.rtsp_rtp.specs.Leaving.{IsLeftAt, IsNeverLeft, LastTurned, CountsLastFault};
 ghost use Rattle.rtsp_rtp.specs.Moments.{IsNextDue, IsNeverDue};
 ghost use Rattle.rtsp_rtp.specs.Goodbyes.{SaysGoodbye};
 
@@ -11,7 +12,7 @@ use crate::goodbye::{ControlSink, say_goodbye};
 use crate::play::{Play, Progress};
 use crate::sink::{Sink, SinkFault};
 use crate::sources::Sources;
-use crate::turn::Turn;
+use crate::turn::{LastTurn, Turn};
 use rtsp_content::Presentation;
 use rtsp_record::Phase;
 use rtsp_sessions::SessionView;
@@ -105,6 +106,46 @@ impl Pacer {
             return Turn::AtEnd;
         }
         Turn::More
+    }
+
+    /// Sends what the book counted as sent when the session left the play, and what hasn't been: by
+    /// unit, and then in the order of the presentation's tracks, as far as it is due at a moment, in
+    /// milliseconds. `phase` is the one that the session was in when it was seen to have left; each
+    /// further turn is to be given the same one.
+    pub fn last_turn<S: Sink>(
+        &mut self,
+        session: u64,
+        phase: Phase,
+        moment: u64,
+        packet: &mut Packet,
+        sink: &mut S,
+    ) -> LastTurn
+        ensures turned { LastTurned S.calls self.old self.new session phase moment result sink.old sink.new }
+        ensures counted { CountsLastFault S.calls result sink.old sink.new }
+    {
+        let Some(left) = self.left_at(session, &phase) else {
+            return LastTurn::NotLeft;
+        };
+        let until = left.min(moment);
+        if let Err(SinkFault) = self.play.send_due(&mut self.next, until, packet, sink) {
+            return LastTurn::SinkFailed;
+        }
+        if moment < left {
+            return LastTurn::More;
+        }
+        LastTurn::Done
+    }
+
+    // A moment at which the session may have left the play, where one is known.
+    fn left_at(&self, session: u64, phase: &Phase) -> Option<u64>
+        ensures some { IfSome result (IsLeftAt self.now session phase.now) }
+        ensures few { IfSome result (λ m. units_in self.now.phase < 2 ^ 32) }
+        ensures none { IfNone result (IsNeverLeft self.now session phase.now) }
+    {
+        if session != self.play.session {
+            return None;
+        }
+        self.play.left_for(phase)
     }
 
     // Whether no packet is left.

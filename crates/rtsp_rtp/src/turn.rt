@@ -12,3 +12,16 @@ pub enum Turn {
     /// The sink failed at a packet. The next turn goes on with that one.
     SinkFailed,
 }
+
+/// What comes of a turn of a pacer whose session has left the play.
+#[derive(Clone, Copy, Debug, PartialEq, Eq)]
+pub enum LastTurn {
+    /// All units that were counted as sent are.
+    Done,
+    /// What was due of them is sent. More was counted.
+    More,
+    /// No pause of the play and no play after it leads to the phase. Nothing was sent.
+    NotLeft,
+    /// The sink failed at a packet. The next turn goes on with that one.
+    SinkFailed,
+}

@@ -3,6 +3,10 @@
 #![tactic(auto)]
 
 #[cfg(test)]
+mod left_plays;
+#[cfg(test)]
+mod lending;
+#[cfg(test)]
 mod outlets;
 #[cfg(test)]
 mod pairs_and_files;

@@ -54,7 +54,7 @@ struct Heard {
 }
 
 // Does a step of the session 2.
-fn act<R: Wait>(rt: &R, lock: &BookLock, seat: &mut BookSeat, step: &Step) -> bool
+pub(crate) fn act<R: Wait>(rt: &R, lock: &BookLock, seat: &mut BookSeat, step: &Step) -> bool
     requires own { IsSeatOf seat.old lock.now }
     requires step { IsAskable step.now }
     ensures { SameSeat seat.old seat.new }
@@ -63,7 +63,13 @@ fn act<R: Wait>(rt: &R, lock: &BookLock, seat: &mut BookSeat, step: &Step) -> bo
 }
 
 // Sets the track up over a pair of ports, and begins its play at moment 0.
-fn begin<R: Wait>(rt: &R, lock: &BookLock, seat: &mut BookSeat, pair: u16, player: u16) -> bool
+pub(crate) fn begin<R: Wait>(
+    rt: &R,
+    lock: &BookLock,
+    seat: &mut BookSeat,
+    pair: u16,
+    player: u16,
+) -> bool
     requires { IsSeatOf seat.old lock.now }
     ensures { SameSeat seat.old seat.new }
 {
@@ -171,8 +177,7 @@ fn run<'a, R: Threads + Wait + Clock + AllocGlobal + Sync>(
 }
 
 // The track's file, of eight units.
-fn files_of(rt: &HostRuntime, table: &Table) -> Result<Media, Fail> {
-    let path = "rtsp_sending_plays.raw";
+pub(crate) fn files_of(rt: &HostRuntime, table: &Table, path: &str) -> Result<Media, Fail> {
     fs::write(rt, path, b"aabbccddeeffgghh")?;
     let files = Media::open(rt, rt.alloc(), table)?;
     fs::remove_file(rt, path)?;
@@ -180,14 +185,18 @@ fn files_of(rt: &HostRuntime, table: &Table) -> Result<Media, Fail> {
 }
 
 // A player's socket.
-fn receiver(rt: &HostRuntime) -> io::Result<UdpSocket> {
+pub(crate) fn receiver(rt: &HostRuntime) -> io::Result<UdpSocket> {
     let socket = UdpSocket::bind(rt, "127.0.0.1:0")?;
     socket.set_read_timeout(Some(Duration::from_secs(5)))?;
     Ok(socket)
 }
 
 // Hands the play of the session over to the pacers.
-fn hand_over<R: Wait + AllocGlobal>(rt: &R, bells: &Bells, conn: u64) -> Result<(), AllocError> {
+pub(crate) fn hand_over<R: Wait + AllocGlobal>(
+    rt: &R,
+    bells: &Bells,
+    conn: u64,
+) -> Result<(), AllocError> {
     let mut plays = NotedPlays::new(rt.alloc());
     plays.note(rt.alloc(), 2, 5, b"rtsp://h/tone")?;
     plays.settle(true);
@@ -198,7 +207,7 @@ fn hand_over<R: Wait + AllocGlobal>(rt: &R, bells: &Bells, conn: u64) -> Result<
 #[test]
 fn a_play_is_sent_and_reported(rt: HostRuntime) -> Result<(), Fail> {
     let table = Table::read(rt.alloc(), TONE.as_bytes())?;
-    let files = files_of(&rt, &table)?;
+    let files = files_of(&rt, &table, "rtsp_sending_plays.raw")?;
     let pair = free_port(&rt)?;
     let whole = Whole {
         first_port: pair,

@@ -7,8 +7,9 @@ use rtsp_lanes::{open_book, whole_of};
 use rtsp_shares::ShareTable;
 use rtsp_sockets::{PortBinder, PortTable};
 use rtsp_threads::{
-    Gate, LaneShares, OwnStatus, Scribe, ScribeBell, StopAsked, StopBell, ask_for_room, close_book,
-    connections_for, descriptor_limit, end_expired, make_room, take_leave,
+    Gate, LaneShares, OwnStatus, Refused, Scribe, ScribeBell, StopAsked, StopBell, ask_for_room,
+    close_book, connections_for, descriptor_limit, end_expired, end_next_expired, make_room,
+    take_leave,
 };
 use std::fs;
 use std::net::Ipv4Addr;
@@ -25,12 +26,17 @@ const WRITTEN: &str = "journal-000001.txt";
 fn a_gate_lets_so_many_in(rt: HostRuntime) -> Result<(), Fail> {
     let gate = Gate::new(rt.alloc(), Some(5), Some(2))?;
     gate.allow(3);
-    assert!(rt; gate.enter(&rt, 1) && gate.enter(&rt, 1) && !gate.enter(&rt, 1));
-    assert!(rt; gate.enter(&rt, 2) && !gate.enter(&rt, 3) && !gate.is_shut());
+    assert!(rt; gate.enter(&rt, 1).is_ok() && gate.enter(&rt, 1).is_ok());
+    assert!(rt; gate.enter(&rt, 1) == Err(Refused::Share));
+    assert!(rt; gate.enter(&rt, 2).is_ok() && gate.enter(&rt, 3) == Err(Refused::Full));
     gate.leave(&rt, 1);
-    assert!(rt; gate.enter(&rt, 1) && !gate.is_shut());
+    assert!(rt; gate.enter(&rt, 1).is_ok() && !gate.is_shut());
+    gate.leave(&rt, 1);
+    assert!(rt; gate.enter(&rt, 1).is_ok() && gate.is_shut());
+    gate.leave(&rt, 1);
+    assert!(rt; gate.enter(&rt, 1) == Err(Refused::Over));
     gate.shut();
-    assert!(rt; gate.is_shut());
+    assert!(rt; gate.is_shut() && gate.open_now() == 2 && gate.most() == 3);
     Ok(())
 }
 
@@ -56,7 +62,8 @@ fn a_session_that_has_ended_leaves_its_place(rt: HostRuntime) -> Result<(), Fail
     assert!(rt; shares.take(7).is_ok());
     // No session of this number lives.
     shares.settle(Some(1_000));
-    assert!(rt; shares.take(7).is_ok() && shares.take(7) == Err(ShareSpent));
+    assert!(rt; shares.take(7).is_ok() && shares.refused() == 0);
+    assert!(rt; shares.take(7) == Err(ShareSpent) && shares.refused() == 1);
     shares.settle(None);
     assert!(rt; shares.take(7).is_ok());
     Ok(())
@@ -71,6 +78,7 @@ fn an_empty_book_is_closed(rt: HostRuntime) -> Result<(), Fail> {
     make_room(&rt, &table, &mut handle);
     assert!(rt; !take_leave(&rt, &mut handle, &mut binder, 1));
     assert!(rt; end_expired(&rt, &mut handle, &mut binder, 9) == 0);
+    assert!(rt; end_next_expired(&rt, &mut handle, &mut binder, 9) == None);
     assert!(rt; close_book(&rt, handle, &mut binder).is_some());
     Ok(())
 }

@@ -2,17 +2,18 @@
 
 ghost use Rattle.std.specs.Prelude.{◌≡◌, ◌++◌, IfErr, OnOk};
 ghost use Rattle.rtsp_grammar.specs.Answer.{IsUndecided};
-ghost use Rattle.rtsp_engine.specs.Devices.{devices};
+ghost use Rattle.rtsp_traits.specs.Devices.{devices};
 ghost use Rattle.rtsp_engine.specs.Serving.{serving_of};
 ghost use Rattle.rtsp_dialect.specs.Understanding.{AnswersUnderstood, GivesUpUnderstood, TakesPiece, FaultsPiece, gathered};
 
 use crate::figures::AnswerCounter;
 use crate::shared::Shared;
-use memchr::memmem::find;
 use rtsp_content::Table;
 use rtsp_engine::{Asker, Binder, Clock, Connection, PieceAnswerer, Plays, Shares, Words};
 use rtsp_grammar::MessageFault;
 use rtsp_lanes::BookHandle;
+use rtsp_log::Event;
+use rtsp_metrics::AnswerCounters;
 use rtsp_pacing::NotedPlays;
 use rtsp_sockets::{Outlet, PieceClock, PortBinder, RandomWords};
 use rtsp_state::Room;
@@ -28,6 +29,8 @@ use std::sync::{Arc, Wait};
 pub(crate) struct Front<'a, R> {
     pub(crate) rt: &'a R,
     pub(crate) shared: &'a Shared,
+    /// Those of the lane.
+    pub(crate) answers: &'a AnswerCounters,
     pub(crate) table: &'a Table,
     pub(crate) now: u64,
     pub(crate) handle: &'a mut BookHandle,
@@ -49,6 +52,7 @@ fn answer_piece<R: Wait + Net + rt::Clock, W: Words, P: Plays>(
     rt: &R,
     alloc: Global,
     shared: &Shared,
+    answers: &AnswerCounters,
     table: &Table,
     handle: &mut BookHandle,
     lane: &mut BookHandle,
@@ -76,10 +80,11 @@ fn answer_piece<R: Wait + Net + rt::Clock, W: Words, P: Plays>(
     let witness = AnswerCounter {
         rt,
         shared,
+        answers,
         peer: asker.peer,
         conn: asker.conn,
     };
-    push_lent(
+    let pushed = push_lent(
         rt,
         alloc,
         &mut handle.seat,
@@ -95,12 +100,11 @@ fn answer_piece<R: Wait + Net + rt::Clock, W: Words, P: Plays>(
         input,
         piece,
         room,
-    )
-}
-
-// Whether a piece that begins with an item may ask for the end of a session.
-fn asks_for_an_end(piece: &[u8]) -> bool {
-    find(piece, b"TEARDOWN").is_some()
+    );
+    if shares.refused() > 0 {
+        shared.log.event(rt, Event::ShareSpent { peer: asker.peer });
+    }
+    pushed
 }
 
 impl<R: Wait + Net + rt::Clock> PieceAnswerer for Front<'_, R> {
@@ -124,11 +128,12 @@ impl<R: Wait + Net + rt::Clock> PieceAnswerer for Front<'_, R> {
         self.shared.make_room(self.rt, self.table, self.lane);
         let all = input.len().saturating_add(piece.len());
         let given = self.words.given();
-        let may_end = !input.is_idle() || asks_for_an_end(piece);
+        let unavailable = self.answers.unavailable();
         let pushed = answer_piece(
             self.rt,
             alloc,
             self.shared,
+            self.answers,
             self.table,
             self.handle,
             self.lane,
@@ -143,8 +148,11 @@ impl<R: Wait + Net + rt::Clock> PieceAnswerer for Front<'_, R> {
         let has_setup = self.words.given() != given;
         self.activity.note(self.now, all, input, has_setup);
         // A session that is refused behind its first words has been opened, and has ended.
-        if may_end || has_setup {
+        if has_setup {
             self.shared.note_end();
+        }
+        if self.answers.unavailable() != unavailable {
+            self.shared.note_unavailable(self.rt, self.lane);
         }
         pushed
     }

@@ -1,21 +1,20 @@
 //! A connection of a lane.
 
-use crate::answering::Front;
 use crate::hearing::Hearing;
 use crate::service::Service;
 use crate::shared::Shared;
 use crate::tools::Tools;
-use crate::writing::AnswerWriter;
+use crate::unread::UnreadLoan;
+use crate::visiting::{Read, visit_lent};
 use mio::event::Event;
 use mio::net::TcpStream;
-use rtsp_content::{Players, Table};
-use rtsp_engine::{Asker, Connection, PieceIn, PieceReader, Reading, VisitEnd, visit};
+use rtsp_content::Players;
+use rtsp_engine::{Asker, Connection, PieceIn, PieceReader, Reading, VisitEnd};
+use rtsp_grammar::MessageFault;
 use rtsp_lanes::BookHandle;
-use rtsp_pacing::NotedPlays;
-use rtsp_sockets::{Outlet, RandomWords, prepare};
-use rtsp_state::Room;
-use rtsp_threads::{Activity, HearingReader, PAUSE, PIECES, take_leave};
-use std::alloc::Global;
+use rtsp_log::Event as LogEvent;
+use rtsp_sockets::{Loan, Outlet, prepare};
+use rtsp_threads::{Activity, PAUSE, PIECES, take_leave};
 use std::net::{Ipv4Addr, Net, SocketAddr};
 use std::os::fd::{AsRawFd, RawFd};
 use std::rt;
@@ -51,6 +50,8 @@ pub(crate) struct Client {
     host: Ipv4Addr,
     outlet: Arc<Outlet>,
     input: Connection,
+    // What is lent to it for its input.
+    unread: UnreadLoan,
     stage: Stage,
     // What the system has told and nothing was done about yet. No more input is told of where
     // `is_ending` is true, so it has to be read to its end.
@@ -73,70 +74,6 @@ fn host_of(stream: &TcpStream) -> Ipv4Addr {
     }
 }
 
-// What came of reading a connection.
-#[derive(Clone, Copy)]
-struct Read {
-    end: VisitEnd,
-    // Whether some of what was put last waits.
-    is_kept: bool,
-    // The channel of the frame that came first.
-    heard: Option<u8>,
-}
-
-// Lends all parts to a visit.
-fn visit_lent<'a, R: Wait + Net + rt::Clock>(
-    rt: &'a R,
-    alloc: Global,
-    shared: &'a Shared,
-    table: &'a Table,
-    now: u64,
-    handle: &'a mut BookHandle,
-    lane: &'a mut BookHandle,
-    asker: Asker,
-    host: Ipv4Addr,
-    outlet: &'a Arc<Outlet>,
-    words: &'a mut RandomWords,
-    plays: &'a mut NotedPlays,
-    activity: &'a mut Activity,
-    input: &mut Connection,
-    room: &mut Room,
-    piece: &mut [u8],
-    reads_all: bool,
-) -> Read {
-    let mut front = Front {
-        rt,
-        shared,
-        table,
-        now,
-        handle,
-        lane,
-        asker,
-        host,
-        outlet,
-        words,
-        plays,
-        activity,
-    };
-    let mut reader = HearingReader::new(PieceReader::new(outlet.stream()), input.is_idle());
-    let mut writer = AnswerWriter::new(rt, outlet, now);
-    let end = visit(
-        alloc,
-        &mut front,
-        input,
-        &mut reader,
-        &mut writer,
-        room,
-        piece,
-        PIECES,
-        reads_all,
-    );
-    Read {
-        end,
-        is_kept: writer.is_kept(),
-        heard: reader.channel(),
-    }
-}
-
 impl Client {
     /// A connection that was accepted. There is none where memory, or the numbers, are used up.
     pub(crate) fn open<R: Wait>(
@@ -152,13 +89,15 @@ impl Client {
         let host = host_of(&stream);
         let mut handle = lane.split(service.rt)?;
         let conn = handle.draw(service.rt)?;
-        let outlet = Arc::new(service.alloc, Outlet::new(service.alloc, stream)).ok()?;
+        let loan = Loan::of(&service.shared.frame_room)?;
+        let outlet = Arc::new(service.alloc, Outlet::new(service.alloc, stream, loan)).ok()?;
         Some(Client {
             handle,
             asker: Asker { conn, peer },
             host,
             outlet,
             input: Connection::new(service.alloc),
+            unread: UnreadLoan::of(&service.shared.unread_room)?,
             stage: Stage::Open,
             is_readable: false,
             is_writable: false,
@@ -224,6 +163,9 @@ impl Client {
             heard,
         } = self.read(service, tools, lane);
         self.hear(service, tools, heard);
+        if end == VisitEnd::Fault(MessageFault::OutOfMemory) {
+            service.shared.log.event(service.rt, LogEvent::OutOfMemory);
+        }
         if end == VisitEnd::WriteFault || matches!(&end, VisitEnd::Fault(_)) {
             self.drop_rest(tools);
         }
@@ -269,6 +211,7 @@ impl Client {
             service.rt,
             service.alloc,
             service.shared,
+            service.answers,
             service.table,
             service.now,
             handle,
@@ -326,6 +269,11 @@ impl Client {
             VisitEnd::Closed | VisitEnd::Fault(_) => return self.drain(service),
             VisitEnd::Waits => self.is_readable = false,
             VisitEnd::More => {}
+        }
+        let (unread, memory) = (self.input.len(), self.input.capacity());
+        if !self.unread.covers(unread, memory) {
+            service.shared.counters.turned_away();
+            return Visit::Ended;
         }
         if is_kept && self.outlet.waiting(service.rt) > PAUSE {
             self.stage = Stage::Paused;

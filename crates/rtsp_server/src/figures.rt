@@ -3,26 +3,45 @@
 use crate::shared::Shared;
 use rtsp_content::Table;
 use rtsp_lanes::BookHandle;
-use rtsp_log::{Access, Cut};
-use rtsp_metrics::{BookFigures, Counts, Held, Method, Snapshot};
+use rtsp_lock::{HandOutFault, Mark, Then};
+use rtsp_log::{Access, Cut, Event};
+use rtsp_metrics::{AnswerCounters, BookFigures, Counts, Held, Method, Snapshot};
+use rtsp_record::Entry;
 use rtsp_status::Source;
 use rtsp_watch::{Told, Witness};
 use std::rt;
 use std::sync::Wait;
 
-/// Who is told of the answers to a connection of this number, whose player is at this address.
+// The status of a response to a request for which there was no memory.
+const OUT_OF_MEMORY: u16 = 500;
+
+// A mark in a round that no journal comes to, so that nothing is ever handed out behind it.
+const NO_MARK: Mark = Mark {
+    entries: 0,
+    rounds: u64::MAX,
+};
+
+/// Who is told of a lane's answers to a connection of this number, whose player is at this address.
 #[derive(Drop)]
 pub(crate) struct AnswerCounter<'a, R> {
     pub(crate) rt: &'a R,
     pub(crate) shared: &'a Shared,
+    pub(crate) answers: &'a AnswerCounters,
     pub(crate) peer: u32,
     pub(crate) conn: u64,
 }
 
 impl<R: Wait + rt::Clock> Witness for AnswerCounter<'_, R> {
     fn answered(&self, told: &Told<'_>) {
-        let Shared { counters, log, .. } = self.shared;
-        counters.answered(Method::of(told.method), told.status);
+        let method = Method::of(told.method);
+        self.answers.answered(method, told.status);
+        if method == Method::Teardown {
+            self.shared.note_end();
+        }
+        let log = &self.shared.log;
+        if told.status == OUT_OF_MEMORY {
+            log.event(self.rt, Event::OutOfMemory);
+        }
         if log.logs_access() {
             let access = Access {
                 peer: self.peer,
@@ -30,10 +49,18 @@ impl<R: Wait + rt::Clock> Witness for AnswerCounter<'_, R> {
                 method: Cut::of(told.method),
                 uri: Cut::of(told.uri),
                 status: told.status,
-                session: told.session,
+                session: told.session(),
             };
             log.access(self.rt, access);
         }
+    }
+}
+
+// What is held of a whole of which so much is free.
+fn rest_of(whole: u64, free: u64) -> Held {
+    Held {
+        held: whole.saturating_sub(free),
+        free,
     }
 }
 
@@ -44,22 +71,47 @@ pub(crate) struct Figures<'a, R> {
     pub(crate) shared: &'a Shared,
     pub(crate) table: &'a Table,
     pub(crate) handle: BookHandle,
+    /// No entry: nothing is handed out to it.
+    pub(crate) nothing: Vec<Entry>,
 }
 
 impl<R: Wait> Figures<'_, R> {
     // What the book has now.
     fn book(&mut self) -> BookFigures {
         let tally = self.handle.tally(self.rt);
-        let uplink = self.table.server().uplink;
+        let numbers = self.table.server();
+        let pairs = u64::from(numbers.pairs);
         BookFigures {
             sessions: tally.sessions as u64,
             rate: Held {
                 held: tally.rate,
-                free: uplink.saturating_sub(tally.rate),
+                free: numbers.uplink.saturating_sub(tally.rate),
             },
+            pairs: rest_of(pairs, tally.free_pairs as u64),
+            ports: rest_of(2 * pairs, tally.free_ports as u64),
             entries: tally.entries as u64,
             owed: tally.owed as u64,
             room: tally.room as u64,
+        }
+    }
+
+    // What was counted so far, by all.
+    fn counts(&mut self) -> Counts {
+        let mut counts = Counts {
+            log_lines_dropped: self.shared.log.dropped(),
+            shortenings: self.shortenings(),
+            ..self.shared.counters.read()
+        };
+        self.shared.add_answers(self.rt, &mut counts);
+        counts
+    }
+
+    // How often the journal was shortened, which the refusal to hand it out tells.
+    fn shortenings(&mut self) -> u64 {
+        let BookHandle { lock, seat } = &mut self.handle;
+        match seat.hand_out(self.rt, lock, NO_MARK, Then::Leave, &mut self.nothing) {
+            Err(HandOutFault::OtherRound(rounds)) => rounds,
+            Err(HandOutFault::NoRoom(_)) | Ok(_) => 0,
         }
     }
 }
@@ -74,10 +126,7 @@ impl<R: Wait + rt::Clock> Source for Figures<'_, R> {
                 free: self.shared.gate.most().saturating_sub(open),
             },
             book: self.book(),
-            counts: Counts {
-                log_lines_dropped: self.shared.log.dropped(),
-                ..self.shared.counters.read()
-            },
+            counts: self.counts(),
         }
     }
 }

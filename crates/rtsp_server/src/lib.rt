@@ -1,10 +1,11 @@
 //! The threads of a server: lanes that serve connections, what paces the packets, and what ends
 //! sessions whose time is over.
 //!
-//! `server` starts all of them and joins them. `socket_lane` is a lane of sockets, `client` a
-//! connection of it. `answering` is what is done with its input by a thread's handle of the book,
-//! `writing` and `hearing` with its output and its RTCP. `sweeper` and `stopping` are the threads that
-//! end sessions and the server. What they go by is in rtsp_threads, and how one player is kept from
+//! `server` starts all of them and joins them, with what `opening` gives, and `threads` is what each
+//! does. `socket_lane` is a lane of sockets, `client` a connection of it, and `visiting` reads it:
+//! `answering` is what is done with its input by a thread's handle of the book, `writing` and `hearing`
+//! with its output and its RTCP; `unread` is what it holds of a message that isn't whole. `sweeper` and
+//! `stopping` are the threads that end sessions and the server. What they go by is in rtsp_threads, and how one player is kept from
 //! harming the others in rtsp_shares.
 
 #![tactic(auto)]
@@ -14,13 +15,17 @@ mod client;
 mod fault;
 mod figures;
 mod hearing;
+mod opening;
 mod server;
 mod service;
 mod shared;
 mod socket_lane;
 mod stopping;
 mod sweeper;
+mod threads;
 mod tools;
+mod unread;
+mod visiting;
 mod writing;
 
 pub use fault::ServerFault;

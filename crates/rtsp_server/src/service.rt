@@ -2,6 +2,7 @@
 
 use crate::shared::Shared;
 use rtsp_content::Table;
+use rtsp_metrics::AnswerCounters;
 use std::alloc::Global;
 
 /// What a turn of a lane is made with: the server's parts, and the moment of the turn.
@@ -11,5 +12,7 @@ pub(crate) struct Service<'a, R> {
     pub(crate) alloc: Global,
     pub(crate) table: &'a Table,
     pub(crate) shared: &'a Shared,
+    /// Those of the lane.
+    pub(crate) answers: &'a AnswerCounters,
     pub(crate) now: u64,
 }

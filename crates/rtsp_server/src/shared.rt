@@ -1,20 +1,24 @@
 //! What the threads of a server share.
 
+use crate::unread::HELD_IN_ALL;
+use crossbeam_utils::CachePadded;
 use mio::Waker;
 use mio::net::TcpListener;
 use rtsp_content::{Server, Table};
 use rtsp_lanes::BookHandle;
-use rtsp_log::Log;
-use rtsp_metrics::Counters;
+use rtsp_log::{Event, Log};
+use rtsp_metrics::{AnswerCounters, Counters, Counts};
 use rtsp_pacing::Bells;
 use rtsp_shares::{ShareTable, Watermark};
-use rtsp_sockets::{Outlets, PortBinder, PortTable};
+use rtsp_sockets::{LENT_IN_ALL, Outlets, PortBinder, PortTable, SharedRoom};
 use rtsp_status::Halt;
-use rtsp_threads::{FEW_LINES, Gate, LOG_LINES, ScribeBell, StopBell, ask_for_room, make_room};
+use rtsp_threads::{
+    FEW_LINES, Gate, LAST_ROOM, LOG_LINES, Refused, ScribeBell, StopBell, ask_for_room, make_room,
+};
 use std::alloc::{AllocError, Global};
 use std::net::Ipv4Addr;
 use std::sync::atomic::{AtomicBool, AtomicU64, Ordering};
-use std::sync::{Mutex, Wait};
+use std::sync::{Arc, Mutex, Wait};
 use std::time::Instant;
 use std::{io, rt};
 
@@ -26,6 +30,9 @@ pub(crate) struct Shared {
     /// What addresses have of the sessions, where each has a share of them.
     pub(crate) session_shares: Option<Mutex<ShareTable>>,
     pub(crate) outlets: Outlets,
+    /// What is lent to connections for frames that wait, and for messages that aren't whole.
+    pub(crate) frame_room: Arc<SharedRoom>,
+    pub(crate) unread_room: Arc<SharedRoom>,
     pub(crate) ports: PortTable,
     /// The pacers', by which they learn of plays.
     pub(crate) bells: Bells,
@@ -45,6 +52,8 @@ pub(crate) struct Shared {
     // Whether a session may have ended since this was asked last.
     has_ended: AtomicBool,
     wakers: Mutex<Vec<Waker>>,
+    // What each lane counts of its answers.
+    answers: Mutex<Vec<Arc<CachePadded<AnswerCounters>>>>,
     // The moment from which on no connection is waited for, the greatest while the server serves.
     stop_by: AtomicU64,
     // How many lanes have begun.
@@ -84,6 +93,8 @@ impl Shared {
             gate: Gate::new(alloc, connections, numbers.connections_per_address)?,
             session_shares: session_shares(alloc, numbers)?,
             outlets: Outlets::new(alloc),
+            frame_room: SharedRoom::open(alloc, LENT_IN_ALL)?,
+            unread_room: SharedRoom::open(alloc, HELD_IN_ALL)?,
             ports: PortTable::open(alloc, numbers.first_port, numbers.pairs)?,
             bells: Bells::new(alloc, pacers, numbers.sessions)?,
             stop_bell: StopBell::new(),
@@ -95,6 +106,7 @@ impl Shared {
             watermark: Mutex::new(watermark),
             has_ended: AtomicBool::new(false),
             wakers: Mutex::new(Vec::new(alloc)),
+            answers: Mutex::new(Vec::new(alloc)),
             stop_by: AtomicU64::new(u64::MAX),
             standing: AtomicU64::new(0),
         })
@@ -145,6 +157,30 @@ impl Shared {
         }
     }
 
+    /// A connection from this address was closed at once.
+    pub(crate) fn note_refused<R: Wait + rt::Clock>(&self, rt: &R, peer: u32, why: Refused) {
+        self.counters.turned_away();
+        match why {
+            Refused::Share => self.log.event(rt, Event::ShareSpent { peer }),
+            Refused::Full => self.log.event(rt, Event::TooManyConnections),
+            Refused::Over => {}
+        }
+    }
+
+    /// A connection was closed at once, since there is no descriptor.
+    pub(crate) fn note_no_descriptor<R: Wait + rt::Clock>(&self, rt: &R) {
+        self.counters.turned_away();
+        self.log.event(rt, Event::NoDescriptor);
+    }
+
+    /// Requests were refused as there was no more of something. Where that is the journal's room, it
+    /// is told.
+    pub(crate) fn note_unavailable<R: Wait + rt::Clock>(&self, rt: &R, lane: &mut BookHandle) {
+        if lane.tally(rt).room < LAST_ROOM {
+            self.log.event(rt, Event::JournalFull);
+        }
+    }
+
     /// A lane has begun.
     pub(crate) fn note_standing(&self) {
         self.standing.fetch_add(1, Ordering::Relaxed);
@@ -155,9 +191,11 @@ impl Shared {
         self.standing.load(Ordering::Relaxed)
     }
 
-    /// A session may have ended.
+    /// A session may have ended. Where that stands already nothing is written, since many lanes read it.
     pub(crate) fn note_end(&self) {
-        self.has_ended.store(true, Ordering::SeqCst);
+        if !self.has_ended.load(Ordering::SeqCst) {
+            self.has_ended.store(true, Ordering::SeqCst);
+        }
     }
 
     /// Whether a session may have ended since this was asked last.
@@ -169,6 +207,25 @@ impl Shared {
     pub(crate) fn add_waker<R: Wait>(&self, rt: &R, waker: Waker) -> Result<(), AllocError> {
         self.wakers.lock(rt).push(waker)?;
         Ok(())
+    }
+
+    /// Counters for the answers of one more lane.
+    pub(crate) fn answer_counters<R: Wait>(
+        &self,
+        rt: &R,
+        alloc: Global,
+    ) -> Result<Arc<CachePadded<AnswerCounters>>, AllocError> {
+        let counters = Arc::new(alloc, CachePadded::new(AnswerCounters::new()))?;
+        self.answers.lock(rt).push(Arc::try_clone(&counters)?)?;
+        Ok(counters)
+    }
+
+    /// Adds what all lanes have answered.
+    pub(crate) fn add_answers<R: Wait>(&self, rt: &R, counts: &mut Counts) {
+        let answers = self.answers.lock(rt);
+        for of_one in answers.iter() {
+            of_one.add_to(counts);
+        }
     }
 
     /// Ends the waits of all lanes.
@@ -195,14 +252,13 @@ impl Shared {
         }
     }
 
-    /// Ends the threads beside the lanes.
+    /// Ends the threads beside the lanes, but for that of the log.
     pub(crate) fn stop<R: Wait>(&self, rt: &R) {
         self.bells.stop(rt);
         self.stop_bell.ring(rt);
         if let Some(scribe) = &self.scribe {
             scribe.stop(rt);
         }
-        self.log.close();
         self.halt.halt();
     }
 }

@@ -4,11 +4,14 @@ use crate::client::{Client, Visit};
 use crate::service::Service;
 use crate::shared::Shared;
 use crate::tools::Tools;
+use crossbeam_utils::CachePadded;
 use mio::net::TcpStream;
 use mio::unix::SourceFd;
 use mio::{Events, Interest, Poll, Token, Waker};
 use rtsp_content::Table;
 use rtsp_lanes::{BookHandle, Lane, LaneTurn};
+use rtsp_log::Event;
+use rtsp_metrics::AnswerCounters;
 use rtsp_sockets::RandomWords;
 use rtsp_threads::{ACCEPTS, Accepted, Acceptor, SWEEP_EVERY, TURN_EVERY};
 use slab::Slab;
@@ -34,6 +37,7 @@ const EVENTS: usize = 256;
 #[derive(Drop)]
 pub struct SocketLane {
     shared: Arc<Shared>,
+    answers: Arc<CachePadded<AnswerCounters>>,
     clients: Clients,
     // Whether it has begun.
     stands: bool,
@@ -88,9 +92,11 @@ impl SocketLane {
             read: 0,
             ended: 0,
         };
+        let answers = shared.answer_counters(rt, alloc)?;
         let shared = Arc::try_clone(shared)?;
         Ok(SocketLane {
             shared,
+            answers,
             clients,
             stands: false,
         })
@@ -136,7 +142,7 @@ impl Clients {
 
     // Accepts some of the connections that wait. Whether there were none: what has come on one that
     // is new is told by the next wait.
-    fn accept_some<R: Wait + Net>(
+    fn accept_some<R: Wait + Net + rt::Clock>(
         &mut self,
         service: &Service<'_, R>,
         handle: &mut BookHandle,
@@ -149,16 +155,17 @@ impl Clients {
             if !self.acceptor.is_ready(service.now) {
                 return self.acceptor.is_done() && self.of.len() == before;
             }
-            let accepted = self.acceptor.accept(&service.shared.listener, service.now);
-            if let Accepted::Stream(stream, peer) = accepted {
-                self.receive(service, handle, stream, peer);
+            match self.acceptor.accept(&service.shared.listener, service.now) {
+                Accepted::Stream(stream, peer) => self.receive(service, handle, stream, peer),
+                Accepted::TurnedAway => service.shared.note_no_descriptor(service.rt),
+                Accepted::Gone | Accepted::Nothing => {}
             }
         }
         false
     }
 
     // Takes a connection in, or closes it.
-    fn receive<R: Wait + Net>(
+    fn receive<R: Wait + Net + rt::Clock>(
         &mut self,
         service: &Service<'_, R>,
         handle: &mut BookHandle,
@@ -166,8 +173,8 @@ impl Clients {
         peer: u32,
     ) {
         let gate = &service.shared.gate;
-        if !gate.enter(service.rt, peer) {
-            service.shared.counters.turned_away();
+        if let Err(why) = gate.enter(service.rt, peer) {
+            service.shared.note_refused(service.rt, peer, why);
             return;
         }
         service.shared.counters.accepted();
@@ -179,6 +186,7 @@ impl Clients {
             None => false,
         };
         if !is_taken_in {
+            service.shared.log.event(service.rt, Event::OutOfMemory);
             gate.leave(service.rt, peer);
         }
     }
@@ -327,6 +335,7 @@ impl Clients {
         alloc: Global,
         table: &'a Table,
         shared: &'a Shared,
+        answers: &'a AnswerCounters,
         handle: &mut BookHandle,
     ) -> LaneTurn {
         // What had come by now is what this turn is told of, and what earlier ones have left.
@@ -338,6 +347,7 @@ impl Clients {
             alloc,
             table,
             shared,
+            answers,
             now: self.now,
         };
         self.ended = 0;
@@ -376,10 +386,11 @@ impl Lane for SocketLane {
         }
         let SocketLane {
             shared,
+            answers,
             clients,
             ..
         } = self;
-        let shared = &*shared;
-        clients.turn(rt, alloc, table, shared, handle)
+        let (shared, answers) = (&**shared, &***answers);
+        clients.turn(rt, alloc, table, shared, answers, handle)
     }
 }

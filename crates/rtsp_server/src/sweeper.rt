@@ -2,11 +2,43 @@
 
 use crate::shared::Shared;
 use rtsp_lanes::BookHandle;
-use rtsp_threads::{SWEEP_EVERY, end_expired};
+use rtsp_log::Event;
+use rtsp_sockets::PortBinder;
+use rtsp_threads::{SWEEP_EVERY, end_next_expired};
 use std::net::Net;
 use std::rt;
 use std::sync::Wait;
 use std::time::Duration;
+
+// Ends the sessions that had expired at a moment, and tells of each. How many have ended.
+fn end_expired<R: Wait + Net + rt::Clock>(
+    rt: &R,
+    handle: &mut BookHandle,
+    binder: &mut PortBinder<'_, R>,
+    shared: &Shared,
+    moment: u64,
+) -> u64 {
+    let mut ended = 0u64;
+    for _ in rt.forever() {
+        let Some(session) = end_next_expired(rt, handle, binder, moment) else {
+            break;
+        };
+        shared.log.event(rt, Event::Expired { session });
+        ended = ended.saturating_add(1);
+    }
+    ended
+}
+
+// Tells which file of a track couldn't be read lately, if one couldn't.
+fn tell_media_failure<R: Wait + rt::Clock>(rt: &R, shared: &Shared) {
+    if let Some((presentation, track)) = shared.counters.take_media_failure() {
+        let event = Event::MediaUnreadable {
+            presentation,
+            track,
+        };
+        shared.log.event(rt, event);
+    }
+}
 
 /// Ends from time to time the sessions that had expired when all lanes had read what had come, until
 /// it is told to stop. After each sweep it forgets all sessions that have ended by then, however they
@@ -27,7 +59,8 @@ pub(crate) fn run_sweeper<R: Wait + Net + rt::Clock>(
             break;
         }
         let moment = shared.begin_sweep(rt, shared.now(rt));
-        let ended = end_expired(rt, &mut handle, &mut binder, moment);
+        tell_media_failure(rt, shared);
+        let ended = end_expired(rt, &mut handle, &mut binder, shared, moment);
         if ended > 0 {
             shared.note_end();
             shared.counters.expired(ended);

@@ -1,7 +1,7 @@
 -- What is written and what waits, over one call.
 use Rattle.std.proofs.Common.{◌≡◌, ◌≢◌, ◌≤◌, ◌<◌, ◌+◌, ◌⊎◌, ℕ, Bool, true, false, List, [], ◌∷◌, ◌++◌, Option, None, Some, refl, sym, subst, ◌∙◌, ap, append-nil, take, drop, take-append-drop, take_all, length, inl, inr, arith}
 use Rattle.std.proofs.lemmas.Bool.{false≢true}
-use Rattle.rtsp_sockets.specs.Rooms.{all_room, frame_room, room_of}
+use Rattle.rtsp_sockets.specs.Rooms.{all_room, frame_room}
 use Rattle.rtsp_sockets.specs.Passing.{Waiting, IsAlike, IsClosed, IsShut, LacksRoom, Passes, Puts, Holds, Flushed, Asks, Breaks, Ends, offered, offered_when, flushed, first_of, takes}
 use Rattle.rtsp_sockets.specs.declared.message.Message.{Message}
 use Rattle.rtsp_sockets.specs.declared.message.Message.TheVariants as message
@@ -31,15 +31,17 @@ flushes [] e = absurd (e refl)
 flushes (byte ∷ waits) e = refl
 
 -- room is lacking alike where only the moment was noted before
-lacks_alike : (most count : ℕ) (old mid : Waiting) → mid.bytes ≡ old.bytes → mid.spare ≡ old.spare → LacksRoom most mid count → LacksRoom most old count
-lacks_alike most count old mid e p h =
-    subst (λ bytes. (most < count) ⊎ (length bytes + old.spare < count)) e (subst (λ spare. (most < count) ⊎ (length mid.bytes + spare < count)) p h)
+lacks_alike : (most count : ℕ) (old mid : Waiting) → mid.bytes ≡ old.bytes → mid.spare ≡ old.spare → mid.lent ≡ old.lent → LacksRoom most mid count → LacksRoom most old count
+lacks_alike most count old mid e p l h =
+    subst (λ bytes. (most + old.lent < count) ⊎ (length bytes + old.spare < count)) e
+    (subst (λ spare. (most + old.lent < count) ⊎ (length mid.bytes + spare < count)) p
+    (subst (λ lent. (most + lent < count) ⊎ (length mid.bytes + mid.spare < count)) l h))
 
-alike_holds : (old mid new : Waiting) (kind : Message) (bytes : List ℕ) (r : Put) → mid.bytes ≡ old.bytes → mid.spare ≡ old.spare → IsAlike old mid → Holds mid kind bytes new r → Holds old kind bytes new r
-alike_holds old mid new kind bytes put.Sent e p s h = absurd h
-alike_holds old mid new kind bytes put.Kept e p s h = (h.0 ∙ ap (λ z. z ++ bytes) e, h.1, h.2 ∙ s)
-alike_holds old mid new kind bytes put.Dropped e p s h = (h.0, h.1 ∙ e, subst (λ z. LacksRoom frame_room old (length (z ++ bytes))) e (lacks_alike frame_room (length (mid.bytes ++ bytes)) old mid e p h.2), h.3 ∙ s)
-alike_holds old mid new kind bytes put.Closed e p s h = (h.0, h.1, subst (λ z. LacksRoom all_room old (length (z ++ bytes))) e (lacks_alike all_room (length (mid.bytes ++ bytes)) old mid e p h.2))
+alike_holds : (old mid new : Waiting) (kind : Message) (bytes : List ℕ) (r : Put) → mid.bytes ≡ old.bytes → mid.spare ≡ old.spare → mid.lent ≡ old.lent → IsAlike old mid → Holds mid kind bytes new r → Holds old kind bytes new r
+alike_holds old mid new kind bytes put.Sent e p l s h = absurd h
+alike_holds old mid new kind bytes put.Kept e p l s h = (h.0 ∙ ap (λ z. z ++ bytes) e, h.1, h.2 ∙ s)
+alike_holds old mid new kind bytes put.Dropped e p l s h = (h.0, h.1 ∙ e, subst (λ z. LacksRoom frame_room old (length (z ++ bytes))) e (lacks_alike frame_room (length (mid.bytes ++ bytes)) old mid e p l h.2), h.3 ∙ s)
+alike_holds old mid new kind bytes put.Closed e p l s h = (h.0, h.1, subst (λ z. LacksRoom all_room old (length (z ++ bytes))) e (lacks_alike all_room (length (mid.bytes ++ bytes)) old mid e p l h.2))
 
 abbrev is_response : Message → Type 0
 is_response message.Response = Unit {0}
@@ -104,8 +106,8 @@ module _ {W : Type 0} (T : W → List ℕ → Option ℕ → W → Type 0) where
 
   -- none of a message is taken
   pub none_puts : (a b : W) (old mid : Waiting) (kind : Message) (bytes : List ℕ) (new : Waiting) (n : ℕ) (r : Put) → takes old.condition kind ≡ true → old.bytes ≡ [] → n ≡ 0
-      → mid.bytes ≡ old.bytes → mid.spare ≡ old.spare → IsAlike old mid → T a bytes (Some n) b → Holds mid kind bytes new r → Puts T a b old kind bytes new r
-  none_puts a b old mid kind bytes new n r t o z e p s tried h = held r (alike_holds old mid new kind bytes r e p s h)
+      → mid.bytes ≡ old.bytes → mid.spare ≡ old.spare → mid.lent ≡ old.lent → IsAlike old mid → T a bytes (Some n) b → Holds mid kind bytes new r → Puts T a b old kind bytes new r
+  none_puts a b old mid kind bytes new n r t o z e p l s tried h = held r (alike_holds old mid new kind bytes r e p l s h)
     where
       offer : Some bytes ≡ offered old kind bytes
       offer = offers_all old kind bytes t o
@@ -126,8 +128,8 @@ module _ {W : Type 0} (T : W → List ℕ → Option ℕ → W → Type 0) where
 
   -- a part of a message is taken, and the rest has the room of a response
   pub rest_puts : (a b : W) (old mid : Waiting) (kind : Message) (bytes rest : List ℕ) (new : Waiting) (n : ℕ) (r : Put) → takes old.condition kind ≡ true → old.bytes ≡ [] → n ≢ 0
-      → mid.bytes ≡ old.bytes → mid.spare ≡ old.spare → IsAlike old mid → rest ≡ drop n bytes → T a bytes (Some n) b → Holds mid message.Response rest new r → Puts T a b old kind bytes new r
-  rest_puts a b old mid kind bytes rest new n r t o z e p s d tried h = held r (alike_holds old mid new message.Response rest r e p s h)
+      → mid.bytes ≡ old.bytes → mid.spare ≡ old.spare → mid.lent ≡ old.lent → IsAlike old mid → rest ≡ drop n bytes → T a bytes (Some n) b → Holds mid message.Response rest new r → Puts T a b old kind bytes new r
+  rest_puts a b old mid kind bytes rest new n r t o z e p l s d tried h = held r (alike_holds old mid new message.Response rest r e p l s h)
     where
       some : 0 < n
       some = omega (arith, z)

@@ -1,6 +1,6 @@
 -- What is put into an outlet reaches the stream whole and in order, or waits. `T before bytes answer after` says what a stream does
 -- that is asked once to take these bytes: it takes so many from the front, or it is broken.
-use Rattle.std.specs.Prelude.{◌≡◌, ◌≢◌, ◌<◌, ◌≤◌, ◌+◌, ◌++◌, ◌⊎◌, ℕ, Bool, true, false, List, [], ◌∷◌, length, take, Option, Some, None}
+use Rattle.std.specs.Prelude.{◌≡◌, ◌≢◌, ◌<◌, ◌≤◌, ◌+◌, ◌++◌, ◌⊎◌, ℕ, Bool, true, false, List, [], ◌∷◌, length, take, max, Option, Some, None}
 use Rattle.std.specs.Io.KnownBytes.{Appends, Keeps}
 use Rattle.rtsp_sockets.specs.Rooms.{all_room, frame_room, room_of}
 use Rattle.rtsp_sockets.specs.declared.message.Message.{Message}
@@ -10,12 +10,15 @@ use Rattle.rtsp_sockets.specs.declared.pending.Condition.TheVariants as conditio
 use Rattle.rtsp_sockets.specs.declared.put.Put.{Put}
 use Rattle.rtsp_sockets.specs.declared.put.Put.TheVariants as put
 
--- what waits to be written, how many bytes more its memory holds, what the connection takes, and when there was progress last
+-- what waits to be written, how many bytes more its memory holds, what the connection takes, and when there was progress last;
+-- how many bytes may wait once a frame waits too, and how many of those that wait are lent
 pub record Waiting : Type 0 where
   pub bytes : List ℕ
   pub spare : ℕ
   pub condition : Condition
   pub since : ℕ
+  pub room : ℕ
+  pub lent : ℕ
 
 abbrev pub IsClosed : Waiting → Type 0
 IsClosed w = w.condition ≡ condition.Closed
@@ -35,9 +38,14 @@ takes condition.Draining message.Response = true
 takes condition.Draining message.Frame = false
 takes condition.Closed kind = false
 
--- so many bytes are more than may wait, or than the memory at hand holds
+-- so many bytes are more than may wait beside those that are lent, or than the memory at hand holds
 abbrev pub LacksRoom : ℕ → Waiting → ℕ → Type 0
-LacksRoom most w count = (most < count) ⊎ (length w.bytes + w.spare < count)
+LacksRoom most w count = (most + w.lent < count) ⊎ (length w.bytes + w.spare < count)
+
+-- the room for frames of what waits, where frames of another room come to it: the greater one, or the new one where nothing waits
+abbrev pub wider : List ℕ → ℕ → ℕ → ℕ
+wider [] room other = other
+wider (byte ∷ waits) room other = max room other
 
 -- a message is offered to the stream where it is taken and nothing waits before it
 abbrev pub offered_when : Bool → List ℕ → List ℕ → Option (List ℕ)
@@ -96,13 +104,13 @@ module _ {W : Type 0} (T : W → List ℕ → Option ℕ → W → Type 0) where
   Drops old kind bytes = (kind ≡ message.Frame) × ((takes old.condition kind ≡ false) ⊎ LacksRoom frame_room old (length (old.bytes ++ bytes)))
 
   -- a message waits in its room, or is a frame of which the stream took a part
-  abbrev pub HasRoom : Message → ℕ → ℕ → Type 0
-  HasRoom kind taken count = (count ≤ room_of kind) ⊎ (0 < taken)
+  abbrev pub HasRoom : Message → ℕ → Waiting → Type 0
+  HasRoom kind taken new = (length new.bytes ≤ room_of kind + new.lent) ⊎ (0 < taken)
 
   -- what came of a message: it is taken or waits, whole; or nothing of it; or nothing waits any longer
   abbrev pub Puts : W → W → Waiting → Message → List ℕ → Waiting → Put → Type 0
   Puts before after old kind bytes new put.Sent = Passes before after (offered old kind bytes) (old.bytes ++ bytes) new.bytes × (new.bytes ≡ []) × IsAlike old new
-  Puts before after old kind bytes new put.Kept = (p : Passes before after (offered old kind bytes) (old.bytes ++ bytes) new.bytes) × HasRoom kind p.taken (length new.bytes) × IsAlike old new
+  Puts before after old kind bytes new put.Kept = (p : Passes before after (offered old kind bytes) (old.bytes ++ bytes) new.bytes) × HasRoom kind p.taken new × IsAlike old new
   Puts before after old kind bytes new put.Dropped = Passes before after (offered old kind bytes) old.bytes new.bytes × Drops old kind bytes × IsAlike old new
   Puts before after old kind bytes new put.Closed = IsShut new × Closes before after old kind bytes
 
@@ -121,9 +129,20 @@ module _ {W : Type 0} (T : W → List ℕ → Option ℕ → W → Type 0) where
 -- what came of a message of which nothing is written: it waits, or only what waited before, or nothing any longer
 abbrev pub Holds : Waiting → Message → List ℕ → Waiting → Put → Type 0
 Holds old kind bytes new put.Sent = ⊥
-Holds old kind bytes new put.Kept = (new.bytes ≡ old.bytes ++ bytes) × (length new.bytes ≤ room_of kind) × IsAlike old new
+Holds old kind bytes new put.Kept = (new.bytes ≡ old.bytes ++ bytes) × (length new.bytes ≤ room_of kind + new.lent) × IsAlike old new
 Holds old kind bytes new put.Dropped = (kind ≡ message.Frame) × (new.bytes ≡ old.bytes) × LacksRoom frame_room old (length (old.bytes ++ bytes)) × IsAlike old new
 Holds old kind bytes new put.Closed = (kind ≡ message.Response) × IsShut new × LacksRoom all_room old (length (old.bytes ++ bytes))
+
+-- what is lent is what it was; or a frame waits, in the room for frames, and what waits beyond that of each connection is lent
+abbrev pub Borrows : Waiting → Message → Waiting → Type 0
+Borrows old kind new = (new.lent ≡ old.lent) ⊎ ((kind ≡ message.Frame) × (frame_room + new.lent ≡ length new.bytes) × (length new.bytes ≤ new.room))
+
+-- what is lent after a message: a closed connection has nothing
+abbrev pub Lends : Waiting → Message → Waiting → Put → Type 0
+Lends old kind new put.Sent = new.lent ≡ old.lent
+Lends old kind new put.Kept = Borrows old kind new
+Lends old kind new put.Dropped = new.lent ≡ old.lent
+Lends old kind new put.Closed = new.lent ≡ 0
 
 -- bytes wait, and for more than 10 s none was written
 pub record IsStalled (w : Waiting) (now : ℕ) : Type 0 where

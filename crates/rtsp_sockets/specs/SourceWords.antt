@@ -2,7 +2,7 @@
 use Rattle.std.specs.Prelude.{◌≡◌, ◌+◌, ◌%◌, ◌^◌, ℕ, List, ◌++◌, drop, length, Option}
 use Rattle.std.specs.Int.{Width, w16, w32, w128, byte_len, from_le_bytes}
 use Rattle.std.specs.Io.KnownBytes.{prepend_known, Consumes}
-use Rattle.rtsp_engine.specs.Devices.{WordCalls}
+use Rattle.rtsp_traits.specs.Devices.{WordCalls}
 use Rattle.rtsp_sockets.specs.declared.words.SourceWords.{SourceWords}
 
 -- from these bytes on some were left out, and then these were given

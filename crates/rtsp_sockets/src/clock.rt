@@ -2,7 +2,7 @@
 
 ghost use Rattle.std.specs.Prelude.{◌≡◌};
 
-use rtsp_engine::Clock;
+use rtsp_traits::Clock;
 use std::rt;
 use std::time::{Duration, Instant};
 

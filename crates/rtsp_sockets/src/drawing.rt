@@ -3,7 +3,7 @@
 ghost use Rattle.rtsp_sockets.specs.SourceWords.{calls};
 
 use crate::words::SourceWords;
-use rtsp_engine::{Words, WordsFault};
+use rtsp_traits::{Words, WordsFault};
 use std::io::Read;
 
 // A word is bytes that the source gave, each of them given once and in order.

@@ -2,7 +2,8 @@
 //! waits but for a lock.
 //!
 //! `outlet` is the writing side of a connection, over `pending`, the bytes that wait to be written;
-//! `outlets` are those of all connections. `ports` are the sockets of ports that are bound. `words`
+//! `outlets` are those of all connections. `frame_room` is how much of a stream may wait, `loan` what
+//! a connection has of room that all share. `ports` are the sockets of ports that are bound. `words`
 //! and `clock` are the system's words and moments, `media` the files of the tracks.
 
 #![tactic(auto)]
@@ -10,6 +11,8 @@
 mod bound;
 mod clock;
 mod drawing;
+mod frame_room;
+mod loan;
 mod media;
 mod media_file;
 mod message;
@@ -27,6 +30,8 @@ mod unit;
 mod words;
 
 pub use clock::{PieceClock, RunningClock};
+pub use frame_room::{FrameRoom, LENT_IN_ALL, MOST_ROOM};
+pub use loan::{Loan, SharedRoom};
 pub use media::{HELD_LIMIT, Media, MediaFault, MediaOf};
 pub use message::{ALL_ROOM, FRAME_ROOM, Message};
 pub use options::{FIRST_SEND_BUFFER, SEND_BUFFER, prepare};

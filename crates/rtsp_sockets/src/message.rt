@@ -3,11 +3,11 @@
 ghost use Rattle.std.specs.Prelude.{◌≡◌};
 ghost use Rattle.rtsp_sockets.specs.Rooms.{room_of};
 
-/// The most bytes that wait once a frame waits too: 64 KiB. Then a player that reads slowly loses
-/// frames, and still gets its responses.
+/// The most bytes that wait once a frame waits too, beside those that are lent: 64 KiB. Then a player
+/// that reads slowly loses frames, and still gets its responses.
 pub const FRAME_ROOM: usize = 64 * 1024;
 
-/// The most bytes that wait to be written to a connection: 256 KiB.
+/// The most bytes that wait to be written to a connection, beside those that are lent: 256 KiB.
 pub const ALL_ROOM: usize = 256 * 1024;
 
 /// What is put into the outlet of a connection.
@@ -20,7 +20,7 @@ pub enum Message {
 }
 
 impl Message {
-    /// How many bytes may wait once it waits too.
+    /// How many bytes may wait once it waits too, beside those that are lent.
     pub fn room(self) -> usize
         ensures { result ≡ room_of self }
     {

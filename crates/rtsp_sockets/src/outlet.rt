@@ -1,8 +1,10 @@
 //! The writing side of a connection.
 
 ghost use Rattle.std.specs.Prelude.{◌≡◌, ◌≤◌, IfSome};
-ghost use Rattle.rtsp_sockets.specs.Rooms.{all_room};
+ghost use Rattle.rtsp_sockets.specs.Rooms.{all_room, most_room};
 
+use crate::frame_room::FrameRoom;
+use crate::loan::Loan;
 use crate::message::Message;
 use crate::options::{limit_the_end, widen};
 use crate::pending::Pending;
@@ -37,13 +39,14 @@ pub struct Outlet {
 }
 
 impl Outlet {
-    /// The outlet of a connection, which doesn't block. It takes no memory.
-    pub fn new(alloc: Global, stream: TcpStream) -> Outlet
+    /// The outlet of a connection, which doesn't block. It takes no memory. What frames take beyond
+    /// `FRAME_ROOM` is lent by this.
+    pub fn new(alloc: Global, stream: TcpStream, loan: Loan) -> Outlet
         ensures { result.stream ≡ stream }
     {
         Outlet {
             stream,
-            pending: Mutex::new(Pending::new(alloc)),
+            pending: Mutex::new(Pending::new(alloc, loan)),
             requests: Mutex::new(0),
             is_wide: AtomicBool::new(false),
         }
@@ -90,8 +93,28 @@ impl Outlet {
     pub fn put<R: Wait>(&self, rt: &R, now: u64, kind: Message, bytes: &[u8]) -> Put
         ensures { result ≡ Put.Dropped → kind ≡ Message.Frame }
     {
+        self.put_within(rt, now, FrameRoom::least(), kind, bytes)
+    }
+
+    /// Writes a frame whole, or keeps what is left of it, or drops it whole. It may wait within this
+    /// room, or the greatest with which another frame came that waits.
+    pub fn put_frame<R: Wait>(&self, rt: &R, now: u64, room: FrameRoom, frame: &[u8]) -> Put {
+        self.put_within(rt, now, room, Message::Frame, frame)
+    }
+
+    fn put_within<R: Wait>(
+        &self,
+        rt: &R,
+        now: u64,
+        room: FrameRoom,
+        kind: Message,
+        bytes: &[u8],
+    ) -> Put
+        ensures { result ≡ Put.Dropped → kind ≡ Message.Frame }
+    {
         let mut pending = self.pending.lock(rt);
         let was_closed = pending.is_closed();
+        pending.widen(room);
         let put = pending.put(&mut &self.stream, now, kind, bytes);
         if put == Put::Closed && !was_closed {
             self.shut();
@@ -99,8 +122,8 @@ impl Outlet {
         put
     }
 
-    /// Writes what waits, as far as it goes at once: how many bytes are left, or `None` where the
-    /// connection is closed. It is called whenever the system tells that the connection can be
+    /// Writes what waits, as far as it goes at once: how many bytes are left, beside those that are
+    /// lent, or `None` where the connection is closed. None are left only where none wait. It is called whenever the system tells that the connection can be
     /// written, and from time to time, since the system tells late: what it takes meanwhile is what
     /// the player has taken.
     pub fn flush<R: Wait>(&self, rt: &R, now: u64) -> Option<usize>
@@ -109,27 +132,38 @@ impl Outlet {
         let mut pending = self.pending.lock(rt);
         let was_closed = pending.is_closed();
         let (waited, since) = (pending.len(), pending.since());
-        let left = pending.flush(&mut &self.stream, now);
-        match left {
+        match pending.flush(&mut &self.stream, now) {
             Some(left) if left < waited && now.saturating_sub(since) < SOON => self.widen(),
-            None if !was_closed => self.shut(),
-            Some(_) | None => {}
+            Some(_) => {}
+            None => {
+                if !was_closed {
+                    self.shut();
+                }
+                return None;
+            }
         }
-        left
+        Some(pending.unlent())
     }
 
-    /// Takes no more frames: how many bytes still wait.
+    /// Takes no more frames: how many bytes still wait, beside those that are lent.
     pub fn drain<R: Wait>(&self, rt: &R) -> usize
         ensures { result ≤ all_room }
     {
         let mut pending = self.pending.lock(rt);
         pending.drain();
-        pending.len()
+        pending.unlent()
     }
 
-    /// How many bytes wait.
+    /// How many bytes wait, beside those that are lent. None only where none wait.
     pub fn waiting<R: Wait>(&self, rt: &R) -> usize
         ensures { result ≤ all_room }
+    {
+        self.pending.lock(rt).unlent()
+    }
+
+    /// How many bytes wait, with those that are lent.
+    pub fn held<R: Wait>(&self, rt: &R) -> usize
+        ensures { result ≤ most_room }
     {
         self.pending.lock(rt).len()
     }

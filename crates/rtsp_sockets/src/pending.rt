@@ -1,11 +1,13 @@
 //! The bytes of a connection that wait to be written.
 
-ghost use Rattle.std.specs.Prelude.{◌≡◌, ◌≢◌, ◌≤◌, ◌<◌, ◌++◌, ◌↔◌, true, [], drop, length, IsTrue, IfSome, IfNone};
+ghost use Rattle.std.specs.Prelude.{◌≡◌, ◌≢◌, ◌≤◌, ◌<◌, ◌+◌, ◌-◌, ◌++◌, ◌↔◌, true, [], drop, length, min, IsTrue, IfSome, IfNone};
 ghost use Rattle.std.specs.Bool.{OnTrue, OnFalse};
-ghost use Rattle.rtsp_sockets.specs.Rooms.{all_room};
-ghost use Rattle.rtsp_sockets.specs.Passing.{Puts, Flushed, Ends, IsClosed, IsShut, IsStalled, IsAlike, Holds, LacksRoom, takes};
+ghost use Rattle.rtsp_sockets.specs.Rooms.{all_room, frame_room, most_room};
+ghost use Rattle.rtsp_sockets.specs.Passing.{Puts, Lends, Borrows, Flushed, Ends, IsClosed, IsShut, IsStalled, IsAlike, Holds, LacksRoom, takes, wider};
 
-use crate::message::Message;
+use crate::frame_room::FrameRoom;
+use crate::loan::Loan;
+use crate::message::{ALL_ROOM, FRAME_ROOM, Message};
 use crate::outlet::STALL_LIMIT;
 use crate::put::Put;
 use crate::try_write::TryWrite;
@@ -47,42 +49,63 @@ pub(crate) struct Pending {
     condition: Condition,
     // The moment at which a byte was written, or at which the first came to wait.
     since: u64,
+    // The greatest of the frames that wait.
+    room: FrameRoom,
+    // What frames take beyond the room that each connection has by itself.
+    loan: Loan,
+    // How many bytes have waited at once in this memory.
+    peak: usize,
 }
 
 impl Model for Pending {
-    ghost use Rattle.std.specs.Prelude.{◌≡◌, ◌≤◌, [], length};
-    ghost use Rattle.rtsp_sockets.specs.Rooms.{all_room};
+    ghost use Rattle.std.specs.Prelude.{◌≡◌, ◌≤◌, ◌+◌, ◌-◌, [], length};
+    ghost use Rattle.rtsp_sockets.specs.Rooms.{all_room, frame_room, most_lent};
     ghost use Rattle.rtsp_sockets.specs.Passing.{Waiting};
     ghost use Rattle.rtsp_sockets.specs.declared.pending.Condition.TheVariants.{Closed};
 
     ghost Value = { Waiting };
 
-    ghost view = { λ p. record { bytes = p.bytes.items; spare = p.bytes.spare; condition = p.condition; since = p.since } };
+    ghost view = { λ p. record { bytes = p.bytes.items; spare = p.bytes.spare; condition = p.condition; since = p.since; room = p.room; lent = p.loan } };
 
-    ghost invariant = { λ p. (length p.bytes.items ≤ all_room) × (p.condition ≡ Closed → p.bytes.items ≡ []) };
+    ghost invariant = { λ p. (length p.bytes.items ≤ all_room + p.loan) × (p.loan ≤ length p.bytes.items - frame_room) × (p.loan ≤ most_lent) × (p.condition ≡ Closed → p.bytes.items ≡ []) };
 }
 
 impl Pending {
-    // Nothing waits.
-    pub(crate) fn new(alloc: Global) -> Pending
+    // Nothing waits, and nothing is lent yet.
+    pub(crate) fn new(alloc: Global, mut loan: Loan) -> Pending
         ensures bytes { result.bytes ≡ [] }
         ensures condition { result.condition ≡ Condition.Open }
         ensures since { result.since ≡ 0 }
+        ensures room { result.room ≡ frame_room }
+        ensures lent { result.lent ≡ 0 }
     {
+        loan.settle(0);
         Pending {
             alloc,
             bytes: BytesMut::new(alloc),
             condition: Condition::Open,
             since: 0,
+            room: FrameRoom::least(),
+            loan,
+            peak: 0,
         }
     }
 
     // How many bytes wait.
     pub(crate) fn len(&self) -> usize
         ensures count { result ≡ length self.now.bytes }
-        ensures most { result ≤ all_room }
+        ensures most { result ≤ most_room }
     {
         self.bytes.len()
+    }
+
+    // How many bytes wait beside those that are lent. None only where none wait.
+    pub(crate) fn unlent(&self) -> usize
+        ensures count { result ≡ length self.now.bytes - self.now.lent }
+        ensures most { result ≤ all_room }
+        ensures none { (result ≡ 0) ↔ (self.now.bytes ≡ []) }
+    {
+        self.bytes.len() - self.loan.bytes()
     }
 
     // The moment at which a byte was written, or at which the first came to wait.
@@ -102,25 +125,72 @@ impl Pending {
     pub(crate) fn close(&mut self)
         ensures shut { IsShut self.new }
         ensures since { self.new.since ≡ self.old.since }
+        ensures room { self.new.room ≡ self.old.room }
+        ensures lent { self.new.lent ≡ 0 }
     {
         self.condition = Condition::Closed;
         self.bytes = BytesMut::new(self.alloc);
+        self.peak = 0;
+        self.loan.settle(0);
     }
 
-    // Puts some bytes behind those that wait, where there is room for so many in all. Whether
-    // there was.
+    // Frames of such a room are to be put.
+    pub(crate) fn widen(&mut self, room: FrameRoom)
+        ensures { self.new ≡ record self.old { room = wider self.old.bytes self.old.room room } }
+    {
+        if self.bytes.is_empty() || room.bytes() > self.room.bytes() {
+            self.room = room;
+        }
+    }
+
+    // Puts some bytes behind those that wait, where there is room for so many in all beside those
+    // that are lent. Whether there was.
     fn extend(&mut self, most: usize, bytes: &[u8]) -> bool
         requires open_still { ¬ IsClosed self.old }
         requires most { most ≤ all_room }
         ensures held { OnTrue result (self.new.bytes ≡ self.old.bytes ++ bytes.now) }
-        ensures most { OnTrue result (length self.new.bytes ≤ most) }
+        ensures most { OnTrue result (length self.new.bytes ≤ most + self.new.lent) }
         ensures same { OnFalse result (self.new.bytes ≡ self.old.bytes) }
         ensures lacks { OnFalse result (LacksRoom most self.old (length (self.old.bytes ++ bytes.now))) }
         ensures alike { IsAlike self.old self.new }
         ensures since { self.new.since ≡ self.old.since }
+        ensures room { self.new.room ≡ self.old.room }
+        ensures lent { self.new.lent ≡ self.old.lent }
     {
-        self.bytes.len().saturating_add(bytes.len()) <= most
-            && self.bytes.extend_from_slice(bytes).is_ok()
+        let whole = self.bytes.len().saturating_add(bytes.len());
+        if whole > most + self.loan.bytes() || self.bytes.extend_from_slice(bytes).is_err() {
+            return false;
+        }
+        self.peak = self.peak.max(whole);
+        true
+    }
+
+    // Puts a frame behind the bytes that wait, where it is within the room for frames, and what is
+    // beyond that of each connection can be lent. Whether it was.
+    fn extend_lent(&mut self, frame: &[u8]) -> bool
+        requires open_still { ¬ IsClosed self.old }
+        ensures held { OnTrue result (self.new.bytes ≡ self.old.bytes ++ frame.now) }
+        ensures most { OnTrue result (length self.new.bytes ≤ frame_room + self.new.lent) }
+        ensures borrows { OnTrue result (Borrows self.old Message.Frame self.new) }
+        ensures same { OnFalse result (self.new.bytes ≡ self.old.bytes) }
+        ensures lacks { OnFalse result (LacksRoom frame_room self.old (length (self.old.bytes ++ frame.now))) }
+        ensures returned { OnFalse result (self.new.lent ≡ self.old.lent) }
+        ensures alike { IsAlike self.old self.new }
+        ensures since { self.new.since ≡ self.old.since }
+        ensures room { self.new.room ≡ self.old.room }
+    {
+        let lent = self.loan.bytes();
+        let whole = self.bytes.len().saturating_add(frame.len());
+        let is_beyond = whole > FRAME_ROOM + lent;
+        if is_beyond && (whole > self.room.bytes() || !self.loan.cover(whole - FRAME_ROOM)) {
+            return false;
+        }
+        if self.bytes.extend_from_slice(frame).is_err() {
+            self.loan.settle(lent);
+            return false;
+        }
+        self.peak = self.peak.max(whole);
+        true
     }
 
     // Keeps a message, or what of it isn't written yet. A frame that has no room is dropped; at
@@ -128,9 +198,15 @@ impl Pending {
     fn keep(&mut self, kind: Message, bytes: &[u8]) -> Put
         requires { ¬ IsClosed self.old }
         ensures held { Holds self.old kind bytes.now self.new result }
+        ensures lends { Lends self.old kind self.new result }
         ensures since { self.new.since ≡ self.old.since }
+        ensures room { self.new.room ≡ self.old.room }
     {
-        if self.extend(kind.room(), bytes) {
+        let is_kept = match kind {
+            Message::Frame => self.extend_lent(bytes),
+            Message::Response => self.extend(ALL_ROOM, bytes),
+        };
+        if is_kept {
             return Put::Kept;
         }
         match kind {
@@ -149,7 +225,9 @@ impl Pending {
         requires none { self.old.bytes ≡ [] }
         requires takes { takes self.old.condition kind ≡ true }
         ensures puts { Puts W.tries to.old to.new self.old kind bytes.now self.new result }
+        ensures lends { Lends self.old kind self.new result }
         ensures since { result ≡ Put.Kept → self.new.since ≡ now }
+        ensures room { self.new.room ≡ self.old.room }
     {
         let Some(n) = to.try_write(bytes) else {
             self.close();
@@ -175,6 +253,8 @@ impl Pending {
         bytes: &[u8],
     ) -> Put
         ensures puts { Puts W.tries to.old to.new self.old kind bytes.now self.new result }
+        ensures lends { Lends self.old kind self.new result }
+        ensures room { self.new.room ≡ self.old.room }
         ensures draining { self.old.condition ≡ Condition.Draining → kind ≡ Message.Frame → result ≡ Put.Dropped }
         ensures closed { IsClosed self.old → result ≡ Put.Closed }
         ensures begins { result ≡ Put.Kept → self.old.bytes ≡ [] → self.new.since ≡ now }
@@ -192,21 +272,45 @@ impl Pending {
         self.keep(kind, bytes)
     }
 
-    // So many of the bytes that waited were written. Where nothing waits, no memory is held.
+    // Holds no memory where nothing waits, and none of which less than half is needed where that is
+    // more than a connection may have by itself: then less is lent too.
+    fn shrink(&mut self)
+        ensures bytes { self.new.bytes ≡ self.old.bytes }
+        ensures alike { IsAlike self.old self.new }
+        ensures since { self.new.since ≡ self.old.since }
+        ensures room { self.new.room ≡ self.old.room }
+        ensures lent { self.new.lent ≡ self.old.lent }
+    {
+        let waiting = self.bytes.len();
+        if waiting == 0 {
+            self.bytes = BytesMut::new(self.alloc);
+            self.peak = 0;
+        } else if self.peak > ALL_ROOM
+            && waiting < self.peak / 2
+            && let Ok(bytes) = BytesMut::copy_from_slice(self.alloc, self.bytes.as_slice())
+        {
+            self.bytes = bytes;
+            self.peak = waiting;
+        }
+    }
+
+    // So many of the bytes that waited were written. What was lent to them is given back.
     fn advance(&mut self, now: u64, n: usize)
         requires { n ≤ length self.old.bytes }
         ensures bytes { self.new.bytes ≡ drop n self.old.bytes }
         ensures alike { IsAlike self.old self.new }
         ensures progress { 0 < n → self.new.since ≡ now }
         ensures none { n ≡ 0 → self.new.since ≡ self.old.since }
+        ensures room { self.new.room ≡ self.old.room }
+        ensures lent { self.new.lent ≡ min self.old.lent (length self.new.bytes - frame_room) }
     {
         self.bytes.advance(n);
         if n > 0 {
             self.since = now;
         }
-        if self.bytes.is_empty() {
-            self.bytes = BytesMut::new(self.alloc);
-        }
+        self.loan
+            .settle(self.bytes.len().saturating_sub(FRAME_ROOM));
+        self.shrink();
     }
 
     // Writes what waits, as far as it goes at once: how much is left, or `None` where the
@@ -215,7 +319,9 @@ impl Pending {
     pub(crate) fn flush<W: TryWrite>(&mut self, to: &mut W, now: u64) -> Option<usize>
         ensures some { IfSome result (λ n. Flushed W.tries to.old to.new self.old self.new now n) }
         ensures none { IfNone result (IsShut self.new × Ends W.tries to.old to.new self.old) }
-        ensures most { IfSome result (λ n. n ≤ all_room) }
+        ensures most { IfSome result (λ n. n ≤ most_room) }
+        ensures lent { self.new.lent ≡ min self.old.lent (length self.new.bytes - frame_room) }
+        ensures room { self.new.room ≡ self.old.room }
     {
         if self.condition == Condition::Closed {
             return None;
@@ -244,6 +350,7 @@ impl Pending {
     // Takes no more frames.
     pub(crate) fn drain(&mut self)
         ensures bytes { self.new.bytes ≡ self.old.bytes }
+        ensures lent { self.new.lent ≡ self.old.lent }
         ensures drains { (IsClosed self.old → IsClosed self.new) × (¬ IsClosed self.old → self.new.condition ≡ Condition.Draining) }
     {
         if self.condition == Condition::Open {

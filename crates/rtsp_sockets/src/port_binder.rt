@@ -4,7 +4,7 @@ ghost use Rattle.std.specs.Prelude.{◌≡◌, ◌↔◌, IsOk, OnOk, OnErr, IsT
 ghost use Rattle.rtsp_admit.specs.Binder.{raised};
 
 use crate::ports::PortTable;
-use rtsp_engine::{BindFault, Binder};
+use rtsp_admit::{BindFault, Binder};
 use std::net::{Ipv4Addr, Net};
 use std::sync::Wait;
 

@@ -3,7 +3,7 @@
 ghost use Rattle.std.specs.Prelude.{◌≡◌, ◌<◌, ◌≤◌, ◌+◌, ◌-◌, ◌%◌, ◌^◌, slice_range, IsOk, IfOk, OnOk, OnErr};
 ghost use Rattle.rtsp_admit.specs.Binder.{raised};
 
-use rtsp_engine::WordsFault;
+use rtsp_traits::WordsFault;
 use std::fs::File;
 use std::io;
 use std::io::Read;

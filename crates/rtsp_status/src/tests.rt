@@ -20,6 +20,8 @@ impl Source for SevenSessions {
             book: BookFigures {
                 sessions: 7,
                 rate: none,
+                pairs: none,
+                ports: none,
                 entries: 0,
                 owed: 0,
                 room: 9,

@@ -19,8 +19,10 @@ const EPROTO: i32 = 71;
 pub enum Accepted {
     /// A connection, with the player's IPv4 address.
     Stream(TcpStream, u32),
-    /// One that had gone, or was closed at once for want of a descriptor.
+    /// One that had gone.
     Gone,
+    /// One that was closed at once for want of a descriptor.
+    TurnedAway,
     /// None waits, or none can be accepted now.
     Nothing,
 }
@@ -147,7 +149,7 @@ impl Acceptor {
             }
         }
         match self.turn_away(listener) {
-            Ok(()) => Accepted::Gone,
+            Ok(()) => Accepted::TurnedAway,
             Err(fault) => self.failed(&fault, now),
         }
     }

@@ -6,6 +6,17 @@ use std::alloc::{AllocError, Global};
 use std::sync::atomic::{AtomicBool, AtomicU64, Ordering};
 use std::sync::{Mutex, Wait};
 
+/// Why a connection isn't let in.
+#[derive(Clone, Copy, Debug, PartialEq, Eq)]
+pub enum Refused {
+    /// Its address has its whole share of the connections.
+    Share,
+    /// As many are open as may be.
+    Full,
+    /// No more are served.
+    Over,
+}
+
 /// Counts the connections of all lanes, and of each address where it has a share of them.
 #[derive(Drop)]
 pub struct Gate {
@@ -47,20 +58,31 @@ impl Gate {
         self.most.store(most, Ordering::SeqCst);
     }
 
-    /// Whether a connection from this address may be served. Each that may is taken leave of by
-    /// `leave`.
-    pub fn enter<R: Wait>(&self, rt: &R, peer: u32) -> bool {
+    /// Lets a connection from this address in, where it may be served. Each that is let in is taken
+    /// leave of by `leave`.
+    pub fn enter<R: Wait>(&self, rt: &R, peer: u32) -> Result<(), Refused> {
+        let most = self.most.load(Ordering::SeqCst);
         if let Some(shares) = &self.shares
             && !shares.lock(rt).take(peer)
         {
-            return false;
+            // The places of all addresses are as many as there may be connections at all.
+            let is_full = self.open.load(Ordering::SeqCst) >= most;
+            return Err(if is_full {
+                Refused::Full
+            } else {
+                Refused::Share
+            });
         }
         let before = self.open.fetch_add(1, Ordering::SeqCst);
-        let may_enter = before < self.most.load(Ordering::SeqCst) && self.is_within_limit();
-        if !may_enter {
-            self.leave(rt, peer);
-        }
-        may_enter
+        let refused = if before >= most {
+            Refused::Full
+        } else if self.is_within_limit() {
+            return Ok(());
+        } else {
+            Refused::Over
+        };
+        self.leave(rt, peer);
+        Err(refused)
     }
 
     // Whether one more connection is served in all, which is counted.

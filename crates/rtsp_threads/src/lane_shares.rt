@@ -86,6 +86,13 @@ impl<'a, R> LaneShares<'a, R> {
             refused: 0,
         }
     }
+
+    /// How often no place was left.
+    pub fn refused(&self) -> u64
+        ensures { result ≡ self.now.refused }
+    {
+        self.refused
+    }
 }
 
 // What places there are is known to all lanes, so a clause knows of a call nothing but whether there

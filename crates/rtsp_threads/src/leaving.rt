@@ -65,6 +65,17 @@ pub fn take_leave<R: Wait, B: Binder>(
     has_ended
 }
 
+/// Ends the session of the least number of those that have expired at this moment, in milliseconds, and
+/// gives its number. The binder unbinds what it had. There is none where none has expired.
+pub fn end_next_expired<R: Wait, B: Binder>(
+    rt: &R,
+    handle: &mut BookHandle,
+    binder: &mut B,
+    now: u64,
+) -> Option<u64> {
+    sweep(rt, &mut handle.seat, &handle.lock, binder, now, 1).last
+}
+
 /// Ends all sessions that have expired at this moment, in milliseconds. The binder unbinds what they
 /// had. How many have ended.
 pub fn end_expired<R: Wait, B: Binder>(

@@ -34,6 +34,10 @@ pub const MESSAGE_LIMIT: u64 = 30_000;
 /// by sessions that they are setting tracks up in: for a millisecond, then twice as long each time.
 pub const WAITS: u32 = 7;
 
+/// A request that opens a session and sets a track up makes five entries at most and is owed five. Where
+/// the journal has less room, one that was refused may have been refused for that.
+pub const LAST_ROOM: usize = 10;
+
 /// The longest that a lane waits for something to do. Then it tells up to when it has read all that
 /// had come, and a sweep goes no further.
 pub const TURN_EVERY: u64 = 200;
@@ -61,6 +65,10 @@ pub const LOG_LINES: usize = 4_096;
 
 /// The same where only events have lines.
 pub const FEW_LINES: usize = 128;
+
+/// The thread that writes the journal isn't waited for once it has been at one turn for so long: a disk
+/// may hold it up.
+pub const HELD_AFTER: u64 = 100;
 
 /// A file of the journal that has so many entries is followed by a new one. An audit reads a million,
 /// and what is handed out at once is seldom more than half of what the journal has room for.

@@ -37,8 +37,14 @@ fn is_crowded(tally: Tally, half: usize) -> bool {
     half < tally.entries && settled < tally.entries
 }
 
+/// Whether less than a quarter of the journal's room is left.
+pub(crate) fn is_nearly_full(tally: Tally) -> bool {
+    tally.room < tally.entries.saturating_add(tally.owed) / 3
+}
+
 /// The same where the journal is written to files, so that only the thread that writes it shortens
-/// it: that one is asked to. Where it can't write, there is nothing to wait for.
+/// it: that one is asked to. Where it can't write, or is held up by its disk, there is nothing to wait
+/// for; where entries may be lost then, the journal is shortened once it is nearly full.
 pub fn ask_for_room<R: Wait + rt::Clock>(
     rt: &R,
     table: &Table,
@@ -48,7 +54,14 @@ pub fn ask_for_room<R: Wait + rt::Clock>(
     let half = (table.server().journal / 2) as usize;
     let mut wait = 1;
     for _ in 0..WAITS {
-        if scribe.is_stuck() || !is_crowded(lane.tally(rt), half) {
+        let tally = lane.tally(rt);
+        if !is_crowded(tally, half) {
+            return;
+        }
+        if scribe.is_stuck() || scribe.is_held(rt) {
+            if scribe.may_lose() && is_nearly_full(tally) {
+                lane.relieve(rt, half);
+            }
             return;
         }
         scribe.ask(rt);

@@ -3,7 +3,7 @@ use Rattle.std.proofs.Common.{ℕ, List, Result, OnOk, IfErr, Ok, Err, refl, ◌
 use Rattle.rtsp_grammar.specs.declared.fault.MessageFault.{MessageFault}
 use Rattle.rtsp_engine.specs.Desk.{SameParts}
 use Rattle.rtsp_engine.specs.DeskAnswers.{AnswersAt, GivesUpAt, Takes, Faults}
-use Rattle.rtsp_engine.specs.Devices.{Devices}
+use Rattle.rtsp_traits.specs.Devices.{Devices}
 use Rattle.rtsp_engine.specs.Served.{Output}
 use Rattle.rtsp_engine.specs.declared.desk.Desk.{Desk}
 use Rattle.rtsp_engine.proofs.Keeping.{answered_keeps, fault_keeps}

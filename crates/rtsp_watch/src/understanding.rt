@@ -5,7 +5,7 @@ ghost use Rattle.std.specs.Prelude.{◌≡◌, ◌++◌, IfErr, OnOk};
 ghost use Rattle.rtsp_grammar.specs.Answer.{IsUndecided};
 ghost use Rattle.rtsp_engine.specs.Desk.{SameParts};
 ghost use Rattle.rtsp_engine.specs.DeskAnswers.{Takes as TakesStrict, Faults as FaultsStrict};
-ghost use Rattle.rtsp_engine.specs.Devices.{devices};
+ghost use Rattle.rtsp_traits.specs.Devices.{devices};
 ghost use Rattle.rtsp_engine.specs.Served.{at};
 ghost use Rattle.rtsp_dialect.specs.Repairing.{Takes, Faults};
 ghost use Rattle.rtsp_dialect.specs.Understanding.{TakesPiece, FaultsPiece, serves};

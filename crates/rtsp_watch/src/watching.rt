@@ -6,7 +6,7 @@ ghost use Rattle.rtsp_engine.specs.Served.{Answered, FaultedAfter, at};
 ghost use Rattle.rtsp_dialect.specs.Repairing.{TakesRepaired, FaultsRepaired};
 ghost use Rattle.rtsp_watch.specs.Watching.{AnswersWatched, GivesUpWatched};
 
-use crate::reading::{session_of, status_of};
+use crate::reading::status_of;
 use crate::witness::{Told, Witness};
 use rtsp_dialect::push_repaired;
 use rtsp_engine::{Answerer, Connection};
@@ -27,7 +27,7 @@ fn tell<T: Witness>(witness: &T, request: &Request, response: &[u8]) {
         method: request.method.as_bytes(),
         uri: request.uri.as_bytes(),
         status: u16::try_from(status_of(response)).unwrap_or(0),
-        session: session_of(response),
+        response,
     });
 }
 

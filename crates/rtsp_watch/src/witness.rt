@@ -1,5 +1,7 @@
 //! Who is told of answers.
 
+use crate::reading::session_of;
+
 /// A request that was answered.
 #[derive(Clone, Copy, Debug)]
 pub struct Told<'a> {
@@ -9,8 +11,16 @@ pub struct Told<'a> {
     pub uri: &'a [u8],
     /// Of the response; 0 where the response has none, as the answer to a request that needs none.
     pub status: u16,
-    /// The first eight digits of the session that the response names.
-    pub session: Option<u32>,
+    /// As it will be written; empty where there is none.
+    pub response: &'a [u8],
+}
+
+impl Told<'_> {
+    /// The first eight digits of the session that the response names. It is looked for in the whole
+    /// response.
+    pub fn session(&self) -> Option<u32> {
+        session_of(self.response)
+    }
 }
 
 /// Who is told of each request that was answered. Several lanes may tell at once.

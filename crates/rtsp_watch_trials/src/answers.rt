@@ -49,7 +49,7 @@ impl Witness for Seen {
     fn answered(&self, told: &Told<'_>) {
         self.requests.fetch_add(1, Ordering::SeqCst);
         self.status.store(u64::from(told.status), Ordering::SeqCst);
-        let session = told.session.map_or(0, |digits| u64::from(digits) + 1);
+        let session = told.session().map_or(0, |digits| u64::from(digits) + 1);
         self.session.store(session, Ordering::SeqCst);
         let asked = told.method.len().saturating_add(told.uri.len());
         self.asked.store(asked as u64, Ordering::SeqCst);

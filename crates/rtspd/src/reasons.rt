@@ -4,9 +4,10 @@ use crate::running::read_operation;
 use crate::serving::address_of;
 use rtsp_command_line::{CommandLine, Exit, read_words};
 use rtsp_content::{Presentation, Table, Track};
-use std::fs::{self, File, OpenFile};
-use std::io::Eprint;
+use std::fs::{self, File, OpenFile, OpenOptions};
+use std::io::{Eprint, ErrorKind};
 use std::net::{Net, TcpListener, TcpStream};
+use std::os::unix::fs::OpenOptionsExt;
 use std::rt::Files;
 
 /// Tells on standard error, after the line of an exit of `serve`, which file or which address it was
@@ -103,15 +104,36 @@ fn tell_of_operation<
         }
     };
     if let Some(files) = operation.journal()
-        && let Err(error) = fs::metadata(rt, files.folder())
+        && tell_of_folder(rt, files.folder())
     {
-        let folder = files.folder();
-        let _ = eprintln!(rt; "rtspd: {folder}: {error}");
         return true;
     }
     match operation.status() {
         Some(address) => tell_of_status(rt, address),
         None => false,
+    }
+}
+
+// Tells why no file can be made in the folder, if none can. One is made, and removed.
+fn tell_of_folder<R: Files<File = File> + AllocGlobal + Eprint>(rt: &R, folder: &str) -> bool {
+    let Ok(path) = format!(in rt.alloc(); "{folder}/.tried-by-rtspd") else {
+        return false;
+    };
+    let made = OpenOptions::new()
+        .write(true)
+        .create_new(true)
+        .mode(0o600)
+        .open(rt, path.as_str());
+    match made {
+        Ok(_) => {
+            let _removed = fs::remove_file(rt, path.as_str());
+            false
+        }
+        Err(error) if error.kind() == ErrorKind::AlreadyExists => false,
+        Err(error) => {
+            let _ = eprintln!(rt; "rtspd: {folder}: {error}");
+            true
+        }
     }
 }
 

@@ -1,7 +1,7 @@
 use Rattle.std.proofs.Common.{◌≡◌, rules}
 use Rattle.rtsp_content.specs.declared.server.Players.TheVariants.{Strict, Gstreamer}
 use Rattle.rtsp_engine.specs.DeskAnswers.{AnswersAt, GivesUpAt}
-use Rattle.rtsp_engine.specs.Devices.{devices}
+use Rattle.rtsp_traits.specs.Devices.{devices}
 use Rattle.rtsp_dialect.specs.Repairing.{AnswersRepaired, GivesUpRepaired}
 use Rattle.rtsp_dialect.proofs.Lent.{takes, faults, strict_answers, strict_gives_up, gstreamer_answers, gstreamer_gives_up}
 use Rattle.rtsp_dialect.proofs.understanding.push_understood.Goals as goal

@@ -1,4 +1,4 @@
-use Rattle.rtsp_engine.specs.Devices.{devices}
+use Rattle.rtsp_traits.specs.Devices.{devices}
 use Rattle.rtsp_dialect.proofs.SameDesk.{pushed_same}
 use Rattle.rtsp_dialect.proofs.visits.push.Goals as goal
 

@@ -2,7 +2,7 @@ use Rattle.std.proofs.Common.{ℕ, Option, option_map, refl, subst, sym}
 use Rattle.rtsp_record.specs.Books.{Session}
 use Rattle.rtsp_lock.specs.Calls.{seat_view}
 use Rattle.rtsp_engine.specs.Desk.{service}
-use Rattle.rtsp_engine.specs.Devices.{devices}
+use Rattle.rtsp_traits.specs.Devices.{devices}
 use Rattle.rtsp_engine.specs.Renewing.{Renews}
 use Rattle.rtsp_engine.proofs.Replies.{found_ok, found_lacks, found_refused}
 use Rattle.rtsp_engine.proofs.conversing.respond_found.Goals as goal

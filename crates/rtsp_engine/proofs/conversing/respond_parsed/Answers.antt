@@ -2,7 +2,7 @@ use Rattle.std.proofs.Common.{Option, None, refl, sym, subst, ◌∙◌}
 use Rattle.rtsp_lock.specs.Calls.{seat_view}
 use Rattle.rtsp_state.specs.declared.request.Name.{Name}
 use Rattle.rtsp_engine.specs.Desk.{service}
-use Rattle.rtsp_engine.specs.Devices.{devices}
+use Rattle.rtsp_traits.specs.Devices.{devices}
 use Rattle.rtsp_engine.specs.Renewing.{Looks}
 use Rattle.rtsp_engine.proofs.Replies.{unnamed_ok, unnamed_lacks}
 use Rattle.rtsp_engine.proofs.conversing.respond_parsed.Goals as goal

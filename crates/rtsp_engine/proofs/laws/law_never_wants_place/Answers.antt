@@ -1,4 +1,4 @@
-use Rattle.rtsp_engine.specs.Devices.{devices}
+use Rattle.rtsp_traits.specs.Devices.{devices}
 use Rattle.rtsp_engine.proofs.Sharing.{never_wants_place}
 use Rattle.rtsp_engine.proofs.laws.law_never_wants_place.Goals as goal
 

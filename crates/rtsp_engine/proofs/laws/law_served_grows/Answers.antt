@@ -1,4 +1,4 @@
-use Rattle.rtsp_engine.specs.Devices.{devices}
+use Rattle.rtsp_traits.specs.Devices.{devices}
 use Rattle.rtsp_engine.proofs.Adding.{served_grows}
 use Rattle.rtsp_engine.proofs.laws.law_served_grows.Goals as goal
 

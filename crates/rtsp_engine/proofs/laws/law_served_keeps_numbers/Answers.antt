@@ -1,4 +1,4 @@
-use Rattle.rtsp_engine.specs.Devices.{devices}
+use Rattle.rtsp_traits.specs.Devices.{devices}
 use Rattle.rtsp_engine.proofs.Cleaning.{served_keeps_numbers}
 use Rattle.rtsp_engine.proofs.laws.law_served_keeps_numbers.Goals as goal
 

@@ -1,7 +1,8 @@
-use Rattle.std.proofs.Common.{◌∙◌, ◌∷◌, subst, refl, arith, Err}
+use Rattle.std.proofs.Common.{◌∙◌, ◌∷◌, subst, refl, ap, arith, Err}
 use Rattle.rtsp_admit.specs.Runs.{state_of}
 use Rattle.rtsp_book.specs.declared.refusals.Refusal.{Refusal}
 use Rattle.rtsp_lock.specs.Calls.{seat_view, Acted}
+use Rattle.rtsp_expiry.specs.Sweeps.{session_in}
 use Rattle.rtsp_expiry.proofs.Finding.{only_nothing}
 use Rattle.rtsp_expiry.proofs.sweeping.act_all.Goals as goal
 
@@ -19,6 +20,7 @@ loop-ended-preserved g c =
         unbound = c.unbind_freed.ensures;
       };
       count = omega (arith, was.count);
+      told = c.session_in-last.ensures ∙ ap session_in c.records.ensures.value;
     }
 
 pub returns-in-Err-clause-run : goal.returns-in-Err-clause-run
@@ -32,6 +34,7 @@ returns-in-Err-clause-run g c =
       last = state_of c.loop-ended.seat c.loop-ended.binder;
       accepted = was.accepted;
       count = was.count;
+      told = was.told;
       stops = record {
         below = c.loop-ended-test.true;
         refused = subst (λ (r : Refusal). Acted v (seat_view c.act_into.new.self) c.args.step.now (Err r)) nothing acted;
@@ -47,5 +50,6 @@ returns-clause-run g c =
       last = state_of c.loop-ended.seat c.loop-ended.binder;
       accepted = was.accepted;
       count = omega (arith, was.count, c.loop-ended-test.false, c.loop-ended.auto.ended-end);
+      told = was.told;
       stops = (refl, refl);
     }

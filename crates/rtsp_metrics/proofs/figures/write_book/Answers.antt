@@ -7,4 +7,6 @@ unfolding book_families
 returns c =
     appended c.write_journal.result c.args.out.now.items _ _ _ _ c.in_ok-write_gauge.ensures
     (appended c.write_journal.result c.write_gauge.new.out.items _ _ _ _ c.in_ok-write_held.ensures
-    (appended_last c.write_journal.result c.write_held.new.out.items _ _ c.write_journal.ensures))
+    (appended c.write_journal.result c.write_held.new.out.items _ _ _ _ c.in_ok-write_held-2.ensures
+    (appended c.write_journal.result c.write_held-2.new.out.items _ _ _ _ c.in_ok-write_held-3.ensures
+    (appended_last c.write_journal.result c.write_held-3.new.out.items _ _ c.write_journal.ensures))))

@@ -1,4 +1,4 @@
-use Rattle.rtsp_engine.specs.Devices.{devices}
+use Rattle.rtsp_traits.specs.Devices.{devices}
 use Rattle.rtsp_watch.proofs.Desks.{pushed_same}
 use Rattle.rtsp_watch.proofs.understanding.push_strict.Goals as goal
 

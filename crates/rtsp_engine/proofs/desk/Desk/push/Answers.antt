@@ -1,4 +1,4 @@
-use Rattle.rtsp_engine.specs.Devices.{devices}
+use Rattle.rtsp_traits.specs.Devices.{devices}
 use Rattle.rtsp_engine.proofs.Adding.{pushed_grows}
 use Rattle.rtsp_engine.proofs.Cleaning.{pushed_numbers}
 use Rattle.rtsp_engine.proofs.Parts.{pushed_same}

@@ -1,4 +1,4 @@
-use Rattle.rtsp_engine.specs.Devices.{devices}
+use Rattle.rtsp_traits.specs.Devices.{devices}
 use Rattle.rtsp_engine.proofs.Parts.{ended_same}
 use Rattle.rtsp_engine.proofs.desk.Desk.serve.Goals as goal
 

@@ -1,0 +1,81 @@
+//! What requests and answers are counted by.
+
+/// The method of a request, as the figures name it.
+#[derive(Clone, Copy, Debug, PartialEq, Eq)]
+pub enum Method {
+    Options,
+    Describe,
+    Setup,
+    Play,
+    Pause,
+    Teardown,
+    GetParameter,
+    SetParameter,
+    Other,
+}
+
+/// What the first digit of a status says.
+#[derive(Clone, Copy, Debug, PartialEq, Eq)]
+pub enum Outcome {
+    Success,
+    Redirection,
+    ClientError,
+    ServerError,
+}
+
+/// Why a request was refused, as the figures name it.
+#[derive(Clone, Copy, Debug, PartialEq, Eq)]
+pub enum Refusal {
+    Bandwidth,
+    Unavailable,
+    Session,
+    Path,
+    State,
+    Transport,
+    Other,
+}
+
+impl Method {
+    /// The method of this name; any other name is `Other`.
+    pub fn of(name: &[u8]) -> Method {
+        match name {
+            b"OPTIONS" => Method::Options,
+            b"DESCRIBE" => Method::Describe,
+            b"SETUP" => Method::Setup,
+            b"PLAY" => Method::Play,
+            b"PAUSE" => Method::Pause,
+            b"TEARDOWN" => Method::Teardown,
+            b"GET_PARAMETER" => Method::GetParameter,
+            b"SET_PARAMETER" => Method::SetParameter,
+            _ => Method::Other,
+        }
+    }
+}
+
+impl Outcome {
+    /// Of this status. One below 300 is a success, one from 500 on an error of the server.
+    pub fn of(status: u16) -> Outcome {
+        match status {
+            0..=299 => Outcome::Success,
+            300..=399 => Outcome::Redirection,
+            400..=499 => Outcome::ClientError,
+            _ => Outcome::ServerError,
+        }
+    }
+}
+
+impl Refusal {
+    /// Of this status. None below 400.
+    pub fn of(status: u16) -> Option<Refusal> {
+        match status {
+            0..=399 => None,
+            404 => Some(Refusal::Path),
+            453 => Some(Refusal::Bandwidth),
+            454 => Some(Refusal::Session),
+            455 => Some(Refusal::State),
+            461 => Some(Refusal::Transport),
+            503 => Some(Refusal::Unavailable),
+            _ => Some(Refusal::Other),
+        }
+    }
+}

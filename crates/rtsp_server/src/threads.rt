@@ -1,0 +1,325 @@
+//! The threads of a server: what each does until the server ends.
+
+ghost use Rattle.rtsp_lock.specs.Calls.{IsSeatOf};
+
+use crate::fault::ServerFault;
+use crate::figures::Figures;
+use crate::server::Announce;
+use crate::shared::Shared;
+use crate::socket_lane::SocketLane;
+use crate::stopping::watch_signals;
+use crate::sweeper::run_sweeper;
+use rtsp_content::Table;
+use rtsp_lanes::{BookHandle, PoolEnd, run_pool};
+use rtsp_lock::{BookLock, BookSeat};
+use rtsp_log::{Event, LogWriter, SleepPause, StderrSink};
+use rtsp_pacing::{Bell, PacerParts, PacerPlays, pace};
+use rtsp_sockets::Media;
+use rtsp_status::StatusServer;
+use rtsp_threads::{OwnStatus, STANDING_LIMIT, Scribe};
+use std::alloc::Global;
+use std::fs::File;
+use std::io::{Eprint, Write};
+use std::net::{Net, SocketAddr};
+use std::rt::Files;
+use std::sync::{Arc, Wait};
+use std::thread::Threads;
+use std::time::Duration;
+use std::{net, rt, thread};
+
+// What all threads of a server are lent.
+#[derive(Drop)]
+pub(crate) struct Parts {
+    pub(crate) table: Table,
+    pub(crate) media: Media,
+    pub(crate) shared: Arc<Shared>,
+}
+
+// What the threads that serve begin with.
+#[derive(Drop)]
+pub(crate) struct Start {
+    pub(crate) handle: BookHandle,
+    pub(crate) lanes: Vec<SocketLane>,
+    pub(crate) pacers: Vec<PacerPlays>,
+    pub(crate) address: SocketAddr,
+}
+
+// What those beside them begin with, for whoever runs the server: where signals are seen, where the
+// log is written, and where the figures are shown, by a handle of their own.
+#[derive(Drop)]
+pub(crate) struct Beside<E> {
+    pub(crate) signals: Option<OwnStatus>,
+    pub(crate) errors: E,
+    pub(crate) status: Option<StatusServer>,
+    pub(crate) handle: BookHandle,
+}
+
+// A pacer: which of them it is, and its plays.
+#[derive(Drop)]
+struct OnePacer {
+    number: usize,
+    plays: PacerPlays,
+}
+
+// Lends all parts to a pacer for as long as it runs.
+fn pace_lent<'a, R: Wait + rt::Clock>(
+    rt: &'a R,
+    alloc: Global,
+    lock: &'a BookLock,
+    seat: BookSeat,
+    table: &'a Table,
+    media: &'a Media,
+    shared: &'a Shared,
+    bell: &'a Bell,
+    plays: PacerPlays,
+)
+    requires { IsSeatOf seat lock.now }
+{
+    let parts = PacerParts {
+        lock,
+        table,
+        ports: &shared.ports,
+        outlets: &shared.outlets,
+        media,
+        bell,
+        counters: &shared.counters,
+        begun: shared.begun,
+    };
+    pace(rt, alloc, parts, seat, plays);
+}
+
+impl Parts {
+    // The body of a pacer's thread.
+    fn pace<R: Wait + rt::Clock>(
+        &self,
+        rt: &R,
+        alloc: Global,
+        pacer: OnePacer,
+        handle: BookHandle,
+    ) {
+        let BookHandle { lock, seat } = handle;
+        let OnePacer { number, plays } = pacer;
+        if let Some(bell) = self.shared.bells.as_slice().get(number) {
+            pace_lent(
+                rt,
+                alloc,
+                &lock,
+                seat,
+                &self.table,
+                &self.media,
+                &self.shared,
+                bell,
+                plays,
+            );
+        }
+    }
+
+    // The body of the sweeper's thread.
+    fn sweep<R: Wait + Net + rt::Clock>(&self, rt: &R, handle: BookHandle) {
+        run_sweeper(rt, handle, &self.shared);
+    }
+
+    // The body of the thread that looks for signals. Where the system doesn't tell of them, it is said.
+    fn watch<R: Wait + rt::Clock>(&self, rt: &R, status: Option<OwnStatus>) {
+        match status {
+            Some(status) => watch_signals(rt, &status, &self.shared),
+            None => self.shared.log.event(rt, Event::NoSignals),
+        }
+    }
+
+    // The body of the thread that writes the log.
+    fn log<R: Wait + Net + rt::Clock, E: Write + Drop>(&self, rt: &R, alloc: Global, errors: E) {
+        if let Ok(sink) = StderrSink::new(rt, alloc, errors) {
+            LogWriter::new(alloc, sink, SleepPause::new(rt)).run(rt, &self.shared.log);
+        }
+    }
+
+    // The body of the thread that shows the figures, where that is wanted.
+    fn show<R: Wait + rt::Clock>(
+        &self,
+        rt: &R,
+        alloc: Global,
+        status: Option<StatusServer>,
+        handle: BookHandle,
+    ) {
+        if let Some(mut status) = status {
+            let mut figures = Figures {
+                rt,
+                shared: &self.shared,
+                table: &self.table,
+                handle,
+                nothing: Vec::new(alloc),
+            };
+            status.run(rt, &mut figures, &self.shared.halt);
+        }
+    }
+
+    // Waits until all lanes have begun, but no longer than they should take: then some have no thread.
+    fn wait_for_lanes<R: Wait + rt::Clock>(&self, rt: &R, lanes: u64) {
+        for _ in 0..STANDING_LIMIT {
+            if self.shared.standing() >= lanes {
+                return;
+            }
+            thread::sleep(rt, Duration::from_millis(1));
+        }
+        self.shared.log.event(rt, Event::NoThread);
+    }
+
+    // Ends the threads that there are, since one is missing.
+    fn stop_for_want_of_threads<R: Wait + rt::Clock>(&self, rt: &R) {
+        self.shared.log.event(rt, Event::NoThread);
+        self.shared.stop(rt);
+    }
+
+    // What this thread does while the lanes run: it tells that all stand, and writes the journal where
+    // that is wanted. Whether it could tell it.
+    fn attend<A: Announce, R: Wait + Net + rt::Clock + Files<File = File> + Eprint>(
+        &self,
+        rt: &R,
+        mut announcer: A,
+        address: SocketAddr,
+        mut scribe: Option<Scribe>,
+        mut handle: BookHandle,
+    ) -> (Option<Scribe>, bool) {
+        self.wait_for_lanes(rt, u64::from(self.table.server().workers));
+        let has_told = announcer.announce(address);
+        if has_told {
+            let presentations = self.table.presentations().len() as u64;
+            self.shared.log.event(rt, Event::Started { presentations });
+        } else {
+            self.shared.begin_stop(rt, 0);
+        }
+        if let (Some(scribe), Some(bell)) = (&mut scribe, &self.shared.scribe) {
+            scribe.run(rt, &mut handle, bell);
+        }
+        (scribe, has_told)
+    }
+
+    // Runs the threads that serve, until the lanes are over. What writes the journal is given back.
+    fn serve<
+        A: Announce,
+        R: Threads
+            + Wait
+            + Net<Listener = net::TcpListener, Stream = net::TcpStream>
+            + rt::Clock
+            + Files<File = File>
+            + Eprint
+            + Sync,
+    >(
+        &self,
+        rt: &R,
+        alloc: Global,
+        start: Start,
+        announcer: A,
+        scribe: Option<Scribe>,
+    ) -> (Option<Scribe>, Result<PoolEnd, ServerFault>) {
+        thread::scope(thread::scope_env(), rt, move |scope| {
+            let Start {
+                handle: mut own,
+                lanes,
+                pacers,
+                address,
+            } = start;
+            let mut missing = 0u64;
+            for (number, plays) in pacers.into_iter().enumerate() {
+                let Some(theirs) = own.split(rt) else {
+                    missing = missing.saturating_add(1);
+                    continue;
+                };
+                let pacer = OnePacer { number, plays };
+                let spawned = scope.spawn(move || self.pace(rt, alloc, pacer, theirs));
+                if spawned.is_err() {
+                    missing = missing.saturating_add(1);
+                }
+            }
+            let (Some(theirs), Some(ours)) = (own.split(rt), own.split(rt)) else {
+                self.stop_for_want_of_threads(rt);
+                return (scribe, Err(ServerFault::NoThread));
+            };
+            if scope.spawn(move || self.sweep(rt, theirs)).is_err() || missing > 0 {
+                self.stop_for_want_of_threads(rt);
+                return (scribe, Err(ServerFault::NoThread));
+            }
+            let Ok(pool) = scope.spawn(move || self.run_lanes(rt, alloc, own, lanes)) else {
+                self.stop_for_want_of_threads(rt);
+                return (scribe, Err(ServerFault::NoThread));
+            };
+            let (scribe, has_told) = self.attend(rt, announcer, address, scribe, ours);
+            let ended = pool.join(rt);
+            if has_told {
+                (scribe, ended)
+            } else {
+                (scribe, Err(ServerFault::DeviceFailed))
+            }
+        })
+    }
+
+    // Runs all threads, until the lanes are over. What writes the journal is given back.
+    pub(crate) fn run<
+        A: Announce,
+        E: Write + Drop + Send,
+        R: Threads
+            + Wait
+            + Net<Listener = net::TcpListener, Stream = net::TcpStream>
+            + rt::Clock
+            + Files<File = File>
+            + Eprint
+            + Sync,
+    >(
+        &self,
+        rt: &R,
+        alloc: Global,
+        start: Start,
+        beside: Beside<E>,
+        announcer: A,
+        scribe: Option<Scribe>,
+    ) -> (Option<Scribe>, Result<PoolEnd, ServerFault>) {
+        thread::scope(thread::scope_env(), rt, move |scope| {
+            let Beside {
+                signals,
+                errors,
+                status,
+                handle,
+            } = beside;
+            let watches = scope.spawn(move || self.watch(rt, signals)).is_ok();
+            let logs = scope.spawn(move || self.log(rt, alloc, errors)).is_ok();
+            let shows = scope
+                .spawn(move || self.show(rt, alloc, status, handle))
+                .is_ok();
+            if !(watches && logs && shows) {
+                self.stop_for_want_of_threads(rt);
+                self.shared.log.close();
+                return (scribe, Err(ServerFault::NoThread));
+            }
+            let served = self.serve(rt, alloc, start, announcer, scribe);
+            self.shared.log.event(rt, Event::Stopped);
+            self.shared.log.close();
+            served
+        })
+    }
+
+    // Runs the lanes until they are over, and then ends the threads beside them.
+    fn run_lanes<
+        R: Threads
+            + Wait
+            + Net<Listener = net::TcpListener, Stream = net::TcpStream>
+            + rt::Clock
+            + Sync,
+    >(
+        &self,
+        rt: &R,
+        alloc: Global,
+        own: BookHandle,
+        lanes: Vec<SocketLane>,
+    ) -> Result<PoolEnd, ServerFault> {
+        let count = lanes.len() as u64;
+        let BookHandle { lock, mut seat } = own;
+        let end = run_pool(rt, alloc, lanes, &lock, &mut seat, &self.table);
+        self.shared.stop(rt);
+        if end.idle < count {
+            Ok(end)
+        } else {
+            Err(ServerFault::NoThread)
+        }
+    }
+}
