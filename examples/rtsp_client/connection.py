@@ -2,6 +2,7 @@
 import collections
 import select
 import socket
+import struct
 import time
 from typing import Callable, Deque, Dict, Iterable, List, Optional, Tuple
 from urllib.parse import urlsplit
@@ -13,6 +14,8 @@ DEFAULT_PORT = 554
 PIECE = 65536
 # What a socket is asked to keep of the packets that come while nobody takes them, in bytes.
 UDP_ROOM = 1 << 20
+# The option of socket(7) by which the system notes when each datagram came, for which Python has no name, and its note.
+SO_TIMESTAMPNS, NOTED_TIME = 35, struct.Struct("qq")
 # Who waits for an answer waits so many seconds.
 PATIENCE = 10.0
 # Whether it is enough is asked so often, in seconds.
@@ -37,12 +40,30 @@ def address_of(uri: str) -> Tuple[str, int]:
     return host, port
 
 
+def datagram_socket() -> socket.socket:
+    """A UDP socket of which `take_datagram` tells when each datagram came."""
+    made = socket.socket(socket.AF_INET, socket.SOCK_DGRAM)
+    made.setsockopt(socket.SOL_SOCKET, SO_TIMESTAMPNS, 1)
+    return made
+
+
+def take_datagram(ready: socket.socket) -> Tuple[bytes, float]:
+    """A datagram, and the second on the clock of time.monotonic at which the system had it, however late it is taken."""
+    datagram, notes, _, _ = ready.recvmsg(PIECE, socket.CMSG_SPACE(NOTED_TIME.size))
+    waited = 0.0
+    for level, kind, note in notes:
+        if (level, kind) == (socket.SOL_SOCKET, SO_TIMESTAMPNS):
+            seconds, nanoseconds = NOTED_TIME.unpack(note)
+            waited = time.time() - (seconds + nanoseconds / 1e9)
+    return datagram, time.monotonic() - max(waited, 0.0)
+
+
 class UdpPair:
     """Two sockets on an even port and the next, for RTP and RTCP."""
 
     def __init__(self, host: str, tries: int = 200) -> None:
         for _ in range(tries):
-            rtp = socket.socket(socket.AF_INET, socket.SOCK_DGRAM)
+            rtp = datagram_socket()
             rtcp = socket.socket(socket.AF_INET, socket.SOCK_DGRAM)
             try:
                 rtp.setsockopt(socket.SOL_SOCKET, socket.SO_RCVBUF, UDP_ROOM)
@@ -89,7 +110,7 @@ class UdpPort:
     """One socket, for RTP and RTCP both (RFC 5761)."""
 
     def __init__(self, host: str) -> None:
-        self.rtp = socket.socket(socket.AF_INET, socket.SOCK_DGRAM)
+        self.rtp = datagram_socket()
         self.rtp.setsockopt(socket.SOL_SOCKET, socket.SO_RCVBUF, UDP_ROOM)
         self.rtp.bind((host, 0))
         self.port = self.rtp.getsockname()[1]
@@ -176,10 +197,10 @@ class Connection:
             self._take_piece()
             return
         try:
-            datagram = ready.recv(PIECE)
+            datagram, at = take_datagram(ready)
         except OSError:
             return
-        self.datagrams[ready](datagram, time.monotonic())
+        self.datagrams[ready](datagram, at)
 
     def _take_piece(self) -> None:
         try:

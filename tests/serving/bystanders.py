@@ -3,6 +3,7 @@
 They live in a few processes, so that none of them waits while another one's packets are counted.
 """
 import multiprocessing
+import os
 import threading
 import time
 from multiprocessing.connection import Connection as Channel
@@ -151,8 +152,13 @@ class Bystanders:
         return Heard(sum(it.answered for it in heard), faults, [at for it in heard for at in it.arrivals])
 
 
-def judge(punctuality: Punctuality, arrivals: List[Arrival]) -> None:
-    """That no packet came late, but for those that were under way while a core stood still."""
+# With fewer cores than would run at once one packet in so many may come late: threads and floods then wait for each other.
+LATE_OF = 20
+
+
+def judge(punctuality: Punctuality, arrivals: List[Arrival], busy: int) -> None:
+    """That no packet came late, but for those that were under way while a core stood still. Beside the players and who
+    sends to them so many threads and processes never wait."""
     checks = punctuality.checks
     excused = lambda it: punctuality.stood_still(it.at - it.late / 1000, it.at)
     some = arrivals[::JUDGED_OF]
@@ -161,4 +167,8 @@ def judge(punctuality: Punctuality, arrivals: List[Arrival]) -> None:
     checks.that(f"the machine let one in {JUDGED_OF} packets be judged", is_judged, (judged, len(some)))
     late = [it.late for it in arrivals if it.late > AT_MOST_LATE and not excused(it)]
     most = f"{len(late)} of {len(arrivals)} packets, up to {max(late, default=0.0):.0f} ms"
-    checks.that(f"no packet comes more than {AT_MOST_LATE} ms late", not late, most)
+    if busy + 2 <= len(os.sched_getaffinity(0)):
+        checks.that(f"no packet comes more than {AT_MOST_LATE} ms late", not late, most)
+    else:
+        are_few = LATE_OF * len(late) <= len(arrivals)
+        checks.that(f"at most one packet in {LATE_OF} comes more than {AT_MOST_LATE} ms late", are_few, most)

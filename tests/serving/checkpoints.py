@@ -109,7 +109,8 @@ def poured(server: Server, names: List[str]) -> Iterator[List[Poured]]:
 
 
 def beside(checks: Checks, workers: int, names: List[str]) -> None:
-    """Fifty players listen, renew, seek and set up beside floods: none of them is refused, and no packet comes late."""
+    """Fifty players listen, renew, seek and set up beside floods: none of them is refused, and no packet comes late
+    where there are cores for all."""
     journal = least_journal(workers, SETTINGS["sessions"], len(MINUTE.tracks))
     with Witness() as witness, Server(checks, MINUTE, workers=workers, journal=journal, **SETTINGS) as server:
         with poured(server, names) as floods, Bystanders(server.uri, PLAYERS, FLOODED_FOR) as players:
@@ -120,7 +121,8 @@ def beside(checks: Checks, workers: int, names: List[str]) -> None:
             checks.same(f"the flood of {name}: answers but 200 of {answered.value}", 0, refused.value)
         checks.that("no player is refused", not heard.faults, (len(heard.faults), heard.faults[:3]))
         checks.that("they asked much", heard.answered > 10 * PLAYERS, heard.answered)
-        judge(Punctuality(checks, witness.stalls()), heard.arrivals)
+        # Each flood keeps a lane busy.
+        judge(Punctuality(checks, witness.stalls()), heard.arrivals, 2 * len(floods))
 
 
 @serving_test(limit=45, is_alone=True)

@@ -86,7 +86,7 @@ def plays_beside_strangers_at_the_figures(checks: Checks) -> None:
         checks.that("each scrape within a second", max(took) < 1.0, took)
         checks.same("what went wrong with players", [], heard.faults)
         checks.that("they were answered", heard.answered > 10 * PLAYERS, heard.answered)
-        judge(Punctuality(checks, witness.stalls()), heard.arrivals)
+        judge(Punctuality(checks, witness.stalls()), heard.arrivals, 1)
 
 
 @serving_test(limit=30)

@@ -10,6 +10,7 @@ from multiprocessing.connection import Connection as Channel
 from typing import Dict, Iterator, List, NamedTuple
 
 from checks import Checks
+from rtsp_client.connection import datagram_socket, take_datagram
 
 from .bystanders import Arrival, judge
 from .failing_disks import moves, on_a_disk, stops, until
@@ -44,9 +45,9 @@ def hear(taken: socket.socket, until_told: Channel) -> None:
     while not until_told.poll():
         with contextlib.suppress(TimeoutError):
             for _ in range(1000):
-                datagram = taken.recv(2048)
+                datagram, at = take_datagram(taken)
                 _, sequence, _, ssrc = struct.unpack_from("!HHLL", datagram)
-                came.setdefault(ssrc, []).append((time.monotonic(), sequence))
+                came.setdefault(ssrc, []).append((at, sequence))
     arrivals = []
     for packets in came.values():
         first = packets[0][1]
@@ -59,7 +60,7 @@ class Audience:
     """A process that hears all streams over one port."""
 
     def __enter__(self) -> "Audience":
-        with socket.socket(socket.AF_INET, socket.SOCK_DGRAM) as taken:
+        with datagram_socket() as taken:
             taken.setsockopt(socket.SOL_SOCKET, socket.SO_RCVBUF, ROOM)
             taken.bind((HERE, 0))
             self.port = taken.getsockname()[1]
@@ -132,7 +133,7 @@ def a_disk_that_blocks(checks: Checks) -> None:
         time.sleep(max(began + HELD + 2 * LATE - time.monotonic(), 0.0))
         heard = all.heard()
         checks.same("streams that were heard", STREAMS, heard.streams)
-        judge(Punctuality(checks, witness.stalls()), heard.arrivals)
+        judge(Punctuality(checks, witness.stalls()), heard.arrivals, 0)
         (file,) = files(server)
         status, book, complaint = audited(server, file)
         wanted = 0, "", sorted([*sessions, busy])
