@@ -4,7 +4,7 @@ use crate::shared::Shared;
 use rtsp_lanes::BookHandle;
 use rtsp_log::Event;
 use rtsp_sockets::PortBinder;
-use rtsp_threads::{SWEEP_EVERY, end_next_expired};
+use rtsp_threads::{HELD_TOLD_AFTER, SWEEP_EVERY, end_next_expired};
 use std::net::Net;
 use std::rt;
 use std::sync::Wait;
@@ -40,6 +40,32 @@ fn tell_media_failure<R: Wait + rt::Clock>(rt: &R, shared: &Shared) {
     }
 }
 
+// Whether it was told that the thread that writes the journal is held up.
+#[derive(Drop)]
+struct HeldJournal {
+    is_told: bool,
+}
+
+impl HeldJournal {
+    // Tells once that it is, and once that it isn't any more.
+    fn tell<R: Wait + rt::Clock>(&mut self, rt: &R, shared: &Shared) {
+        let Some(bell) = &shared.scribe else {
+            return;
+        };
+        let is_held = bell.is_held_for(rt, HELD_TOLD_AFTER);
+        if is_held == self.is_told {
+            return;
+        }
+        self.is_told = is_held;
+        let event = if is_held {
+            Event::JournalHeld
+        } else {
+            Event::JournalFreed
+        };
+        shared.log.event(rt, event);
+    }
+}
+
 /// Ends from time to time the sessions that had expired when all lanes had read what had come, until
 /// it is told to stop. After each sweep it forgets all sessions that have ended by then, however they
 /// ended, if any has, and has those that live restated where they have done much: so the journal is
@@ -51,6 +77,7 @@ pub(crate) fn run_sweeper<R: Wait + Net + rt::Clock>(
     shared: &Shared,
 ) {
     let mut binder = shared.unbinder(rt);
+    let mut held = HeldJournal { is_told: false };
     for _ in rt.forever() {
         if shared
             .stop_bell
@@ -60,6 +87,7 @@ pub(crate) fn run_sweeper<R: Wait + Net + rt::Clock>(
         }
         let moment = shared.begin_sweep(rt, shared.now(rt));
         tell_media_failure(rt, shared);
+        held.tell(rt, shared);
         let ended = end_expired(rt, &mut handle, &mut binder, shared, moment);
         if ended > 0 {
             shared.note_end();

@@ -29,9 +29,9 @@ pub use hearing_reader::HearingReader;
 pub use lane_shares::LaneShares;
 pub use leaving::{close_book, end_expired, end_next_expired, take_leave};
 pub use limits::{
-    ACCEPT_RETRY, ACCEPTS, ANSWERS, CONNECTIONS, FEW_LINES, LAST_ROOM, LOG_LINES, MESSAGE_LIMIT,
-    PAUSE, PIECE, PIECES, SIGNALS_EVERY, SILENCE_LIMIT, STANDING_LIMIT, STOP_LIMIT, SWEEP_EVERY,
-    SWEEP_SESSIONS, TURN_EVERY, WAITS,
+    ACCEPT_RETRY, ACCEPTS, ANSWERS, CONNECTIONS, FEW_LINES, HELD_TOLD_AFTER, LAST_ROOM, LOG_LINES,
+    MESSAGE_LIMIT, PAUSE, PIECE, PIECES, SIGNALS_EVERY, SILENCE_LIMIT, STANDING_LIMIT, STOP_LIMIT,
+    SWEEP_EVERY, SWEEP_SESSIONS, TURN_EVERY, WAITS,
 };
 pub use relieving::{ask_for_room, make_room};
 pub use scribe::Scribe;

@@ -70,6 +70,9 @@ pub const FEW_LINES: usize = 128;
 /// may hold it up.
 pub const HELD_AFTER: u64 = 100;
 
+/// After so many milliseconds at one turn it is told of.
+pub const HELD_TOLD_AFTER: u64 = 2_000;
+
 /// A file of the journal that has so many entries is followed by a new one. An audit reads a million,
 /// and what is handed out at once is seldom more than half of what the journal has room for.
 pub const LONG_FILE: usize = 400_000;
