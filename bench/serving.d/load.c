@@ -1,6 +1,7 @@
 /* Clients for bench/serving. Each prints one line of numbers; a client that can't go on says why, with status 1.
  *   options PORT CONNECTIONS DEPTH SECONDS   each connection has so many OPTIONS under way: how many were answered
- *   cycles PORT CONNECTIONS SECONDS          each sets up a track over itself and tears down: how many times
+ *   cycles PORT CONNECTIONS SECONDS [RATE]   each sets up a track over itself and tears down, all together so often a
+ *                                            second at most: how many times
  *   renewals PORT CONNECTIONS SECONDS        each has a session and renews it, one request after another: how many times
  *   plays PORT DEPTH SECONDS                 one connection has so many PLAYs of its session under way: how many were
  *                                            answered 200, and how many otherwise
@@ -144,17 +145,26 @@ static int cycled(Connection *it) {
     return 0;
 }
 
-static long cycles(int count, double seconds) {
+/* Waits until so many are due at a rate, where there is one. */
+static void hold_back(long done, double rate, double began) {
+    double early = rate ? began + done / rate - now() : 0;
+    if (early > 0)
+        usleep(early * 1e6);
+}
+
+static long cycles(int count, double seconds, double rate) {
     int poll;
     long done = 0;
     Connection *all = open_all(count, &poll);
     for (int i = 0; i < count; i++)
         put(all[i].fd, SETUP, sizeof SETUP - 1);
     struct epoll_event events[EVENTS];
-    for (double end = now() + seconds; now() < end;) {
+    double began = now();
+    while (now() < began + seconds) {
         int ready = epoll_wait(poll, events, EVENTS, 100);
         for (int i = 0; i < ready; i++)
             done += cycled(events[i].data.ptr);
+        hold_back(done, rate, began);
     }
     return done;
 }
@@ -253,8 +263,8 @@ int main(int count, char **words) {
     int number = atoi(words[3]);
     if (!strcmp(words[1], "options") && count == 6)
         printf("%ld\n", options(number, atoi(words[4]), atof(words[5])));
-    else if (!strcmp(words[1], "cycles") && count == 5)
-        printf("%ld\n", cycles(number, atof(words[4])));
+    else if (!strcmp(words[1], "cycles") && (count == 5 || count == 6))
+        printf("%ld\n", cycles(number, atof(words[4]), count == 6 ? atof(words[5]) : 0));
     else if (!strcmp(words[1], "renewals") && count == 5)
         printf("%ld\n", renewals(number, atof(words[4])));
     else if (!strcmp(words[1], "plays") && count == 5)
