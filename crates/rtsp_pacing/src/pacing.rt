@@ -22,6 +22,10 @@ use std::time::Duration;
 /// where it is late.
 pub const SLOTS_AT_ONCE: u32 = 8;
 
+/// The most plays that are taken over one after another before turns are taken. A play that waits
+/// may be the one for which an earlier was left.
+pub const PLAYS_AT_ONCE: u32 = 64;
+
 // For how long a pacer without plays sleeps, in milliseconds.
 const IDLE: u64 = 1_000;
 
@@ -44,19 +48,20 @@ impl<R: Wait + Clock> Pacing<'_, R> {
         self.desk.clock.until(moment)
     }
 
-    // Takes a play over. Where its session is in no play any more, or there is no memory, it is
-    // dropped.
+    // Takes a play over, as its PLAY began it: where the session has left it, what was counted of
+    // it is still to be sent. It is dropped where the session is no more, where there is no memory,
+    // or where the play before it sends what was counted of it, too.
     fn take_over(&mut self, asked: NewPlay) {
-        let session = asked.noted.session;
+        let NewPlay { begun, .. } = &asked;
+        let (session, phase) = (begun.noted.session, begun.phase);
         let Some(view) = self.desk.look(session) else {
             return;
         };
-        if let Some(latest) = self.plays.latest(session) {
-            if latest.is_of(&view) {
-                latest.ask_again(asked);
-                return;
-            }
-            latest.leave(&view);
+        if let Some(latest) = self.plays.latest(session)
+            && !latest.leave(phase)
+            && view.phase() != phase
+        {
+            return;
         }
         let Some((play, due)) = PacedPlay::begin(&mut self.desk, asked, &view) else {
             return;
@@ -139,13 +144,21 @@ pub fn pace<'a, R: Wait + Clock>(
         wheel,
         plays,
     };
+    let mut more = PLAYS_AT_ONCE;
     for _ in rt.forever() {
         let sleep = pacing.sleep();
         match bell.hear(rt, sleep) {
-            Heard::Play(asked) => pacing.take_over(asked),
+            Heard::Play(asked) => {
+                pacing.take_over(asked);
+                if more > 1 {
+                    more -= 1;
+                    continue;
+                }
+            }
             Heard::Nothing => {}
             Heard::Stop => break,
         }
+        more = PLAYS_AT_ONCE;
         pacing.turn_due();
     }
     pacing.desk.paced
