@@ -3,7 +3,8 @@
 ghost use Rattle.std.specs.Prelude.{◌≡◌, ◌<◌, ◌^◌, ℕ, List, Some, length};
 ghost use Rattle.rtsp_lock.specs.Calls.{IsSeatOf};
 ghost use Rattle.rtsp_pacing.specs.Linking.{LinksBehind};
-ghost use Rattle.rtsp_pacing.specs.Plays.{KeepsOthers, IsChain};
+ghost use Rattle.rtsp_pacing.specs.Plays.{KeepsOthers, KeepsPlay, IsChain};
+ghost use Rattle.rtsp_pacing.specs.Beginning.{TakesOver};
 
 use crate::desk::{Paced, PacerDesk, PacerParts};
 use crate::inbox::Heard;
@@ -51,16 +52,16 @@ impl<R: Wait + Clock> Pacing<'_, R> {
     // Takes a play over, as its PLAY began it: where the session has left it, what was counted of
     // it is still to be sent. It is dropped where the session is no more, where there is no memory,
     // or where the play before it sends what was counted of it, too.
-    fn take_over(&mut self, asked: NewPlay) {
+    fn take_over(&mut self, asked: NewPlay)
+        ensures { TakesOver asked self.old.plays self.new.plays }
+    {
         let NewPlay { begun, .. } = &asked;
         let (session, phase) = (begun.noted.session, begun.phase);
         let Some(view) = self.desk.look(session) else {
             return;
         };
-        if let Some(latest) = self.plays.latest(session)
-            && !latest.leave(phase)
-            && view.phase() != phase
-        {
+        let is_apart = self.plays.leave(session, phase);
+        if !is_apart && view.phase() != phase {
             return;
         }
         let Some((play, due)) = PacedPlay::begin(&mut self.desk, asked, &view) else {
@@ -75,6 +76,7 @@ impl<R: Wait + Clock> Pacing<'_, R> {
 
     // Links a play to the slot of a moment, behind those that are linked there.
     fn link(&mut self, key: usize, due: u64)
+        ensures kept { KeepsPlay self.old.plays key self.new.plays }
         ensures others { KeepsOthers self.old.plays key self.new.plays }
         ensures behind { LinksBehind self.old.wheel self.old.plays key due self.new.wheel self.new.plays }
     {

@@ -135,7 +135,8 @@ impl PacedPlay {
         asked: NewPlay,
         view: &SessionView,
     ) -> Option<(PacedPlay, u64)>
-        ensures { IfSome result (λ begun. Begins asked view.now begun.0) }
+        ensures begins { IfSome result (λ begun. Begins asked begun.0) }
+        ensures session { IfSome result (λ begun. begun.0.pacer.session ≡ view.now.0) }
     {
         let place = presentation_of(view)?;
         let presentation = desk.parts.table.presentation(place)?;
