@@ -31,7 +31,7 @@ use Rattle.rtsp_devices.specs.NoShares as no_shares
 abbrev pub stdio_devices : Devices PortSet CountedWords StandingClock NoPlays NoShares
 stdio_devices =
     devices port_set.calls counted_words.calls (λ b moment c. moment ≡ 0)
-    (record { notes = λ b session cseq uri c. ⊤; lacks = λ b c. ⊥; settles = λ b accepted c. ⊤ }) no_shares.calls
+    (record { notes = λ b session cseq uri c. ⊤; lacks = λ b c. ⊥; settles = λ b begun c. ⊤ }) no_shares.calls
 
 -- over these no SETUP ends for want of a place
 abbrev pub AlwaysHasPlace : Type 0

@@ -1,6 +1,7 @@
 //! Who learns of plays where none is sent.
 
 use rtsp_engine::Plays;
+use rtsp_record::Phase;
 use std::alloc::{AllocError, Global};
 
 /// Nobody who learns of plays.
@@ -10,7 +11,7 @@ pub struct NoPlays;
 impl Plays for NoPlays {
     ghost use Rattle.std.specs.Prelude.{⊤};
 
-    ghost calls = { record { notes = λ b session cseq uri c. ⊤; lacks = λ b c. ⊥; settles = λ b accepted c. ⊤ } };
+    ghost calls = { record { notes = λ b session cseq uri c. ⊤; lacks = λ b c. ⊥; settles = λ b begun c. ⊤ } };
 
     fn note(
         &mut self,
@@ -22,5 +23,5 @@ impl Plays for NoPlays {
         Ok(())
     }
 
-    fn settle(&mut self, _accepted: bool) {}
+    fn settle(&mut self, _begun: Option<Phase>) {}
 }

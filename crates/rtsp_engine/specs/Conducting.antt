@@ -1,7 +1,8 @@
 -- How a plan is conducted.
-use Rattle.std.specs.Prelude.{◌≡◌, ◌⊎◌, ℕ, Bool, true, false, List, [], Option, Some, None, Result, Ok, Err}
+use Rattle.std.specs.Prelude.{◌≡◌, ◌⊎◌, ℕ, List, [], Option, Some, None, Result, Ok, Err}
 use Rattle.rtsp_grammar.specs.declared.message.Response.{Response}
 use Rattle.rtsp_record.specs.declared.changes.Record.{Record}
+use Rattle.rtsp_record.specs.declared.phases.Phase.{Phase}
 use Rattle.rtsp_record.specs.declared.holdings.Thing.{Thing}
 use Rattle.rtsp_book.specs.declared.asks.Admitted.{Admitted}
 use Rattle.rtsp_book.specs.declared.refusals.Refusal.{Refusal}
@@ -18,7 +19,7 @@ use Rattle.rtsp_state.specs.declared.step_plan.StepPlan.{StepPlan}
 use Rattle.rtsp_state.specs.declared.setup_plan.Drawn.{Drawn}
 use Rattle.rtsp_state.specs.declared.setup_plan.SetupPlan.{SetupPlan}
 use Rattle.rtsp_state.specs.declared.status.Status.TheVariants.{ServerError, Unavailable}
-use Rattle.rtsp_state.specs.Answer.{step_answer, setup_answer}
+use Rattle.rtsp_state.specs.Answer.{moved, step_answer, setup_answer}
 use Rattle.rtsp_state.specs.Response.{refused}
 use Rattle.rtsp_state.specs.SetupPlan.{setup_start, ask_of}
 use Rattle.rtsp_engine.specs.Desk.{State}
@@ -42,9 +43,10 @@ abbrev pub freed_by : Result (List Record) Refusal → List (ℕ × Thing)
 freed_by (Ok made) = freed_addresses made
 freed_by (Err refusal) = []
 
-abbrev pub is_accepted : Result (List Record) Refusal → Bool
-is_accepted (Ok made) = true
-is_accepted (Err refusal) = false
+-- the phase that a step moved to; none where it was refused
+abbrev pub moved_by : Result (List Record) Refusal → Option Phase
+moved_by (Ok made) = moved made
+moved_by (Err refusal) = None
 
 -- what is drawn for an admission
 abbrev pub drawn_with : ℕ → GivenWords → Numbers → Drawn
@@ -77,14 +79,15 @@ setup_response plan (NoNumber at) = refused (setup_start plan) (faults.Refused U
 setup_response plan (Tried n made) = setup_answer plan n.key made
 
 module _ {B W C P S : Type 0} (d : Devices B W C P S) where
-  -- a play is noted; the step is acted, and the ports that it freed are unbound; the play is settled, and the outcome answered
+  -- a play is noted; the step is acted, and the ports that it freed are unbound; the play is settled by the phase that it began, and the outcome
+  -- answered
   pub record ConductsStep (uri : List ℕ) (plan : StepPlan) (response : Response) (s t : State B W C P S) : Type 0 where
     pub between : P
     pub noted : Noted d.plays (played plan.step) plan.start.cseq uri s.plays between
     pub made : Result (List Record) Refusal
     pub acted : Acted s.view t.view plan.step made
     pub unbound : UnboundAll d.binder (freed_by made) s.binder t.binder
-    pub settled : Settled d.plays (played plan.step) (is_accepted made) between t.plays
+    pub settled : Settled d.plays (played plan.step) (moved_by made) between t.plays
     pub answer : response ≡ step_answer plan made
     pub words : t.words ≡ s.words
     pub clock : t.clock ≡ s.clock

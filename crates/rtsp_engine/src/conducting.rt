@@ -20,7 +20,8 @@ use crate::drawing::{GivenWords, Lacking, Numbers, Spent, draw_numbers, draw_wor
 use rtsp_admit::{Binder, admit, unbind_freed};
 use rtsp_book::{Admitted, Receipt, Refusal, Step};
 use rtsp_lock::{BookLock, BookSeat};
-use rtsp_state::{Drawn, Plan, Reply, Room, SessionKey, SetupPlan, Status, StepPlan};
+use rtsp_record::Phase;
+use rtsp_state::{Drawn, Plan, Reply, Room, SessionKey, SetupPlan, Status, StepPlan, moved};
 use rtsp_traits::{Clock, Plays, ShareSpent, Shares, Words};
 use std::alloc::{AllocError, Global};
 use std::sync::Wait;
@@ -63,12 +64,12 @@ fn note<P: Plays>(
     }
 }
 
-// Settles it.
-fn settle<P: Plays>(plays: &mut P, step: &Step, accepted: bool)
-    ensures { Settled P.calls (played step.now) accepted plays.old plays.new }
+// Settles it, by the phase that it began.
+fn settle<P: Plays>(plays: &mut P, step: &Step, begun: Option<Phase>)
+    ensures { Settled P.calls (played step.now) begun plays.old plays.new }
 {
     if played(step).is_some() {
-        plays.settle(accepted);
+        plays.settle(begun);
     }
 }
 
@@ -125,11 +126,11 @@ fn conduct_step<R: Wait, B: Binder, W: Words, C: Clock, P: Plays, S: Shares>(
     ) {
         Ok(()) => {
             plan.answer(room, Ok(&made));
-            settle(desk.plays, &plan.step, true);
+            settle(desk.plays, &plan.step, moved(&made));
         }
         Err(refusal) => {
             plan.answer(room, Err(refusal));
-            settle(desk.plays, &plan.step, false);
+            settle(desk.plays, &plan.step, None);
         }
     }
     Ok(())

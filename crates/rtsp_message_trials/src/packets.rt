@@ -222,7 +222,7 @@ fn assert_turned(
 // A pacer of a session that plays.
 pub(crate) fn pacer_of(rt: &impl Abort, alloc: Global, view: &SessionView) -> Result<Pacer, Fail> {
     let table = Table::read(alloc, EXAMPLE.as_bytes())?;
-    let Some(pacer) = Pacer::start(view, &table.presentations()[0]) else {
+    let Some(pacer) = Pacer::start(view, view.phase(), &table.presentations()[0]) else {
         panic!(rt; "it plays")
     };
     Ok(pacer)
@@ -296,6 +296,11 @@ fn a_session_that_is_ready_has_no_pacer(rt: HostRuntime) -> Result<(), Fail> {
     let Some(ready) = session(rt.alloc(), &[0], OPENING)? else {
         panic!(rt; "it is open")
     };
-    assert!(rt; Pacer::start(&ready, &table.presentations()[0]).is_none());
+    let presentation = &table.presentations()[0];
+    assert!(rt; Pacer::start(&ready, ready.phase(), presentation).is_none());
+    let Some(left) = Pacer::start(&ready, OF_TWO_UNITS, presentation) else {
+        panic!(rt; "it has played")
+    };
+    assert!(rt; left.is_of(2, OF_TWO_UNITS) && left.next_due() == Some(1_000));
     Ok(())
 }

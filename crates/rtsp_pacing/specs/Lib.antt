@@ -7,3 +7,4 @@ pub mod Linking
 pub mod Catching
 pub mod Refusals
 pub mod Reports
+pub mod Beginning

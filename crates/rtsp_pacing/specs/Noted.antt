@@ -1,7 +1,9 @@
 -- The plays of a connection that are noted, and those that were begun.
-use Rattle.std.specs.Prelude.{◌≡◌, ◌++◌, [], ℕ, Bool, true, false, List, Option, Some, None, option_to_list}
+use Rattle.std.specs.Prelude.{◌≡◌, ◌++◌, [], ℕ, List, Option, Some, None, option_map, option_to_list}
+use Rattle.rtsp_record.specs.declared.phases.Phase.{Phase}
 use Rattle.rtsp_traits.specs.Devices.{PlayCalls}
 use Rattle.rtsp_state.specs.Notify.{media_uri}
+use Rattle.rtsp_pacing.specs.declared.noted.BegunPlay.{BegunPlay}
 use Rattle.rtsp_pacing.specs.declared.noted.NotedPlay.{NotedPlay}
 use Rattle.rtsp_pacing.specs.declared.noted.NotedPlays.{NotedPlays}
 
@@ -19,14 +21,14 @@ pub record Lacks (b c : NotedPlays) : Type 0 where
   pub noted : c.noted ≡ b.noted
   pub begun : c.begun.items ≡ b.begun.items
 
--- the play that was noted is begun, or it is forgotten
-abbrev pub begun_by : Bool → Option NotedPlay → List NotedPlay
-begun_by true noted = option_to_list noted
-begun_by false noted = []
+-- the play that was noted is begun, in the phase that its PLAY made, or it is forgotten
+abbrev pub begun_by : Option Phase → Option NotedPlay → List BegunPlay
+begun_by None noted = []
+begun_by (Some phase) noted = option_to_list (option_map (λ play. record { noted = play; phase = phase }) noted)
 
-pub record Settles (b : NotedPlays) (accepted : Bool) (c : NotedPlays) : Type 0 where
+pub record Settles (b : NotedPlays) (begun : Option Phase) (c : NotedPlays) : Type 0 where
   pub noted : c.noted ≡ None
-  pub begun : c.begun.items ≡ b.begun.items ++ begun_by accepted b.noted
+  pub begun : c.begun.items ≡ b.begun.items ++ begun_by begun b.noted
 
 abbrev pub calls : PlayCalls NotedPlays
 calls = record { notes = Notes; lacks = Lacks; settles = Settles }

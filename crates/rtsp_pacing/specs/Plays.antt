@@ -1,5 +1,5 @@
 -- The plays of a pacer: how many more need no memory, and which are linked to one slot.
-use Rattle.std.specs.Prelude.{◌≡◌, ◌≢◌, ℕ, ◌≤◌, List, [], ◌∷◌, Option, Some, None}
+use Rattle.std.specs.Prelude.{◌≡◌, ◌≢◌, ℕ, ◌≤◌, List, [], ◌∷◌, option_map, Option, Some, None}
 use Rattle.slab.specs.Slab.{HasRoomFor, get}
 use Rattle.indexmap.specs.IndexMap.{spare}
 use Rattle.rtsp_pacing.specs.declared.plays.Linked.{Linked}
@@ -12,6 +12,14 @@ HasRoom p more = HasRoomFor p.plays more × (more ≤ spare p.latest)
 -- the plays of all other keys are as they were
 abbrev pub KeepsOthers : PacerPlays → ℕ → PacerPlays → Type 0
 KeepsOthers old key new = (other : ℕ) → other ≢ key → get new.plays other ≡ get old.plays other
+
+-- no key without a play has one now
+abbrev pub KeepsNone : PacerPlays → PacerPlays → Type 0
+KeepsNone old new = (key : ℕ) → get old.plays key ≡ None → get new.plays key ≡ None
+
+-- under the key is the same play, however it is linked
+abbrev pub KeepsPlay : PacerPlays → ℕ → PacerPlays → Type 0
+KeepsPlay old key new = option_map (λ linked. linked.play) (get new.plays key) ≡ option_map (λ linked. linked.play) (get old.plays key)
 
 -- the play of a key is linked behind this one
 pub record IsLinked (p : PacerPlays) (key : ℕ) (before : Option ℕ) : Type 0 where

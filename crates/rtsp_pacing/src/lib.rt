@@ -25,7 +25,7 @@ mod when;
 pub use bell::{Bell, Bells};
 pub use desk::{Paced, PacerParts};
 pub use noted::NotedPlays;
-pub use pacing::{SLOTS_AT_ONCE, pace};
+pub use pacing::{PLAYS_AT_ONCE, SLOTS_AT_ONCE, pace};
 pub use plays::PacerPlays;
 pub use refusals::{REFUSED_FOR, SPARED_FOR};
 pub use reports::{Report, hear, report_step};

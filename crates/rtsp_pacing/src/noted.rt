@@ -3,6 +3,7 @@
 ghost use Rattle.std.specs.Prelude.{◌≡◌, ◌<◌, ◌↔◌, [], None, IsSome, IsTrue, vec_len, vec_capacity};
 
 use crate::bell::Bells;
+use rtsp_record::Phase;
 use rtsp_state::MediaUri;
 use std::alloc::Global;
 use std::sync::Wait;
@@ -15,11 +16,18 @@ pub(crate) struct NotedPlay {
     pub(crate) uri: MediaUri,
 }
 
+// A play that was begun, and the phase of its session that its PLAY made.
+#[derive(Drop)]
+pub(crate) struct BegunPlay {
+    pub(crate) noted: NotedPlay,
+    pub(crate) phase: Phase,
+}
+
 // A play that a pacer is to send, and the number of the connection that asked for it. The connection
 // may be closed while the play goes on, so nothing of it is held here.
 #[derive(Drop)]
 pub(crate) struct NewPlay {
-    pub(crate) noted: NotedPlay,
+    pub(crate) begun: BegunPlay,
     pub(crate) conn: u64,
 }
 
@@ -28,7 +36,7 @@ pub(crate) struct NewPlay {
 pub struct NotedPlays {
     // The one that is not yet settled. There is room for it among those that were begun.
     pub(crate) noted: Option<NotedPlay>,
-    pub(crate) begun: Vec<NotedPlay>,
+    pub(crate) begun: Vec<BegunPlay>,
     // The session of the play that was handed over last, until it is asked for.
     last: Option<u64>,
     ghost room: { IsSome noted → vec_len begun < vec_capacity begun },
@@ -63,10 +71,11 @@ impl NotedPlays {
     {
         // The play that was begun first is handed over first.
         self.begun.reverse();
-        while let Some(noted) = self.begun.pop() {
-            self.last = Some(noted.session);
-            if let Some(bell) = bells.of(noted.session) {
-                bell.ring(rt, NewPlay { noted, conn });
+        while let Some(begun) = self.begun.pop() {
+            let session = begun.noted.session;
+            self.last = Some(session);
+            if let Some(bell) = bells.of(session) {
+                bell.ring(rt, NewPlay { begun, conn });
             }
         }
     }

@@ -2,7 +2,8 @@
 
 ghost use Rattle.rtsp_pacing.specs.Noted.{calls};
 
-use crate::noted::{NotedPlay, NotedPlays};
+use crate::noted::{BegunPlay, NotedPlay, NotedPlays};
+use rtsp_record::Phase;
 use rtsp_state::MediaUri;
 use rtsp_traits::Plays;
 use std::alloc::{AllocError, Global};
@@ -25,11 +26,11 @@ impl Plays for NotedPlays {
         Ok(())
     }
 
-    fn settle(&mut self, accepted: bool) {
+    fn settle(&mut self, begun: Option<Phase>) {
         if let Some(noted) = self.noted.take()
-            && accepted
+            && let Some(phase) = begun
         {
-            let _ = self.begun.push(noted);
+            let _ = self.begun.push(BegunPlay { noted, phase });
         }
     }
 }

@@ -3,7 +3,8 @@
 ghost use Rattle.std.specs.Prelude.{◌≡◌, ◌<◌, ◌^◌, ℕ, List, Some, length};
 ghost use Rattle.rtsp_lock.specs.Calls.{IsSeatOf};
 ghost use Rattle.rtsp_pacing.specs.Linking.{LinksBehind};
-ghost use Rattle.rtsp_pacing.specs.Plays.{KeepsOthers, IsChain};
+ghost use Rattle.rtsp_pacing.specs.Plays.{KeepsOthers, KeepsPlay, IsChain};
+ghost use Rattle.rtsp_pacing.specs.Beginning.{TakesOver};
 
 use crate::desk::{Paced, PacerDesk, PacerParts};
 use crate::inbox::Heard;
@@ -21,6 +22,10 @@ use std::time::Duration;
 /// The most slots of the wheel that are done before a pacer looks for new plays and its end, also
 /// where it is late.
 pub const SLOTS_AT_ONCE: u32 = 8;
+
+/// The most plays that are taken over one after another before turns are taken. A play that waits
+/// may be the one for which an earlier was left.
+pub const PLAYS_AT_ONCE: u32 = 64;
 
 // For how long a pacer without plays sleeps, in milliseconds.
 const IDLE: u64 = 1_000;
@@ -44,19 +49,20 @@ impl<R: Wait + Clock> Pacing<'_, R> {
         self.desk.clock.until(moment)
     }
 
-    // Takes a play over. Where its session is in no play any more, or there is no memory, it is
-    // dropped.
-    fn take_over(&mut self, asked: NewPlay) {
-        let session = asked.noted.session;
+    // Takes a play over, as its PLAY began it: where the session has left it, what was counted of
+    // it is still to be sent. It is dropped where the session is no more, where there is no memory,
+    // or where the play before it sends what was counted of it, too.
+    fn take_over(&mut self, asked: NewPlay)
+        ensures { TakesOver asked self.old.plays self.new.plays }
+    {
+        let NewPlay { begun, .. } = &asked;
+        let (session, phase) = (begun.noted.session, begun.phase);
         let Some(view) = self.desk.look(session) else {
             return;
         };
-        if let Some(latest) = self.plays.latest(session) {
-            if latest.is_of(&view) {
-                latest.ask_again(asked);
-                return;
-            }
-            latest.leave(&view);
+        let is_apart = self.plays.leave(session, phase);
+        if !is_apart && view.phase() != phase {
+            return;
         }
         let Some((play, due)) = PacedPlay::begin(&mut self.desk, asked, &view) else {
             return;
@@ -70,6 +76,7 @@ impl<R: Wait + Clock> Pacing<'_, R> {
 
     // Links a play to the slot of a moment, behind those that are linked there.
     fn link(&mut self, key: usize, due: u64)
+        ensures kept { KeepsPlay self.old.plays key self.new.plays }
         ensures others { KeepsOthers self.old.plays key self.new.plays }
         ensures behind { LinksBehind self.old.wheel self.old.plays key due self.new.wheel self.new.plays }
     {
@@ -139,13 +146,21 @@ pub fn pace<'a, R: Wait + Clock>(
         wheel,
         plays,
     };
+    let mut more = PLAYS_AT_ONCE;
     for _ in rt.forever() {
         let sleep = pacing.sleep();
         match bell.hear(rt, sleep) {
-            Heard::Play(asked) => pacing.take_over(asked),
+            Heard::Play(asked) => {
+                pacing.take_over(asked);
+                if more > 1 {
+                    more -= 1;
+                    continue;
+                }
+            }
             Heard::Nothing => {}
             Heard::Stop => break,
         }
+        more = PLAYS_AT_ONCE;
         pacing.turn_due();
     }
     pacing.desk.paced

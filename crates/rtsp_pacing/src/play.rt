@@ -1,6 +1,7 @@
 //! A play that a pacer sends.
 
-ghost use Rattle.std.specs.Prelude.{◌<◌};
+ghost use Rattle.std.specs.Prelude.{◌≡◌, ◌<◌, ◌↔◌, IsTrue, IfSome, unwrap_or};
+ghost use Rattle.rtsp_pacing.specs.Beginning.{Begins, IsApart};
 
 use crate::desk::PacerDesk;
 use crate::noted::NewPlay;
@@ -11,7 +12,7 @@ use rtsp_book::{Refusal, SessionView};
 use rtsp_content::{Players, Presentation};
 use rtsp_grammar::write_request;
 use rtsp_record::Phase;
-use rtsp_rtp::{LastTurn, Pacer, Turn};
+use rtsp_rtp::{LastTurn, Pacer, Turn, sent_before};
 use rtsp_sockets::Message;
 use rtsp_state::notify;
 use std::alloc::{AllocError, Global};
@@ -127,19 +128,23 @@ fn after(last: LastTurn) -> Turn {
 }
 
 impl PacedPlay {
-    // The play that the session is in, and the moment of its first turn. `None` where it is in
-    // none.
+    // The play that a PLAY began, and the moment of its first turn, also where the session has left
+    // it. `None` where nothing of it can be sent.
     pub(crate) fn begin<R: Wait>(
         desk: &mut PacerDesk<'_, R>,
         asked: NewPlay,
         view: &SessionView,
-    ) -> Option<(PacedPlay, u64)> {
-        let presentation = presentation_of(view)?;
-        let pacer = Pacer::start(view, desk.parts.table.presentation(presentation)?)?;
+    ) -> Option<(PacedPlay, u64)>
+        ensures begins { IfSome result (λ begun. Begins asked begun.0) }
+        ensures session { IfSome result (λ begun. begun.0.pacer.session ≡ view.now.0) }
+    {
+        let place = presentation_of(view)?;
+        let presentation = desk.parts.table.presentation(place)?;
+        let pacer = Pacer::start(view, asked.begun.phase, presentation)?;
         let due = pacer.next_due()?;
         let play = PacedPlay {
             asked,
-            presentation,
+            presentation: place,
             pacer,
             ways: Ways::of(desk.rt, &desk.parts, view),
             stage: Stage::Sending,
@@ -153,24 +158,18 @@ impl PacedPlay {
 
     // The session's number.
     pub(crate) fn session(&self) -> u64 {
-        self.asked.noted.session
+        self.asked.begun.noted.session
     }
 
-    // Whether it is the play that the view shows. Then another PLAY has asked for it too, and it is
-    // that one which is told of the end.
-    pub(crate) fn is_of(&self, view: &SessionView) -> bool {
-        self.stage == Stage::Sending && self.pacer.is_of(view.session(), view.phase())
-    }
-
-    pub(crate) fn ask_again(&mut self, asked: NewPlay) {
-        self.asked = asked;
-    }
-
-    // The session is in another play, as the view shows: what was counted up to there is this one's.
-    pub(crate) fn leave(&mut self, view: &SessionView) {
-        if self.left.is_none() {
-            self.left = Some(view.phase());
-        }
+    // The session began another play, in this phase: what was counted up to there is this one's.
+    // Whether no more than that is. More is where the session was seen only after it had left the
+    // other play, too.
+    pub(crate) fn leave(&mut self, next: Phase) -> bool
+        ensures left { self.new ≡ record self.old { left = Some (unwrap_or self.old.left next) } }
+        ensures apart { IsTrue result ↔ IsApart (unwrap_or self.old.left next) next }
+    {
+        let left = *self.left.get_or_insert(next);
+        sent_before(&left) == sent_before(&next)
     }
 
     // Takes the turn of the play, if its moment has come.
@@ -348,7 +347,8 @@ impl PacedPlay {
         let Phase::Ended { .. } = view.phase() else {
             return Ok(());
         };
-        let NewPlay { noted, conn } = &self.asked;
+        let NewPlay { begun, conn } = &self.asked;
+        let noted = &begun.noted;
         // A connection that was closed is told nothing.
         let Some(outlet) = desk.parts.outlets.get(desk.rt, *conn) else {
             return Ok(());

@@ -2,11 +2,12 @@
 
 ghost use Rattle.std.specs.Prelude.{◌≡◌, ◌+◌, ◌↔◌, ℕ, IfOk, IfSome, IfNone, IsSome, IsTrue, Some, None};
 ghost use Rattle.slab.specs.Slab.{get};
-ghost use Rattle.rtsp_pacing.specs.Plays.{HasRoom, KeepsOthers, IsLinked, Turns};
+ghost use Rattle.rtsp_pacing.specs.Plays.{HasRoom, KeepsNone, KeepsOthers, KeepsPlay, IsLinked, Turns};
 
 use crate::desk::PacerDesk;
 use crate::play::{Next, PacedPlay};
 use indexmap::IndexMap;
+use rtsp_record::Phase;
 use slab::Slab;
 use std::alloc::{AllocError, Global};
 use std::rt::Clock;
@@ -85,6 +86,7 @@ impl PacerPlays {
     // Links the play of a key behind another.
     pub(crate) fn link(&mut self, key: usize, before: Option<usize>)
         ensures linked { IsSome (get self.old.plays key) → IsLinked self.new key before }
+        ensures kept { KeepsPlay self.old key self.new }
         ensures others { KeepsOthers self.old key self.new }
     {
         if let Some(linked) = self.plays.get_mut(key) {
@@ -92,10 +94,18 @@ impl PacerPlays {
         }
     }
 
-    // The play of a session that was taken in last.
-    pub(crate) fn latest(&mut self, session: u64) -> Option<&mut PacedPlay> {
-        let key = *self.latest.get(&session)?;
-        Some(&mut self.plays.get_mut(key)?.play)
+    // A session began another play, in this phase: the one of it that was taken in last is left.
+    // Whether that sends nothing of what is counted for the other.
+    pub(crate) fn leave(&mut self, session: u64, next: Phase) -> bool
+        ensures { KeepsNone self.old self.new }
+    {
+        let Some(key) = self.latest.get(&session) else {
+            return true;
+        };
+        match self.plays.get_mut(*key) {
+            Some(latest) => latest.play.leave(next),
+            None => true,
+        }
     }
 
     // Drops the play of a key.

@@ -62,11 +62,11 @@ abbrev pub sources_from : Session → ℕ → List TrackValue → List Source
 sources_from f i [] = []
 sources_from f i (t ∷ ts) = with_source (source_under t (first_with (is_of_track i) (entries f.admissions))) (sources_from f (i + 1) ts)
 
--- the pacer of a session's play, where it plays
-abbrev pub started : ℕ × Session → PresentationValue → Option Pacing
-started v p =
-    if is_playing v.1.phase
-    then Some (record { session = v.0; phase = v.1.phase; unit_ms = p.unit_ms; sources = sources_from v.1 0 p.tracks; done = 0 })
+-- the pacer of a session's play that is in this phase, with the streams that the session has now; the phase is one of a play
+abbrev pub started : ℕ × Session → Phase → PresentationValue → Option Pacing
+started v phase p =
+    if is_playing phase
+    then Some (record { session = v.0; phase = phase; unit_ms = p.unit_ms; sources = sources_from v.1 0 p.tracks; done = 0 })
     else None
 
 -- the session and the phase are those that the pacer was made for

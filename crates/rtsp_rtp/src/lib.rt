@@ -27,6 +27,7 @@ mod unit;
 pub use buffer::Packet;
 pub use goodbye::ControlSink;
 pub use pacer::Pacer;
+pub use play::sent_before;
 pub use sink::{Sink, SinkFault};
 pub use source::Source;
 pub use turn::{LastTurn, Turn};

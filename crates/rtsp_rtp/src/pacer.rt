@@ -39,12 +39,12 @@ impl Model for Pacer {
 }
 
 impl Pacer {
-    /// A pacer for the play that the view shows, where it shows one. The presentation is that of
-    /// the session's streams.
-    pub fn start(view: &SessionView, presentation: &Presentation) -> Option<Self>
-        ensures { result ≡ started view.now presentation.now }
+    /// A pacer for a play of the session that the view shows, in this phase, where it is one of a
+    /// play. The session may have left it. The presentation is that of the session's streams.
+    pub fn start(view: &SessionView, phase: Phase, presentation: &Presentation) -> Option<Self>
+        ensures { result ≡ started view.now phase presentation.now }
     {
-        match view.phase() {
+        match phase {
             Phase::Playing {
                 from,
                 stop,

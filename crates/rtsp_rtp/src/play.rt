@@ -13,8 +13,8 @@ use crate::source::Source;
 use crate::sources::Sources;
 use rtsp_record::Phase;
 
-/// The units sent in earlier plays, modulo 2^32.
-pub(crate) fn sent_before(phase: &Phase) -> u32
+/// The units that a session in this phase sent in earlier plays, modulo 2^32.
+pub fn sent_before(phase: &Phase) -> u32
     ensures { result ≡ sent_before phase.now }
 {
     match *phase {

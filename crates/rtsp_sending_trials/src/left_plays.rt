@@ -1,21 +1,23 @@
-//! A play over a port of this host that its session leaves before all that is counted has gone: it
-//! is left at a moment that is still to come.
+//! Plays over a port of this host that their session leaves before all that is counted has gone:
+//! they are left at a moment that is still to come.
 
 ghost use Rattle.std.specs.Prelude.{◌≡◌};
 ghost use Rattle.rtsp_book.specs.Replies.{IsAskable};
-ghost use Rattle.rtsp_lock.specs.Calls.{IsSeatOf};
+ghost use Rattle.rtsp_lock.specs.Calls.{IsSeatOf, SameSeat};
 
 use crate::pairs_and_files::free_port;
 use crate::plays::{act, begin, files_of, hand_over, receiver};
-use rtsp_book::Step;
+use rtsp_book::{Play, Step};
 use rtsp_content::Table;
 use rtsp_engine::Binder;
 use rtsp_lock::{BookLock, BookSeat, open};
 use rtsp_metrics::Counters;
 use rtsp_pacing::{Bells, Paced, PacerParts, PacerPlays, pace};
 use rtsp_record::Whole;
-use rtsp_sockets::{Outlets, PortBinder, PortTable};
-use std::net::{Ipv4Addr, UdpSocket};
+use rtsp_sockets::{Media, Outlets, PortBinder, PortTable};
+use std::alloc::AllocError;
+use std::net::{Ipv4Addr, Net, UdpSocket};
+use std::process::Abort;
 use std::rt::Clock;
 use std::sync::Wait;
 use std::test::Fail;
@@ -45,7 +47,7 @@ ticks = 1600
 file = \"rtsp_sending_left.raw\"
 ";
 
-// Three units are counted at this moment, in milliseconds.
+// Of a play that begins at moment 0 three units are counted at this one, in milliseconds.
 const LEFT_AT: u64 = 500;
 
 const PAUSE: Step = Step::Pause {
@@ -54,51 +56,73 @@ const PAUSE: Step = Step::Pause {
     now: LEFT_AT,
 };
 
-// The sequence numbers that came, and how many packets.
+// Of that play two units are counted here, and then two of this one up to the pause.
+const SEEK: Step = Step::Play(Play {
+    session: 2,
+    from: Some(5),
+    stop: 8,
+    unit_ms: 200,
+    now: 250,
+});
+
+// When the session leaves its play.
+#[derive(Clone, Copy)]
+enum Leaving {
+    // It pauses while the play is sent.
+    Late,
+    // It has paused before the pacer hears of the play.
+    Early,
+    // It has sought, and then paused, before the pacer hears of either play.
+    Sought,
+}
+
+// The sequence numbers that came, the first bytes of their units, and how many packets.
 #[derive(Clone, Copy)]
 struct Came {
     seqs: [u8; 8],
+    units: [u8; 8],
     count: usize,
 }
 
-// Receives packets until none comes for a while.
-fn receive(media: &UdpSocket, came: &mut Came) {
-    let mut packet = [0; 100];
-    for _ in 0..8 {
-        if came.count >= 8 {
-            return;
-        }
+impl Came {
+    // Takes a packet of a unit, if it is one. Whether it was taken.
+    fn take(&mut self, media: &UdpSocket) -> bool {
+        let mut packet = [0; 100];
         let Ok(14) = media.recv(&mut packet) else {
-            return;
+            return false;
         };
-        came.seqs[came.count] = packet[3];
-        came.count += 1;
+        if self.count >= 8 {
+            return false;
+        }
+        self.seqs[self.count] = packet[3];
+        self.units[self.count] = packet[12];
+        self.count += 1;
+        true
     }
 }
 
-// Leaves the play once its first packet has come, and receives what comes after it.
+// Pauses once the first packet has come, and receives what comes after it, until none does for a
+// while.
 fn leave<R: Wait>(
     rt: &R,
     lock: &BookLock,
     seat: &mut BookSeat,
     bells: &Bells,
     media: &UdpSocket,
-    step: &Step,
 ) -> Came
-    requires own { IsSeatOf seat.old lock.now }
-    requires step { IsAskable step.now }
+    requires { IsSeatOf seat.old lock.now }
 {
     let mut came = Came {
         seqs: [0; 8],
+        units: [0; 8],
         count: 0,
     };
-    let mut packet = [0; 100];
-    if let Ok(14) = media.recv(&mut packet) {
-        came.seqs[0] = packet[3];
-        came.count = 1;
-    }
-    if act(rt, lock, seat, step) {
-        receive(media, &mut came);
+    if came.take(media) && act(rt, lock, seat, &PAUSE) {
+        for _ in 0..8 {
+            if !came.take(media) {
+                break;
+            }
+        }
     }
     bells.stop(rt);
     came
@@ -112,11 +136,9 @@ fn run<'a, R: Threads + Wait + Clock + AllocGlobal + Sync>(
     seats: (BookSeat, BookSeat),
     bells: &Bells,
     media: &UdpSocket,
-    step: Step,
 ) -> (Paced, Came)
     requires pacer { IsSeatOf seats.0 parts.lock.now }
     requires player { IsSeatOf seats.1 parts.lock.now }
-    requires step { IsAskable step }
 {
     let (seat, mut player) = seats;
     let lock = parts.lock;
@@ -126,53 +148,98 @@ fn run<'a, R: Threads + Wait + Clock + AllocGlobal + Sync>(
             requires { IsSeatOf seat parts.lock.now }
         { pace(rt, rt.alloc(), parts, seat, plays) },
         || -> Came
-            requires own { IsSeatOf player lock.now }
-            requires step { IsAskable step }
-        { leave(rt, lock, &mut player, bells, media, &step) },
+            requires { IsSeatOf player lock.now }
+        { leave(rt, lock, &mut player, bells, media) },
     )
+}
+
+// Hands the play over, and does what is done before the pacer hears of it.
+fn prepare<R: Wait + AllocGlobal>(
+    rt: &R,
+    lock: &BookLock,
+    seat: &mut BookSeat,
+    bells: &Bells,
+    leaving: Leaving,
+) -> Result<(), AllocError>
+    requires { IsSeatOf seat.old lock.now }
+    ensures { SameSeat seat.old seat.new }
+{
+    hand_over(rt, lock, seat, bells, 1)?;
+    if let Leaving::Sought = leaving {
+        act(rt, lock, seat, &SEEK);
+        hand_over(rt, lock, seat, bells, 1)?;
+    }
+    if let Leaving::Early | Leaving::Sought = leaving {
+        act(rt, lock, seat, &PAUSE);
+    }
+    Ok(())
+}
+
+// What a pacer sends, and what comes.
+fn sent<R: Abort + Threads + Wait + Clock + Net + AllocGlobal + Sync>(
+    rt: &R,
+    table: &Table,
+    files: &Media,
+    media: &UdpSocket,
+    leaving: Leaving,
+) -> Result<(Paced, Came), Fail> {
+    let pair = free_port(rt)?;
+    let (lock, mut seat) = open(rt.alloc(), &whole(pair))?;
+    let ports = PortTable::open(rt.alloc(), pair, 1)?;
+    let bound = PortBinder::new(rt, &ports, Ipv4Addr::LOCALHOST).bind(3, pair);
+    assert!(rt; bound.is_ok());
+    let begun = Instant::now(rt)?;
+    assert!(rt; begin(rt, &lock, &mut seat, pair, media.local_addr()?.port()));
+    let Ok(player) = seat.split(rt, &lock) else {
+        panic!(rt; "there are numbers")
+    };
+    let bells = Bells::new(rt.alloc(), 1, 4)?;
+    prepare(rt, &lock, &mut seat, &bells, leaving)?;
+    let Some(bell) = bells.of(2) else {
+        panic!(rt; "there is a pacer")
+    };
+    let parts = PacerParts {
+        lock: &lock,
+        table,
+        ports: &ports,
+        outlets: &Outlets::new(rt.alloc()),
+        media: files,
+        bell,
+        counters: &Counters::new(),
+        begun,
+    };
+    let plays = PacerPlays::open(rt.alloc(), 4)?;
+    Ok(run(rt, parts, plays, (seat, player), &bells, media))
+}
+
+fn whole(pair: u16) -> Whole {
+    Whole {
+        first_port: pair,
+        pairs: 1,
+        uplink: 160_000,
+        sessions: 4,
+        journal: 1_000,
+    }
+}
+
+// Whether these packets came, each once, and no other.
+fn is_all(came: &Came, seqs: &[u8], units: &[u8]) -> bool {
+    came.count <= 8 && &came.seqs[..came.count] == seqs && &came.units[..came.count] == units
 }
 
 #[test]
 fn what_was_counted_is_sent(rt: HostRuntime) -> Result<(), Fail> {
     let table = Table::read(rt.alloc(), SLOW_TONE.as_bytes())?;
     let files = files_of(&rt, &table, "rtsp_sending_left.raw")?;
-    let pair = free_port(&rt)?;
-    let whole = Whole {
-        first_port: pair,
-        pairs: 1,
-        uplink: 160_000,
-        sessions: 4,
-        journal: 1_000,
-    };
-    let (lock, mut seat) = open(rt.alloc(), &whole)?;
-    let ports = PortTable::open(rt.alloc(), pair, 1)?;
-    let bound = PortBinder::new(&rt, &ports, Ipv4Addr::LOCALHOST).bind(3, pair);
-    assert!(rt; bound.is_ok());
     let media = receiver(&rt)?;
     media.set_read_timeout(Some(Duration::from_secs(2)))?;
-    let begun = Instant::now(&rt)?;
-    assert!(rt; begin(&rt, &lock, &mut seat, pair, media.local_addr()?.port()));
-    let Ok(player) = seat.split(&rt, &lock) else {
-        panic!(rt; "there are numbers")
-    };
-    let bells = Bells::new(rt.alloc(), 1, 4)?;
-    hand_over(&rt, &bells, 1)?;
-    let Some(bell) = bells.of(2) else {
-        panic!(rt; "there is a pacer")
-    };
-    let parts = PacerParts {
-        lock: &lock,
-        table: &table,
-        ports: &ports,
-        outlets: &Outlets::new(rt.alloc()),
-        media: &files,
-        bell,
-        counters: &Counters::new(),
-        begun,
-    };
-    let plays = PacerPlays::open(rt.alloc(), 4)?;
-    let (paced, came) = run(&rt, parts, plays, (seat, player), &bells, &media, PAUSE);
-    assert!(rt; came.count == 3 && came.seqs[..3] == [250, 251, 252]);
-    assert!(rt; paced.packets == 3 && paced.lost == 0 && paced.reported == 0);
+    for leaving in [Leaving::Late, Leaving::Early] {
+        let (paced, came) = sent(&rt, &table, &files, &media, leaving)?;
+        assert!(rt; is_all(&came, &[250, 251, 252], b"abc"));
+        assert!(rt; paced.packets == 3 && paced.lost == 0 && paced.reported == 0);
+    }
+    let (paced, came) = sent(&rt, &table, &files, &media, Leaving::Sought)?;
+    assert!(rt; is_all(&came, &[250, 251, 252, 253], b"abfg"));
+    assert!(rt; paced.packets == 4 && paced.lost == 0 && paced.reported == 0);
     Ok(())
 }

@@ -191,15 +191,20 @@ pub(crate) fn receiver(rt: &HostRuntime) -> io::Result<UdpSocket> {
     Ok(socket)
 }
 
-// Hands the play of the session over to the pacers.
+// Hands the play that the session is in over to the pacers.
 pub(crate) fn hand_over<R: Wait + AllocGlobal>(
     rt: &R,
+    lock: &BookLock,
+    seat: &mut BookSeat,
     bells: &Bells,
     conn: u64,
-) -> Result<(), AllocError> {
+) -> Result<(), AllocError>
+    requires { IsSeatOf seat.old lock.now }
+    ensures { SameSeat seat.old seat.new }
+{
     let mut plays = NotedPlays::new(rt.alloc());
     plays.note(rt.alloc(), 2, 5, b"rtsp://h/tone")?;
-    plays.settle(true);
+    plays.settle(seat.phase(rt, lock, 2));
     plays.hand_over(rt, bells, conn);
     Ok(())
 }
@@ -230,7 +235,7 @@ fn a_play_is_sent_and_reported(rt: HostRuntime) -> Result<(), Fail> {
     player.set_read_timeout(Some(Duration::from_secs(5)))?;
     let outlet = Arc::new(rt.alloc(), outlet)?;
     let bells = Bells::new(rt.alloc(), 1, 4)?;
-    hand_over(&rt, &bells, 1)?;
+    hand_over(&rt, &lock, &mut seat, &bells, 1)?;
     let outlets = Outlets::new(rt.alloc());
     outlets.insert(&rt, 1, outlet)?;
     let Some(bell) = bells.of(2) else {

@@ -60,5 +60,5 @@ pub use screening::screen;
 pub use setup_plan::{Delivery, Drawn, SessionKey, SetupPlan, SetupSession};
 pub use state_table::decide;
 pub use status::Status;
-pub use step_plan::{Details, StepPlan};
+pub use step_plan::{Details, StepPlan, moved};
 pub use timing::Timing;

@@ -73,8 +73,8 @@ fn details_size(details: &Details) -> usize
     }
 }
 
-// The phase that a step moved to.
-fn moved(receipt: &Receipt) -> Option<Phase>
+/// The phase that a step moved to: in a play that was begun, the play's own.
+pub fn moved(receipt: &Receipt) -> Option<Phase>
     ensures { result ≡ moved receipt.now }
 {
     match receipt.records().first() {

@@ -1,5 +1,6 @@
 -- What the calls of a source of words, of a clock, of those who learn of plays and of those who count sessions by address do.
 use Rattle.std.specs.Prelude.{◌≡◌, ℕ, Bool, true, false, List, Option, Some, None}
+use Rattle.rtsp_record.specs.declared.phases.Phase.{Phase}
 use Rattle.rtsp_admit.specs.Binder.{Calls, raised}
 
 -- a source of words before and after each word that it gives, and a call that fails; and how many have failed
@@ -23,11 +24,11 @@ module _ {W : Type 0} (calls : WordCalls W) where
     pub count : calls.failures c ≡ raised (calls.failures b)
 
 -- those who learn of plays before and after a play is noted, by its session and by the number and the URI of its PLAY; one that finds no memory; and
--- the answer to it
+-- what came of it: the phase that it began, or none where it was refused
 pub record PlayCalls (P : Type 0) : Type 1 where
   pub notes : P → ℕ → ℕ → List ℕ → P → Type 0
   pub lacks : P → P → Type 0
-  pub settles : P → Bool → P → Type 0
+  pub settles : P → Option Phase → P → Type 0
 
 module _ {P : Type 0} (calls : PlayCalls P) where
   -- a play that is begun was noted; without one nothing was done
@@ -40,10 +41,10 @@ module _ {P : Type 0} (calls : PlayCalls P) where
   NotNoted None b c = ⊥
   NotNoted (Some session) b c = calls.lacks b c
 
-  -- it was settled
-  abbrev pub Settled : Option ℕ → Bool → P → P → Type 0
-  Settled None accepted b c = c ≡ b
-  Settled (Some session) accepted b c = calls.settles b accepted c
+  -- it was settled, by the phase that it began
+  abbrev pub Settled : Option ℕ → Option Phase → P → P → Type 0
+  Settled None begun b c = c ≡ b
+  Settled (Some session) begun b c = calls.settles b begun c
 
 -- those who count the sessions of each address before and after a place is taken by a player at an address, and one that is refused; before
 -- and after the place that was taken last is settled, with the number of the session that was opened, if one was; and how many were refused

@@ -3,6 +3,7 @@
 ghost use Rattle.std.specs.Prelude.{◌≡◌, OnOk, OnErr};
 ghost use Rattle.rtsp_traits.specs.Devices.{PlayCalls};
 
+use rtsp_record::Phase;
 use std::alloc::{AllocError, Global};
 
 /// Who learns of the plays that are begun, as the part that sends their packets.
@@ -17,8 +18,8 @@ pub trait Plays {
         ensures ok { OnOk result (calls.notes self.old session cseq uri.now self.new) }
         ensures err { OnErr result (calls.lacks self.old self.new) };
 
-    /// The play noted last was begun, or it was refused. Its answer is ready, but perhaps not yet
-    /// written.
-    fn settle(&mut self, accepted: bool)
-        ensures { calls.settles self.old accepted self.new };
+    /// The play noted last was begun, and this is the phase that its PLAY made; or it was refused.
+    /// Its answer is ready, but perhaps not yet written. The session may have left the phase by now.
+    fn settle(&mut self, begun: Option<Phase>)
+        ensures { calls.settles self.old begun self.new };
 }

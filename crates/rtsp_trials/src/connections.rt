@@ -4,7 +4,7 @@ use rtsp_content::Table;
 use rtsp_engine::*;
 use rtsp_grammar::MessageFault;
 use rtsp_lock::{BookLock, BookSeat, open};
-use rtsp_record::{Record, Whole};
+use rtsp_record::{Phase, Record, Whole};
 use rtsp_state::Room;
 use std::alloc::{AllocError, Global};
 use std::sync::Wait;
@@ -37,9 +37,9 @@ const ASK: &str = "GET_PARAMETER rtsp://h/tone RTSP/2.0\r\nCSeq: 2\r\n\
 struct Device {
     works: bool,
     failures: u64,
-    // The number of the PLAY noted last, and whether it was begun.
+    // The number of the PLAY noted last, and what came of it: the phase that it began, if any.
     noted: Option<u32>,
-    settled: Option<bool>,
+    settled: Option<Option<Phase>>,
     // The moment that it tells next.
     moment: u64,
 }
@@ -98,7 +98,7 @@ impl Words for Device {
 impl Plays for Device {
     ghost use Rattle.std.specs.Prelude.{⊤};
 
-    ghost calls = { record { notes = λ b session cseq uri c. ⊤; lacks = λ b c. ⊤; settles = λ b accepted c. ⊤ } };
+    ghost calls = { record { notes = λ b session cseq uri c. ⊤; lacks = λ b c. ⊤; settles = λ b begun c. ⊤ } };
 
     fn note(
         &mut self,
@@ -114,8 +114,8 @@ impl Plays for Device {
         Ok(())
     }
 
-    fn settle(&mut self, accepted: bool) {
-        self.settled = Some(accepted);
+    fn settle(&mut self, begun: Option<Phase>) {
+        self.settled = Some(begun);
     }
 }
 
@@ -218,7 +218,20 @@ fn a_play_is_noted_and_settled(rt: HostRuntime) -> Result<(), Fail> {
     let answer = b"RTP-Info: url=\"rtsp://h/tone/a\" ssrc=00000001:seq=2;rtptime=3\r\n\r\n";
     assert!(rt; conversation.room.as_bytes().ends_with(answer.as_slice()));
     assert!(rt; conversation.plays.noted == Some(2));
-    assert!(rt; conversation.plays.settled == Some(true));
+    let Some(
+        Some(
+            Phase::Playing {
+                from,
+                stop,
+                sent,
+                ..
+            },
+        ),
+    ) = conversation.plays.settled
+    else {
+        panic!(rt; "a play is begun")
+    };
+    assert!(rt; (from, stop, sent) == (0, 500, 0));
     Ok(())
 }
 
