@@ -13,6 +13,7 @@ mod peer;
 mod server;
 mod service;
 mod shown;
+mod watch;
 
 pub use halt::Halt;
 pub use limits::{HEAD, LIFE, PEERS};

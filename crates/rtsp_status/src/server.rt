@@ -5,25 +5,23 @@ use crate::limits::{HEAD, LIFE, PEERS};
 use crate::peer::Peer;
 use crate::service::StatusService;
 use crate::shown::Shown;
+use crate::watch::{EVENTS, Watch};
 use http_server::{Config, Connection};
 use mio::net::{TcpListener, TcpStream};
-use mio::unix::SourceFd;
-use mio::{Events, Interest, Poll, Token};
+use mio::{Interest, Token};
 use rtsp_metrics::Snapshot;
 use slab::Slab;
 use std::alloc::Global;
 use std::hash::RandomState;
 use std::io;
 use std::net::{Net, SocketAddr};
+use std::os::fd::AsRawFd;
 use std::random::RandomSource;
 use std::rt::Clock;
 use std::sync::Wait;
 use std::time::{Duration, Instant};
 
 const LISTENER: Token = Token(usize::MAX);
-
-// The most events that are taken at once.
-const EVENTS: usize = 64;
 
 // How often the server looks whether it is to end, and whether a connection has lasted too long.
 const LOOK: u64 = 250;
@@ -39,10 +37,26 @@ pub struct StatusServer {
     alloc: Global,
     keys: RandomState,
     listener: TcpListener,
-    poll: Poll,
-    events: Events<Global>,
+    watch: Watch,
     peers: Slab<Peer>,
     begun: Instant,
+}
+
+// A listener at an address, and what tells of those who come.
+fn listen<R: Net>(rt: &R, alloc: Global, address: SocketAddr) -> io::Result<(TcpListener, Watch)> {
+    let watch = Watch::new(rt, alloc)?;
+    let listener = TcpListener::bind(rt, address)?;
+    watch.add(listener.as_raw_fd(), LISTENER, Interest::READABLE)?;
+    Ok((listener, watch))
+}
+
+// How requests are read: a head of limited length, and no body.
+fn config() -> Config {
+    let mut config = Config::default();
+    config.limits.max_head_len = HEAD;
+    config.max_body_len = 0;
+    config.read_size = 1_024;
+    config
 }
 
 impl StatusServer {
@@ -52,19 +66,16 @@ impl StatusServer {
         alloc: Global,
         address: SocketAddr,
     ) -> io::Result<StatusServer> {
-        let listener = TcpListener::bind(rt, address)?;
-        let poll = Poll::new(rt)?;
-        let fd = std::os::fd::AsRawFd::as_raw_fd(&listener);
-        poll.registry()
-            .register(&mut SourceFd(&fd), LISTENER, Interest::READABLE)?;
+        let keys = RandomState::new(rt)?;
+        let begun = Instant::now(rt)?;
+        let (listener, watch) = listen(rt, alloc, address)?;
         Ok(StatusServer {
             alloc,
-            keys: RandomState::new(rt)?,
+            keys,
             listener,
-            poll,
-            events: Events::with_capacity(alloc, EVENTS)?,
+            watch,
             peers: Slab::new(alloc),
-            begun: Instant::now(rt)?,
+            begun,
         })
     }
 
@@ -96,37 +107,32 @@ impl StatusServer {
         found
     }
 
+    // Closes a connection, with which the system tells of it no more.
     fn end(&mut self, key: usize) {
-        if let Some(peer) = self.peers.try_remove(key) {
-            let fd = peer.fd();
-            let _ = self.poll.registry().deregister(&mut SourceFd(&fd));
-        }
+        drop(self.peers.try_remove(key));
     }
 
-    // Takes a connection in, or closes it where there is no memory.
-    fn receive(&mut self, stream: TcpStream, now: u64) {
+    // Closes the oldest connection where there are as many as there may be.
+    fn make_place(&mut self) {
         if self.peers.len() >= PEERS
             && let Some(key) = self.oldest()
         {
             self.end(key);
         }
-        let mut config = Config::default();
-        config.limits.max_head_len = HEAD;
-        config.max_body_len = 0;
-        config.read_size = 1_024;
-        let peer = Peer::new(stream, Connection::new(self.alloc, self.keys, config), now);
+    }
+
+    // Takes a connection in, or closes it where there is no memory.
+    fn receive(&mut self, stream: TcpStream, now: u64) {
+        self.make_place();
+        let http = Connection::new(self.alloc, self.keys, config());
+        let peer = Peer::new(stream, http, now);
         let fd = peer.fd();
         let Ok(key) = self.peers.insert(peer) else {
             return;
         };
         let both = Interest::READABLE | Interest::WRITABLE;
-        if self
-            .poll
-            .registry()
-            .register(&mut SourceFd(&fd), Token(key), both)
-            .is_err()
-        {
-            drop(self.peers.try_remove(key));
+        if self.watch.add(fd, Token(key), both).is_err() {
+            self.end(key);
         }
     }
 
@@ -161,20 +167,14 @@ impl StatusServer {
         }
     }
 
-    // The key of the event of this place, or that of the listener.
-    fn token_at(&self, place: usize) -> Option<usize> {
-        let event = self.events.iter().nth(place)?;
-        Some(event.token().0)
-    }
-
     // Visits those of which the system tells, and lets in those that wait.
     fn turn(&mut self, shown: &Shown, now: u64) {
         for place in 0..EVENTS {
-            let Some(key) = self.token_at(place) else {
+            let Some(token) = self.watch.token_at(place) else {
                 break;
             };
-            if key != LISTENER.0 {
-                self.visit(shown, key);
+            if token != LISTENER {
+                self.visit(shown, token.0);
             }
         }
         self.accept_all(now);
@@ -184,7 +184,7 @@ impl StatusServer {
     // One wait and what comes of it. The snapshot is taken before any request is answered from it;
     // where there is no memory for its texts, what was shown last is shown again.
     fn serve_once<S: Source>(&mut self, source: &mut S, shown: &mut Shown, now: u64) {
-        if !self.events.is_empty()
+        if !self.watch.is_quiet()
             && let Ok(fresh) = Shown::of(self.alloc, &source.snapshot())
         {
             *shown = fresh;
@@ -199,8 +199,7 @@ impl StatusServer {
             page: Vec::new(self.alloc),
         };
         for _ in rt.forever() {
-            let timeout = Some(Duration::from_millis(LOOK));
-            let _ = self.poll.poll(&mut self.events, timeout);
+            self.watch.wait(Duration::from_millis(LOOK));
             if halt.is_halted() {
                 break;
             }
