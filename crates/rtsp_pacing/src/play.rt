@@ -26,6 +26,9 @@ const REPORT_AGAIN: u64 = 1_000;
 // packets, or be read before them, and then GStreamer drops these.
 const GOODBYE_AFTER: u64 = 250;
 
+// Within how many milliseconds a pacer hears of a play, unless its lane stands still.
+const HEARD_WITHIN: u64 = 1_000;
+
 // How often, in milliseconds, it is looked whether a session was renewed whose player's ports refuse
 // packets.
 const LOOK_EVERY: u64 = 1_000;
@@ -76,8 +79,9 @@ pub(crate) struct PacedPlay {
     pacer: Pacer,
     ways: Ways,
     stage: Stage,
-    // The phase in which the session was seen first after it had left the play.
+    // The phase for which the session has left the play, as it was seen first.
     left: Option<Phase>,
+    waits_until: Option<u64>,
     renewal: Renewal,
     // The moments of its last turn and of its next one. A wheel that is late comes to it sooner.
     last: u64,
@@ -118,15 +122,6 @@ fn is_past(phase: Phase, unit_ms: u32, moment: u64) -> bool {
     }
 }
 
-// How a play goes on that the session has left. Once what was counted is sent there is nothing more
-// to do, and what can't be read then is lost.
-fn after(last: LastTurn) -> Turn {
-    match last {
-        LastTurn::More => Turn::More,
-        LastTurn::Done | LastTurn::NotLeft | LastTurn::SinkFailed => Turn::OtherPlay,
-    }
-}
-
 impl PacedPlay {
     // The play that a PLAY began, and the moment of its first turn, also where the session has left
     // it. `None` where nothing of it can be sent.
@@ -149,6 +144,7 @@ impl PacedPlay {
             ways: Ways::of(desk.rt, &desk.parts, view),
             stage: Stage::Sending,
             left: None,
+            waits_until: None,
             renewal: Renewal::unseen(),
             last: due,
             next: due,
@@ -277,18 +273,42 @@ impl PacedPlay {
         let due = self.pacer.next_due().unwrap_or(moment);
         let until = measured(due, unit_ms, moment.saturating_sub(self.last), moment);
         let packet = &mut desk.packet;
-        let mut turn = self.pacer.turn(session, phase, until, packet, &mut sink);
-        if turn == Turn::OtherPlay {
-            let left = *self.left.get_or_insert(phase);
-            let last = self
-                .pacer
-                .last_turn(session, left, until, packet, &mut sink);
-            turn = after(last);
-        }
+        let turn = self.pacer.turn(session, phase, until, packet, &mut sink);
+        let left = self.left.unwrap_or(phase);
+        let last = if turn == Turn::OtherPlay {
+            let pacer = &mut self.pacer;
+            Some(pacer.last_turn(session, left, until, packet, &mut sink))
+        } else {
+            None
+        };
         let (packets, lost, failed) = (sink.packets, sink.lost, sink.failed);
-        self.last = moment;
         desk.count(packets, lost, failed, moment.saturating_sub(due));
-        (turn, self.pacer.next_due())
+        self.last = moment;
+        (self.after(turn, last, left, moment), self.pacer.next_due())
+    }
+
+    // How a play goes on after a turn. Of one that the session has left, for this phase, there is
+    // nothing more to do once what was counted is sent, and what can't be read then is lost. Where it
+    // can't be left for the phase there was a play between: it waits until that is heard of.
+    fn after(&mut self, turn: Turn, last: Option<LastTurn>, left: Phase, moment: u64) -> Turn {
+        match last {
+            None => turn,
+            Some(LastTurn::More) => {
+                self.left = Some(left);
+                Turn::More
+            }
+            Some(LastTurn::NotLeft) if self.left.is_none() && moment < self.waits_until(moment) => {
+                Turn::More
+            }
+            Some(LastTurn::Done | LastTurn::NotLeft | LastTurn::SinkFailed) => Turn::OtherPlay,
+        }
+    }
+
+    // Until when it waits to hear of the play for which it was left, from when it is asked first.
+    fn waits_until(&mut self, moment: u64) -> u64 {
+        *self
+            .waits_until
+            .get_or_insert(moment.saturating_add(HEARD_WITHIN))
     }
 
     // Ends the play. Where that is refused, as for want of room in the journal, it is tried again
