@@ -65,6 +65,15 @@ const SEEK: Step = Step::Play(Play {
     now: 250,
 });
 
+// That play again from where it is, so that its numbers and units go on.
+const RESUME: Step = Step::Play(Play {
+    session: 2,
+    from: None,
+    stop: 8,
+    unit_ms: 200,
+    now: 250,
+});
+
 // When the session leaves its play.
 #[derive(Clone, Copy)]
 enum Leaving {
@@ -76,6 +85,8 @@ enum Leaving {
     Sought,
     // It seeks and pauses while the play is sent, and the pacer hears of the other play later.
     Unheard,
+    // It plays on where it is, and pauses, and the pacer hears of that play later.
+    Resumed,
 }
 
 // The sequence numbers that came, the first bytes of their units, and how many packets.
@@ -111,7 +122,7 @@ impl Came {
     }
 }
 
-// Pauses, and seeks before that, if so. The pacer hears of that once a unit was due.
+// Pauses, and begins another play before that, if so. The pacer hears of that once a unit was due.
 fn leave<R: Wait + Clock + AllocGlobal>(
     rt: &R,
     lock: &BookLock,
@@ -121,15 +132,18 @@ fn leave<R: Wait + Clock + AllocGlobal>(
 ) -> Result<(), AllocError>
     requires { IsSeatOf seat.old lock.now }
 {
-    let Leaving::Unheard = leaving else {
-        act(rt, lock, seat, &PAUSE);
-        return Ok(());
+    match leaving {
+        Leaving::Unheard => act(rt, lock, seat, &SEEK),
+        Leaving::Resumed => act(rt, lock, seat, &RESUME),
+        Leaving::Late | Leaving::Early | Leaving::Sought => {
+            act(rt, lock, seat, &PAUSE);
+            return Ok(());
+        }
     };
-    act(rt, lock, seat, &SEEK);
-    let sought = seat.phase(rt, lock, 2);
+    let begun = seat.phase(rt, lock, 2);
     act(rt, lock, seat, &PAUSE);
     thread::sleep(rt, Duration::from_millis(300));
-    hand_over(rt, bells, sought)
+    hand_over(rt, bells, begun)
 }
 
 // Leaves the play once its first packet has come, and receives what comes after it, until none
@@ -275,9 +289,13 @@ fn what_was_counted_is_sent(rt: HostRuntime) -> Result<(), Fail> {
         assert!(rt; is_all(&came, &[250, 251, 252], b"abc"));
         assert!(rt; paced.packets == 3 && paced.lost == 0 && paced.reported == 0);
     }
-    for leaving in [Leaving::Sought, Leaving::Unheard] {
+    for (leaving, units) in [
+        (Leaving::Sought, b"abfg"),
+        (Leaving::Unheard, b"abfg"),
+        (Leaving::Resumed, b"abcd"),
+    ] {
         let (paced, came) = sent(&rt, &table, &files, &media, leaving)?;
-        assert!(rt; is_all(&came, &[250, 251, 252, 253], b"abfg"));
+        assert!(rt; is_all(&came, &[250, 251, 252, 253], units));
         assert!(rt; paced.packets == 4 && paced.lost == 0 && paced.reported == 0);
     }
     Ok(())
