@@ -87,7 +87,7 @@ class Watched:
         self.stops_at(answers[-1])
 
     def stops_at(self, answer: Message, made_up_in: float = 0.0) -> None:
-        """Holds what came up to the point that the answer to a PAUSE tells of against it, once what was late has come."""
+        """Holds what came against the point that the answer to a PAUSE tells of, once what was late has come."""
         self.player.connection.wait(made_up_in + UNDER_WAY)
         began = self.plays[-1]
         self.all_came(began.place + self.first_unit(answer) - began.unit, "the point")
@@ -200,15 +200,21 @@ def plays_that_are_left_at_once(watched: Watched) -> None:
     watched.player.tear_down()
 
 
+def left_at_once(checks: Checks, server: Server) -> None:
+    """A player for each way."""
+    players = [Watched(checks, server, way) for way in (Way.UDP, Way.ONE_PORT, Way.TCP)]
+    side_by_side(checks, *(lambda it=it: plays_that_are_left_at_once(it) for it in players))
+
+
 @serving_test(limit=60)
 def plays_left_at_once(checks: Checks) -> None:
-    """A PAUSE, or a seek and a PAUSE, in one write with the PLAY before them: what they count of each play comes, once."""
+    """A PLAY, and a PAUSE or a seek and a PAUSE behind it, in one write: what each play counts comes, once."""
     with Server(checks, SHORT_UNITS) as server:
-        side_by_side(checks, *(lambda it=it: plays_that_are_left_at_once(Watched(checks, server, it)) for it in Way if it is not Way.LENT))
+        left_at_once(checks, server)
 
 
 @serving_test(limit=60)
 def plays_left_at_once_on_a_busy_machine(checks: Checks) -> None:
-    """The same while all cores are busy, so that the pacers hear of the plays late."""
+    """The same while all cores are busy, so that pacers hear of the plays late."""
     with BusyMachine(), Server(checks, SHORT_UNITS) as server:
-        side_by_side(checks, *(lambda it=it: plays_that_are_left_at_once(Watched(checks, server, it)) for it in Way if it is not Way.LENT))
+        left_at_once(checks, server)
