@@ -5,10 +5,11 @@ import random
 import re
 import signal
 import threading
-from typing import Callable, List, NamedTuple
+from typing import Callable, List, NamedTuple, Optional
 
 from checks import Checks
-from rtsp_client.messages import Message
+from rtsp_client.connection import VERSION
+from rtsp_client.messages import Message, written
 from rtsp_client.player import Player, Stream, Way
 
 from .plays import UNDER_WAY, runs, side_by_side
@@ -25,6 +26,8 @@ PLAYED = 0.02, 0.08
 SHORT_STOP, LONG_STOP = 0.04, 0.2
 # How often it is stopped.
 STOPS = 20
+# How often a player asks for plays and a PAUSE at once.
+AT_ONCE = 60
 
 
 class Begun(NamedTuple):
@@ -50,15 +53,41 @@ class Watched:
         begins = re.match(r"npt=(\d+\.?\d*)-", answer.header("Range") or "")
         return round(float(begins[1]) * 1000 / self.unit_ms)
 
-    def play(self, *start: float) -> None:
-        """Plays from a second on, or from where it stopped."""
-        answer = self.player.play(*start)
+    def begins(self, answer: Message) -> None:
+        """Notes the play that the answer to a PLAY tells of."""
         told = re.search(r"seq=(\d+)", answer.header("RTP-Info") or "")
         self.plays.append(Begun(self.stream.reception.place_of(int(told[1])), self.first_unit(answer)))
 
+    def play(self, *start: float) -> None:
+        """Plays from a second on, or from where it stopped."""
+        self.begins(self.player.play(*start))
+
     def pause(self, made_up_in: float = 0.0) -> None:
         """Pauses, and holds what came up to there against the point, once what was late has come."""
-        answer = self.player.pause()
+        self.stops_at(self.player.pause(), made_up_in)
+
+    def request(self, method: str, start: Optional[float] = None) -> bytes:
+        """A request of the session, which isn't sent yet; of a PLAY from a second on, or from where it stopped."""
+        connection = self.player.connection
+        connection.cseq += 1
+        headers = [("CSeq", str(connection.cseq)), ("Session", self.player.session or "")]
+        headers += [("Range", f"npt={start:.3f}-")] if start is not None else []
+        return written(f"{method} {self.player.uri} {VERSION}", headers)
+
+    def at_once(self, *starts: Optional[float]) -> None:
+        """Plays from there on, one after another, and pauses, all in one write: each play is left before it is sent."""
+        connection = self.player.connection
+        methods = ["PLAY"] * len(starts) + ["PAUSE"]
+        connection.send_bytes(b"".join(map(self.request, methods, [*starts, None])))
+        answers = [connection.answer(connection.cseq - it) for it in reversed(range(len(methods)))]
+        self.checks.same(f"{self.where}: answers", [200] * len(methods), [it.status for it in answers])
+        for answer in answers[:-1]:
+            self.begins(answer)
+        self.player.is_playing = False
+        self.stops_at(answers[-1])
+
+    def stops_at(self, answer: Message, made_up_in: float = 0.0) -> None:
+        """Holds what came against the point that the answer to a PAUSE tells of, once what was late has come."""
         self.player.connection.wait(made_up_in + UNDER_WAY)
         began = self.plays[-1]
         self.all_came(began.place + self.first_unit(answer) - began.unit, "the point")
@@ -154,3 +183,38 @@ def pauses_of_a_server_that_stood_still(checks: Checks) -> None:
                 watched.pause(stop)
             watched.units_fit()
             watched.player.tear_down()
+
+
+def plays_that_are_left_at_once(watched: Watched) -> None:
+    """Plays that a PAUSE or a seek right behind them ends, from a pause and in the midst of a play."""
+    watched.play()
+    watched.goes()
+    watched.pause()
+    for number in range(AT_ONCE):
+        if number % 4 == 3:
+            watched.play()
+            watched.goes()
+        seek = random.randrange(30)
+        watched.at_once(*[[None], [seek], [None, seek]][number % 3])
+    watched.units_fit()
+    watched.player.tear_down()
+
+
+def left_at_once(checks: Checks, server: Server) -> None:
+    """A player for each way."""
+    players = [Watched(checks, server, way) for way in (Way.UDP, Way.ONE_PORT, Way.TCP)]
+    side_by_side(checks, *(lambda it=it: plays_that_are_left_at_once(it) for it in players))
+
+
+@serving_test(limit=60)
+def plays_left_at_once(checks: Checks) -> None:
+    """A PLAY, and a PAUSE or a seek and a PAUSE behind it, in one write: what each play counts comes, once."""
+    with Server(checks, SHORT_UNITS) as server:
+        left_at_once(checks, server)
+
+
+@serving_test(limit=60)
+def plays_left_at_once_on_a_busy_machine(checks: Checks) -> None:
+    """The same while all cores are busy, so that pacers hear of the plays late."""
+    with BusyMachine(), Server(checks, SHORT_UNITS) as server:
+        left_at_once(checks, server)

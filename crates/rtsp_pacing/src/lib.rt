@@ -16,6 +16,7 @@ mod pacing;
 mod play;
 mod plays;
 mod refusals;
+mod renewal;
 mod reports;
 mod sink;
 mod ways;

@@ -5,6 +5,7 @@ ghost use Rattle.rtsp_pacing.specs.Beginning.{Begins, IsApart};
 
 use crate::desk::PacerDesk;
 use crate::noted::NewPlay;
+use crate::renewal::Renewal;
 use crate::sink::{PacketSink, WaysOfControl};
 use crate::ways::Ways;
 use crate::when::{measured, next_unit};
@@ -26,9 +27,8 @@ const REPORT_AGAIN: u64 = 1_000;
 // packets, or be read before them, and then GStreamer drops these.
 const GOODBYE_AFTER: u64 = 250;
 
-// How often, in milliseconds, it is looked whether a session was renewed whose player's ports refuse
-// packets.
-const LOOK_EVERY: u64 = 1_000;
+// Within how many milliseconds a pacer hears of a play, unless a thread is kept from running.
+const HEARD_WITHIN: u64 = 250;
 
 // How far a play is.
 #[derive(Clone, Copy, PartialEq, Eq)]
@@ -40,33 +40,6 @@ enum Stage {
     Reported,
 }
 
-// The end of a session as it was seen while packets were refused, and when to look again.
-#[derive(Clone, Copy)]
-struct Renewal {
-    end: Option<u64>,
-    look_at: u64,
-}
-
-impl Renewal {
-    fn unseen() -> Renewal {
-        Renewal {
-            end: None,
-            look_at: 0,
-        }
-    }
-
-    // The end of the session is seen at a moment. Whether it was renewed since it was seen last.
-    fn see(&mut self, end: u64, moment: u64) -> bool {
-        let is_renewed = match self.end {
-            Some(seen) => seen != end,
-            None => false,
-        };
-        self.end = Some(end);
-        self.look_at = moment.saturating_add(LOOK_EVERY);
-        is_renewed
-    }
-}
-
 // A play that a pacer sends: who asked for it, what is sent, where it goes, and how far it is.
 #[derive(Drop)]
 pub(crate) struct PacedPlay {
@@ -76,8 +49,10 @@ pub(crate) struct PacedPlay {
     pacer: Pacer,
     ways: Ways,
     stage: Stage,
-    // The phase in which the session was seen first after it had left the play.
+    // The phase for which the session has left the play, as it was seen first.
     left: Option<Phase>,
+    // Until when it waits to hear of the session's next play.
+    waits_until: Option<u64>,
     renewal: Renewal,
     // The moments of its last turn and of its next one. A wheel that is late comes to it sooner.
     last: u64,
@@ -118,15 +93,6 @@ fn is_past(phase: Phase, unit_ms: u32, moment: u64) -> bool {
     }
 }
 
-// How a play goes on that the session has left. Once what was counted is sent there is nothing more
-// to do, and what can't be read then is lost.
-fn after(last: LastTurn) -> Turn {
-    match last {
-        LastTurn::More => Turn::More,
-        LastTurn::Done | LastTurn::NotLeft | LastTurn::SinkFailed => Turn::OtherPlay,
-    }
-}
-
 impl PacedPlay {
     // The play that a PLAY began, and the moment of its first turn, also where the session has left
     // it. `None` where nothing of it can be sent.
@@ -149,6 +115,7 @@ impl PacedPlay {
             ways: Ways::of(desk.rt, &desk.parts, view),
             stage: Stage::Sending,
             left: None,
+            waits_until: None,
             renewal: Renewal::unseen(),
             last: due,
             next: due,
@@ -165,11 +132,16 @@ impl PacedPlay {
     // Whether no more than that is. More is where the session was seen only after it had left the
     // other play, too.
     pub(crate) fn leave(&mut self, next: Phase) -> bool
-        ensures left { self.new ≡ record self.old { left = Some (unwrap_or self.old.left next) } }
+        ensures left { self.new.left ≡ Some (unwrap_or self.old.left next) }
+        ensures pacer { self.new.pacer ≡ self.old.pacer }
         ensures apart { IsTrue result ↔ IsApart (unwrap_or self.old.left next) next }
     {
         let left = *self.left.get_or_insert(next);
-        sent_before(&left) == sent_before(&next)
+        if sent_before(&left) != sent_before(&next) {
+            return false;
+        }
+        self.waits_until = Some(0);
+        true
     }
 
     // Takes the turn of the play, if its moment has come.
@@ -231,7 +203,8 @@ impl PacedPlay {
                 Next::At(next_unit(due, unit_ms, moment))
             }
             (Turn::AtEnd | Turn::SinkFailed, _) => self.finish(alloc, desk, presentation, moment),
-            (Turn::OtherPlay, _) | (Turn::More, None) => Next::Never,
+            (Turn::OtherPlay, _) => self.wait(unit_ms, moment),
+            (Turn::More, None) => Next::Never,
         }
     }
 
@@ -277,18 +250,52 @@ impl PacedPlay {
         let due = self.pacer.next_due().unwrap_or(moment);
         let until = measured(due, unit_ms, moment.saturating_sub(self.last), moment);
         let packet = &mut desk.packet;
-        let mut turn = self.pacer.turn(session, phase, until, packet, &mut sink);
-        if turn == Turn::OtherPlay {
-            let left = *self.left.get_or_insert(phase);
-            let last = self
-                .pacer
-                .last_turn(session, left, until, packet, &mut sink);
-            turn = after(last);
-        }
+        let turn = self.pacer.turn(session, phase, until, packet, &mut sink);
+        let left = self.left.unwrap_or(phase);
+        let last = if turn == Turn::OtherPlay {
+            let pacer = &mut self.pacer;
+            Some(pacer.last_turn(session, left, until, packet, &mut sink))
+        } else {
+            None
+        };
         let (packets, lost, failed) = (sink.packets, sink.lost, sink.failed);
-        self.last = moment;
         desk.count(packets, lost, failed, moment.saturating_sub(due));
-        (turn, self.pacer.next_due())
+        self.last = moment;
+        (self.after(turn, last, left), self.pacer.next_due())
+    }
+
+    // What came of a turn, also of a play that the session has left, for this phase. What can't be read
+    // then is lost.
+    fn after(&mut self, turn: Turn, last: Option<LastTurn>, left: Phase) -> Turn {
+        match last {
+            None => turn,
+            Some(LastTurn::NotLeft) => Turn::OtherPlay,
+            Some(LastTurn::SinkFailed) => {
+                self.waits_until = Some(0);
+                Turn::OtherPlay
+            }
+            Some(LastTurn::More) => {
+                self.left = Some(left);
+                Turn::More
+            }
+            Some(LastTurn::Done) => {
+                self.left = Some(left);
+                Turn::OtherPlay
+            }
+        }
+    }
+
+    // When a play has its next turn that the session has left, and of which nothing is to be sent now.
+    // The next play may be on its way to the pacer: the phase of that says how far this one goes, and
+    // what this one has sent is not to be sent by that, too.
+    fn wait(&mut self, unit_ms: u32, moment: u64) -> Next {
+        let until = *self
+            .waits_until
+            .get_or_insert(moment.saturating_add(HEARD_WITHIN));
+        if until <= moment {
+            return Next::Never;
+        }
+        Next::At(until.min(moment.saturating_add(u64::from(unit_ms))))
     }
 
     // Ends the play. Where that is refused, as for want of room in the journal, it is tried again

@@ -31,7 +31,7 @@ pub struct PacerPlays {
 impl PacerPlays {
     /// No play yet. Memory for so many at once is taken here: with as many as there may be sessions
     /// a play needs none later, unless its session begins another before the next unit of the last,
-    /// or before that has said goodbye.
+    /// within a quarter of a second of leaving that, or before it has said goodbye.
     pub fn open(alloc: Global, count: usize) -> Result<PacerPlays, AllocError>
         ensures room { IfOk result (λ p. HasRoom p count) }
     {

@@ -65,6 +65,15 @@ const SEEK: Step = Step::Play(Play {
     now: 250,
 });
 
+// That play again from where it is, so that its numbers and units go on.
+const RESUME: Step = Step::Play(Play {
+    session: 2,
+    from: None,
+    stop: 8,
+    unit_ms: 200,
+    now: 250,
+});
+
 // When the session leaves its play.
 #[derive(Clone, Copy)]
 enum Leaving {
@@ -74,6 +83,10 @@ enum Leaving {
     Early,
     // It has sought, and then paused, before the pacer hears of either play.
     Sought,
+    // It seeks and pauses while the play is sent, and the pacer hears of the other play later.
+    Unheard,
+    // It plays on where it is, and pauses, and the pacer hears of that play later.
+    Resumed,
 }
 
 // The sequence numbers that came, the first bytes of their units, and how many packets.
@@ -99,16 +112,49 @@ impl Came {
         self.count += 1;
         true
     }
+
+    // Whether a packet of this number came with this unit.
+    fn has(&self, seq: u8, unit: u8) -> bool {
+        self.seqs
+            .iter()
+            .zip(&self.units)
+            .any(|(came, of)| *came == seq && *of == unit)
+    }
 }
 
-// Pauses once the first packet has come, and receives what comes after it, until none does for a
-// while.
-fn leave<R: Wait>(
+// Pauses, and begins another play before that, if so. The pacer hears of that once a unit was due.
+fn leave<R: Wait + Clock + AllocGlobal>(
+    rt: &R,
+    lock: &BookLock,
+    seat: &mut BookSeat,
+    bells: &Bells,
+    leaving: Leaving,
+) -> Result<(), AllocError>
+    requires { IsSeatOf seat.old lock.now }
+{
+    match leaving {
+        Leaving::Unheard => act(rt, lock, seat, &SEEK),
+        Leaving::Resumed => act(rt, lock, seat, &RESUME),
+        Leaving::Late | Leaving::Early | Leaving::Sought => {
+            act(rt, lock, seat, &PAUSE);
+            return Ok(());
+        }
+    };
+    let begun = seat.phase(rt, lock, 2);
+    act(rt, lock, seat, &PAUSE);
+    thread::sleep(rt, Duration::from_millis(300));
+    hand_over(rt, bells, begun)
+}
+
+// Leaves the play once its first packet has come, and receives what comes after it, until none
+// does for a while.
+fn receive<R: Wait + Clock + AllocGlobal>(
     rt: &R,
     lock: &BookLock,
     seat: &mut BookSeat,
     bells: &Bells,
     media: &UdpSocket,
+    leaving: Leaving,
 ) -> Came
     requires { IsSeatOf seat.old lock.now }
 {
@@ -117,7 +163,7 @@ fn leave<R: Wait>(
         units: [0; 8],
         count: 0,
     };
-    if came.take(media) && act(rt, lock, seat, &PAUSE) {
+    if came.take(media) && leave(rt, lock, seat, bells, leaving).is_ok() {
         for _ in 0..8 {
             if !came.take(media) {
                 break;
@@ -136,6 +182,7 @@ fn run<'a, R: Threads + Wait + Clock + AllocGlobal + Sync>(
     seats: (BookSeat, BookSeat),
     bells: &Bells,
     media: &UdpSocket,
+    leaving: Leaving,
 ) -> (Paced, Came)
     requires pacer { IsSeatOf seats.0 parts.lock.now }
     requires player { IsSeatOf seats.1 parts.lock.now }
@@ -149,7 +196,7 @@ fn run<'a, R: Threads + Wait + Clock + AllocGlobal + Sync>(
         { pace(rt, rt.alloc(), parts, seat, plays) },
         || -> Came
             requires { IsSeatOf player lock.now }
-        { leave(rt, lock, &mut player, bells, media) },
+        { receive(rt, lock, &mut player, bells, media, leaving) },
     )
 }
 
@@ -164,10 +211,10 @@ fn prepare<R: Wait + AllocGlobal>(
     requires { IsSeatOf seat.old lock.now }
     ensures { SameSeat seat.old seat.new }
 {
-    hand_over(rt, lock, seat, bells, 1)?;
+    hand_over(rt, bells, seat.phase(rt, lock, 2))?;
     if let Leaving::Sought = leaving {
         act(rt, lock, seat, &SEEK);
-        hand_over(rt, lock, seat, bells, 1)?;
+        hand_over(rt, bells, seat.phase(rt, lock, 2))?;
     }
     if let Leaving::Early | Leaving::Sought = leaving {
         act(rt, lock, seat, &PAUSE);
@@ -209,7 +256,7 @@ fn sent<R: Abort + Threads + Wait + Clock + Net + AllocGlobal + Sync>(
         begun,
     };
     let plays = PacerPlays::open(rt.alloc(), 4)?;
-    Ok(run(rt, parts, plays, (seat, player), &bells, media))
+    Ok(run(rt, parts, plays, (seat, player), &bells, media, leaving))
 }
 
 fn whole(pair: u16) -> Whole {
@@ -222,9 +269,13 @@ fn whole(pair: u16) -> Whole {
     }
 }
 
-// Whether these packets came, each once, and no other.
+// Whether these packets came, in any order, each once, and no other.
 fn is_all(came: &Came, seqs: &[u8], units: &[u8]) -> bool {
-    came.count <= 8 && &came.seqs[..came.count] == seqs && &came.units[..came.count] == units
+    came.count == seqs.len()
+        && seqs
+            .iter()
+            .zip(units)
+            .all(|(seq, unit)| came.has(*seq, *unit))
 }
 
 #[test]
@@ -238,8 +289,14 @@ fn what_was_counted_is_sent(rt: HostRuntime) -> Result<(), Fail> {
         assert!(rt; is_all(&came, &[250, 251, 252], b"abc"));
         assert!(rt; paced.packets == 3 && paced.lost == 0 && paced.reported == 0);
     }
-    let (paced, came) = sent(&rt, &table, &files, &media, Leaving::Sought)?;
-    assert!(rt; is_all(&came, &[250, 251, 252, 253], b"abfg"));
-    assert!(rt; paced.packets == 4 && paced.lost == 0 && paced.reported == 0);
+    for (leaving, units) in [
+        (Leaving::Sought, b"abfg"),
+        (Leaving::Unheard, b"abfg"),
+        (Leaving::Resumed, b"abcd"),
+    ] {
+        let (paced, came) = sent(&rt, &table, &files, &media, leaving)?;
+        assert!(rt; is_all(&came, &[250, 251, 252, 253], units));
+        assert!(rt; paced.packets == 4 && paced.lost == 0 && paced.reported == 0);
+    }
     Ok(())
 }

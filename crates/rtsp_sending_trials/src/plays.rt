@@ -12,7 +12,7 @@ use rtsp_engine::{Binder, Plays};
 use rtsp_lock::{BookLock, BookSeat, open};
 use rtsp_metrics::{Counters, Packets};
 use rtsp_pacing::{Bells, NotedPlays, Paced, PacerParts, PacerPlays, pace};
-use rtsp_record::{Id, Stream, Whole};
+use rtsp_record::{Id, Phase, Stream, Whole};
 use rtsp_sockets::{Media, Outlets, PortBinder, PortTable};
 use std::alloc::AllocError;
 use std::io::Read;
@@ -191,21 +191,16 @@ pub(crate) fn receiver(rt: &HostRuntime) -> io::Result<UdpSocket> {
     Ok(socket)
 }
 
-// Hands the play that the session is in over to the pacers.
+// Hands a play of the session over to the pacers, that of the phase that its PLAY made.
 pub(crate) fn hand_over<R: Wait + AllocGlobal>(
     rt: &R,
-    lock: &BookLock,
-    seat: &mut BookSeat,
     bells: &Bells,
-    conn: u64,
-) -> Result<(), AllocError>
-    requires { IsSeatOf seat.old lock.now }
-    ensures { SameSeat seat.old seat.new }
-{
+    phase: Option<Phase>,
+) -> Result<(), AllocError> {
     let mut plays = NotedPlays::new(rt.alloc());
     plays.note(rt.alloc(), 2, 5, b"rtsp://h/tone")?;
-    plays.settle(seat.phase(rt, lock, 2));
-    plays.hand_over(rt, bells, conn);
+    plays.settle(phase);
+    plays.hand_over(rt, bells, 1);
     Ok(())
 }
 
@@ -235,7 +230,7 @@ fn a_play_is_sent_and_reported(rt: HostRuntime) -> Result<(), Fail> {
     player.set_read_timeout(Some(Duration::from_secs(5)))?;
     let outlet = Arc::new(rt.alloc(), outlet)?;
     let bells = Bells::new(rt.alloc(), 1, 4)?;
-    hand_over(&rt, &lock, &mut seat, &bells, 1)?;
+    hand_over(&rt, &bells, seat.phase(&rt, &lock, 2))?;
     let outlets = Outlets::new(rt.alloc());
     outlets.insert(&rt, 1, outlet)?;
     let Some(bell) = bells.of(2) else {

@@ -1,6 +1,9 @@
-use Rattle.std.proofs.Common.{◌++◌, List, ℕ, Ok, refl, ap, ◌∙◌}
+use Rattle.std.proofs.Common.{◌++◌, List, ℕ, Ok, Option, refl, ap, subst, ◌∙◌}
 use Rattle.rtsp_grammar.specs.Writing.{response_text}
+use Rattle.rtsp_record.specs.declared.phases.Phase.{Phase}
 use Rattle.rtsp_state.specs.Answer.{step_answer}
+use Rattle.rtsp_traits.specs.Devices.{Settled}
+use Rattle.rtsp_engine.specs.Conducting.{played}
 use Rattle.rtsp_engine.proofs.conducting.conduct_step.Goals as goal
 
 pub returns-in-Ok-clause-ok : goal.returns-in-Ok-clause-ok
@@ -14,7 +17,7 @@ returns-in-Ok-clause-ok g c =
         made = made;
         acted = c.in-Ok.ensures.acted;
         unbound = c.in-Ok.ensures.unbound;
-        settled = c.settle.ensures;
+        settled = subst (λ (begun : Option Phase). Settled g.P.Plays.calls (played c.args.plan.now.step) begun c.note.new.plays c.settle.new.plays) c.moved.ensures c.settle.ensures;
         answer = refl;
         words = refl;
         clock = refl;
