@@ -26,9 +26,9 @@ abbrev pub begun_by : Option Phase → Option NotedPlay → List BegunPlay
 begun_by None noted = []
 begun_by (Some phase) noted = option_to_list (option_map (λ play. record { noted = play; phase = phase }) noted)
 
-pub record Settles (b : NotedPlays) (begun : Option Phase) (c : NotedPlays) : Type 0 where
+pub record Settles (b : NotedPlays) (phase : Option Phase) (c : NotedPlays) : Type 0 where
   pub noted : c.noted ≡ None
-  pub begun : c.begun.items ≡ b.begun.items ++ begun_by begun b.noted
+  pub begun : c.begun.items ≡ b.begun.items ++ begun_by phase b.noted
 
 abbrev pub calls : PlayCalls NotedPlays
 calls = record { notes = Notes; lacks = Lacks; settles = Settles }

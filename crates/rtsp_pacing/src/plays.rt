@@ -48,6 +48,7 @@ impl PacerPlays {
         ensures kept { IfSome result (λ key. get self.new.plays key ≡ Some (record { play = play; before = None })) }
         ensures new { IfSome result (λ key. get self.old.plays key ≡ None) }
         ensures others { IfSome result (λ key. KeepsOthers self.old key self.new) }
+        ensures dropped { IfNone result (KeepsNone self.old self.new) }
         ensures room { (n : ℕ) → HasRoom self.old (n + 1) → HasRoom self.new n }
     {
         let session = play.session();
