@@ -6,7 +6,7 @@ use crate::desk::PacerDesk;
 use crate::noted::NewPlay;
 use crate::sink::{PacketSink, WaysOfControl};
 use crate::ways::Ways;
-use crate::when::{measured, next_unit};
+use crate::when::{is_given_up, look_again, measured, next_unit};
 use rtsp_book::{Refusal, SessionView};
 use rtsp_content::{Players, Presentation};
 use rtsp_grammar::write_request;
@@ -81,6 +81,14 @@ pub(crate) struct PacedPlay {
     // The moments of its last turn and of its next one. A wheel that is late comes to it sooner.
     last: u64,
     next: u64,
+}
+
+// What came of sending: of a turn, with when the next packet is due, unless the unit that is due
+// isn't at hand; then when to look again.
+#[derive(Clone, Copy)]
+enum Sending {
+    Turned(Turn, Option<u64>),
+    Waits(u64),
 }
 
 // When a play has its next turn.
@@ -226,7 +234,11 @@ impl PacedPlay {
     ) -> Next {
         let unit_ms = presentation.unit_ms().ms();
         self.heed_renewal(desk, moment);
-        match self.send(desk, phase, unit_ms, moment) {
+        let (turn, due) = match self.send(desk, phase, unit_ms, moment) {
+            Sending::Waits(until) => return Next::At(until),
+            Sending::Turned(turn, due) => (turn, due),
+        };
+        match (turn, due) {
             (Turn::More, Some(due)) => Next::At(next_unit(due, unit_ms, moment)),
             (Turn::SinkFailed, Some(due)) if !is_past(phase, unit_ms, moment) => {
                 Next::At(next_unit(due, unit_ms, moment))
@@ -252,15 +264,15 @@ impl PacedPlay {
         }
     }
 
-    // Sends with measure what is due while the session is in this phase: what came of it, and when
-    // the next packet is due.
+    // Sends with measure what is due while the session is in this phase. A play that was left waits
+    // for its media, too, but not for ever.
     fn send<R: Wait>(
         &mut self,
         desk: &mut PacerDesk<'_, R>,
         phase: Phase,
         unit_ms: u32,
         moment: u64,
-    ) -> (Turn, Option<u64>)
+    ) -> Sending
         requires { 0 < unit_ms }
     {
         let session = self.session();
@@ -274,6 +286,7 @@ impl PacedPlay {
             packets: 0,
             lost: 0,
             failed: 0,
+            waits: false,
         };
         let due = self.pacer.next_due().unwrap_or(moment);
         let until = measured(due, unit_ms, moment.saturating_sub(self.last), moment);
@@ -286,10 +299,17 @@ impl PacedPlay {
                 .last_turn(session, left, until, packet, &mut sink);
             turn = after(last);
         }
-        let (packets, lost, failed) = (sink.packets, sink.lost, sink.failed);
+        let (packets, lost, failed) = (sink.packets, sink.lost, sink.failures());
+        let waits = sink.waits;
         self.last = moment;
         desk.count(packets, lost, failed, moment.saturating_sub(due));
-        (turn, self.pacer.next_due())
+        let next = self.pacer.next_due();
+        match next {
+            Some(due) if waits && !(turn == Turn::OtherPlay && is_given_up(due, moment)) => {
+                Sending::Waits(look_again(due, moment))
+            }
+            _ => Sending::Turned(turn, next),
+        }
     }
 
     // Ends the play. Where that is refused, as for want of room in the journal, it is tried again
