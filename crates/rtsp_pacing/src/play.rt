@@ -4,7 +4,7 @@ ghost use Rattle.std.specs.Prelude.{◌<◌};
 
 use crate::desk::PacerDesk;
 use crate::noted::NewPlay;
-use crate::sink::{PacketSink, WaysOfControl};
+use crate::sink::{PacketSink, WaysOfControl, failures_in};
 use crate::ways::Ways;
 use crate::when::{is_given_up, look_again, measured, next_unit};
 use rtsp_book::{Refusal, SessionView};
@@ -299,8 +299,8 @@ impl PacedPlay {
                 .last_turn(session, left, until, packet, &mut sink);
             turn = after(last);
         }
-        let (packets, lost, failed) = (sink.packets, sink.lost, sink.failures());
-        let waits = sink.waits;
+        let (packets, lost, waits) = (sink.packets, sink.lost, sink.waits);
+        let failed = failures_in(sink.failed, waits);
         self.last = moment;
         desk.count(packets, lost, failed, moment.saturating_sub(due));
         let next = self.pacer.next_due();

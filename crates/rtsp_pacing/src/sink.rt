@@ -51,13 +51,14 @@ impl<R: Wait> PacketSink<'_, '_, R> {
             Err(_) => Had::Unreadable,
         }
     }
+}
 
-    // What of the failed calls counts: a unit that comes later is none of them.
-    pub(crate) fn failures(&self) -> u64
-        ensures { result ≡ self.now.failed - (if self.now.waits then 1 else 0) }
-    {
-        self.failed.saturating_sub(u64::from(self.waits))
-    }
+// How many of the failed calls of a turn are failures of the media: the last one isn't, where it was
+// for a unit that comes later.
+pub(crate) fn failures_in(failed: u64, waits: bool) -> u64
+    ensures { result ≡ failed - (if waits then 1 else 0) }
+{
+    failed.saturating_sub(u64::from(waits))
 }
 
 impl<R: Wait> Sink for PacketSink<'_, '_, R> {
