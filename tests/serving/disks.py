@@ -1,4 +1,5 @@
-"""A server whose files of the journal meet a bad disk while it runs: a library before the C library makes one of it."""
+"""A server whose files of the journal meet a bad disk while it runs, or one of its media a slow one: a library before the
+C library makes one of it."""
 import mmap
 import pathlib
 import struct
@@ -10,7 +11,8 @@ from checks import Failed
 # Of each kind calls are counted, and those from the first to the last are made late by milliseconds, and then refused
 # with an error's number. Where there is a number of bytes the first of them takes so many at most, and without an error
 # the others too. The milliseconds of the time of day are added to it.
-KINDS = "write", "create", "sync", "time of day"
+# A read is one of the media slow.raw, of what wasn't read before: the system keeps what was, and 128 KiB about it.
+KINDS = "write", "create", "sync", "time of day", "read"
 PLAN = struct.Struct("@5Lq")
 FOR_EVER = (1 << 63) - 1
 
@@ -27,7 +29,7 @@ LIBRARY = r"""
 #include <time.h>
 #include <unistd.h>
 
-enum { WRITE, CREATE, SYNC, TIME_OF_DAY, KINDS };
+enum { WRITE, CREATE, SYNC, TIME_OF_DAY, READ, KINDS };
 
 struct plan { unsigned long asked, first, last, error, most; long milliseconds; };
 
@@ -44,13 +46,21 @@ __attribute__((constructor)) static void begin(void) {
 
 static int is_journal(const char *path) { return strstr(path, "/journal-") && strstr(path, ".txt"); }
 
-static int is_journals(int fd) {
+static int is_slow(const char *path) {
+    const char *name = strrchr(path, '/');
+    return name && !strcmp(name + 1, "slow.raw");
+}
+
+/* Whether the path of what is open is one of these. */
+static int is_one(int fd, int (*is_meant)(const char *path)) {
     char name[32], path[4096];
     snprintf(name, sizeof name, "/proc/self/fd/%d", fd);
     ssize_t length = readlink(name, path, sizeof path - 1);
     path[length < 0 ? 0 : length] = 0;
-    return is_journal(path);
+    return is_meant(path);
 }
+
+static int is_journals(int fd) { return is_one(fd, is_journal); }
 
 /* Counts a call, makes it late, and takes something of its size. Whether it is refused. */
 static int is_refused(int kind, size_t *size) {
@@ -72,6 +82,22 @@ static int is_refused(int kind, size_t *size) {
 ssize_t write(int fd, const void *from, size_t size) {
     return is_journals(fd) && is_refused(WRITE, &size) ? -1 : syscall(SYS_write, fd, from, size);
 }
+
+/* Whether a read is the first one in a piece of the file. */
+static int is_new(size_t size, off64_t at) {
+    static char kept[1 << 16];
+    int is_first = 0;
+    for (off64_t piece = at >> 17; piece <= (off64_t)(at + size - 1) >> 17; piece++)
+        is_first |= !__atomic_exchange_n(&kept[piece & 0xffff], 1, __ATOMIC_SEQ_CST);
+    return is_first;
+}
+
+ssize_t pread64(int fd, void *to, size_t size, off64_t at) {
+    int is_held = is_one(fd, is_slow) && is_new(size, at);
+    return is_held && is_refused(READ, &size) ? -1 : syscall(SYS_pread64, fd, to, size, at);
+}
+
+ssize_t pread(int fd, void *to, size_t size, off_t at) { return pread64(fd, to, size, at); }
 
 int open(const char *path, int flags, ...) {
     size_t size = 0;
@@ -103,7 +129,7 @@ int clock_gettime(clockid_t clock, struct timespec *time) {
 
 
 class Disk:
-    """What a server's files of the journal meet. Its own files are in a folder of the test's."""
+    """What a server's files of the journal, or one of its media, meet. Its own files are in a folder of the test's."""
 
     def __init__(self, folder: pathlib.Path) -> None:
         library, plans = folder / "disk.so", folder / "disk"

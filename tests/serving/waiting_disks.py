@@ -41,8 +41,8 @@ class Heard(NamedTuple):
     streams: int
 
 
-def hear(taken: socket.socket, until_told: Channel) -> None:
-    """Takes packets until it is told to end, and then tells of them."""
+def hear(taken: socket.socket, unit_ms: int, until_told: Channel) -> None:
+    """Takes packets of units of so many milliseconds until it is told to end, and then tells of them."""
     came: Dict[int, List[tuple]] = {}
     taken.settimeout(0.1)
     while not until_told.poll():
@@ -54,13 +54,16 @@ def hear(taken: socket.socket, until_told: Channel) -> None:
     arrivals = []
     for packets in came.values():
         first = packets[0][1]
-        early = [at - ((sequence - first) & 0xFFFF) * SLOW.unit_ms / SECOND for at, sequence in packets]
+        early = [at - ((sequence - first) & 0xFFFF) * unit_ms / SECOND for at, sequence in packets]
         arrivals += [Arrival(at, (it - min(early)) * SECOND) for (at, _), it in zip(packets, early)]
     until_told.send(Heard(arrivals, len(came)))
 
 
 class Audience:
-    """A process that hears all streams over one port."""
+    """A process that hears all streams of a presentation over one port."""
+
+    def __init__(self, presentation: Presentation) -> None:
+        self.unit_ms = presentation.unit_ms
 
     def __enter__(self) -> "Audience":
         with datagram_socket() as taken:
@@ -68,7 +71,7 @@ class Audience:
             taken.bind((HERE, 0))
             self.port = taken.getsockname()[1]
             self.told, theirs = multiprocessing.Pipe()
-            self.process = multiprocessing.Process(target=hear, args=(taken, theirs), daemon=True)
+            self.process = multiprocessing.Process(target=hear, args=(taken, self.unit_ms, theirs), daemon=True)
             self.process.start()
         return self
 
@@ -81,13 +84,13 @@ class Audience:
         return self.told.recv()
 
 
-def play_all(checks: Checks, server: Server, port: int) -> List[str]:
-    """Has all streams played to a port. The sessions."""
-    talk = server.connect()
+def play_all(checks: Checks, server: Server, port: int, count: int) -> List[str]:
+    """Has so many streams played to a port. The sessions."""
+    talk, track = server.connect(), server.presentation.tracks[0].name
     over = ("Transport", f'RTP/AVP;unicast;dest_addr=":{port}"/":{port}"')
     sessions = []
-    for _ in range(STREAMS):
-        answer = talk.ask("SETUP", f"{server.uri}/a", [over])
+    for _ in range(count):
+        answer = talk.ask("SETUP", f"{server.uri}/{track}", [over])
         sessions.append((answer.header("Session") or "").partition(";")[0])
         status = talk.ask("PLAY", server.uri, [("Session", sessions[-1])]).status
         if not checks.same("SETUP and PLAY", (200, 200), (answer.status, status)):
@@ -114,8 +117,8 @@ def times_of(server: Server, seconds: float) -> Iterator[float]:
 def a_disk_that_blocks(checks: Checks) -> None:
     """Every packet comes on time, every request is answered, and then all is written."""
     settings = {"pairs": STREAMS, "sessions": STREAMS + 10, "uplink": 2 * STREAMS * SLOW.whole_rate}
-    with Witness() as witness, on_a_disk(checks, SLOW, journal=JOURNAL, **settings) as (server, disk), Audience() as all:
-        sessions = play_all(checks, server, all.port)
+    with Witness() as witness, on_a_disk(checks, SLOW, journal=JOURNAL, **settings) as (server, disk), Audience(SLOW) as all:
+        sessions = play_all(checks, server, all.port, STREAMS)
         talk = server.connect()
         busy = set_up(talk, server)
         statuses = moves(server, busy, BEFORE - 5 * STREAMS)

@@ -10,6 +10,7 @@
 mod bell;
 mod desk;
 mod inbox;
+mod left_early;
 mod noted;
 mod noting;
 mod pacing;

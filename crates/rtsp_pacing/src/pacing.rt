@@ -8,6 +8,7 @@ ghost use Rattle.rtsp_pacing.specs.Beginning.{TakesOver};
 
 use crate::desk::{Paced, PacerDesk, PacerParts};
 use crate::inbox::Heard;
+use crate::left_early::{LeftEarly, begun_at};
 use crate::noted::NewPlay;
 use crate::play::{Next, PacedPlay};
 use crate::plays::PacerPlays;
@@ -37,6 +38,7 @@ struct Pacing<'a, R> {
     desk: PacerDesk<'a, R>,
     wheel: Wheel,
     plays: PacerPlays,
+    left_early: LeftEarly,
 }
 
 impl<R: Wait + Clock> Pacing<'_, R> {
@@ -51,7 +53,7 @@ impl<R: Wait + Clock> Pacing<'_, R> {
 
     // Takes a play over, as its PLAY began it: where the session has left it, what was counted of
     // it is still to be sent. It is dropped where the session is no more, where there is no memory,
-    // or where the play before it sends what was counted of it, too.
+    // where the play before it sends what was counted of it, too, or where too many were left so early.
     fn take_over(&mut self, asked: NewPlay)
         ensures { TakesOver asked self.old.plays self.new.plays }
     {
@@ -61,7 +63,8 @@ impl<R: Wait + Clock> Pacing<'_, R> {
             return;
         };
         let is_apart = self.plays.leave(session, phase);
-        if !is_apart && view.phase() != phase {
+        let is_left = view.phase() != phase;
+        if is_left && !(is_apart && self.left_early.take(begun_at(phase))) {
             return;
         }
         let Some((play, due)) = PacedPlay::begin(&mut self.desk, asked, &view) else {
@@ -145,6 +148,7 @@ pub fn pace<'a, R: Wait + Clock>(
         desk,
         wheel,
         plays,
+        left_early: LeftEarly::new(),
     };
     let mut more = PLAYS_AT_ONCE;
     for _ in rt.forever() {

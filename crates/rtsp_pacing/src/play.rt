@@ -1,31 +1,23 @@
 //! A play that a pacer sends.
 
+mod ending;
+
 ghost use Rattle.std.specs.Prelude.{◌≡◌, ◌<◌, ◌↔◌, IsTrue, IfSome, unwrap_or};
 ghost use Rattle.rtsp_pacing.specs.Beginning.{Begins, IsApart};
 
 use crate::desk::PacerDesk;
 use crate::noted::NewPlay;
 use crate::renewal::Renewal;
-use crate::sink::{PacketSink, WaysOfControl};
+use crate::sink::{PacketSink, failures_in};
 use crate::ways::Ways;
-use crate::when::{measured, next_unit};
-use rtsp_book::{Refusal, SessionView};
-use rtsp_content::{Players, Presentation};
-use rtsp_grammar::write_request;
+use crate::when::{is_given_up, look_again, measured, next_unit};
+use rtsp_book::SessionView;
+use rtsp_content::Presentation;
 use rtsp_record::Phase;
 use rtsp_rtp::{LastTurn, Pacer, Turn, sent_before};
-use rtsp_sockets::Message;
-use rtsp_state::notify;
-use std::alloc::{AllocError, Global};
+use std::alloc::Global;
 use std::rt::Clock;
 use std::sync::Wait;
-
-// After how many milliseconds the report of a play is tried again for which there was no memory.
-const REPORT_AGAIN: u64 = 1_000;
-
-// How many milliseconds after its report a play says goodbye. Over UDP RTCP may overtake the last
-// packets, or be read before them, and then GStreamer drops these.
-const GOODBYE_AFTER: u64 = 250;
 
 // Within how many milliseconds a pacer hears of a play, unless a thread is kept from running.
 const HEARD_WITHIN: u64 = 250;
@@ -57,6 +49,14 @@ pub(crate) struct PacedPlay {
     // The moments of its last turn and of its next one. A wheel that is late comes to it sooner.
     last: u64,
     next: u64,
+}
+
+// What came of sending: of a turn, with when the next packet is due, unless the unit that is due
+// isn't at hand; then when to look again.
+#[derive(Clone, Copy)]
+enum Sending {
+    Turned(Turn, Option<u64>),
+    Waits(u64),
 }
 
 // When a play has its next turn.
@@ -197,7 +197,11 @@ impl PacedPlay {
     ) -> Next {
         let unit_ms = presentation.unit_ms().ms();
         self.heed_renewal(desk, moment);
-        match self.send(desk, phase, unit_ms, moment) {
+        let (turn, due) = match self.send(desk, phase, unit_ms, moment) {
+            Sending::Waits(until) => return Next::At(until),
+            Sending::Turned(turn, due) => (turn, due),
+        };
+        match (turn, due) {
             (Turn::More, Some(due)) => Next::At(next_unit(due, unit_ms, moment)),
             (Turn::SinkFailed, Some(due)) if !is_past(phase, unit_ms, moment) => {
                 Next::At(next_unit(due, unit_ms, moment))
@@ -224,15 +228,15 @@ impl PacedPlay {
         }
     }
 
-    // Sends with measure what is due while the session is in this phase: what came of it, and when
-    // the next packet is due.
+    // Sends with measure what is due while the session is in this phase. A play that was left waits
+    // for its media, too, but not for ever.
     fn send<R: Wait>(
         &mut self,
         desk: &mut PacerDesk<'_, R>,
         phase: Phase,
         unit_ms: u32,
         moment: u64,
-    ) -> (Turn, Option<u64>)
+    ) -> Sending
         requires { 0 < unit_ms }
     {
         let session = self.session();
@@ -246,6 +250,7 @@ impl PacedPlay {
             packets: 0,
             lost: 0,
             failed: 0,
+            waits: false,
         };
         let due = self.pacer.next_due().unwrap_or(moment);
         let until = measured(due, unit_ms, moment.saturating_sub(self.last), moment);
@@ -258,10 +263,17 @@ impl PacedPlay {
         } else {
             None
         };
-        let (packets, lost, failed) = (sink.packets, sink.lost, sink.failed);
+        let (packets, lost, waits) = (sink.packets, sink.lost, sink.waits);
+        let failed = failures_in(sink.failed, waits);
         desk.count(packets, lost, failed, moment.saturating_sub(due));
         self.last = moment;
-        (self.after(turn, last, left), self.pacer.next_due())
+        match self.pacer.next_due() {
+            Some(due) if waits && !(last.is_some() && is_given_up(due, moment)) => {
+                self.left = last.map(|_| left).or(self.left);
+                Sending::Waits(look_again(due, moment))
+            }
+            next => Sending::Turned(self.after(turn, last, left), next),
+        }
     }
 
     // What came of a turn, also of a play that the session has left, for this phase. What can't be read
@@ -296,87 +308,5 @@ impl PacedPlay {
             return Next::Never;
         }
         Next::At(until.min(moment.saturating_add(u64::from(unit_ms))))
-    }
-
-    // Ends the play. Where that is refused, as for want of room in the journal, it is tried again
-    // a unit later.
-    fn finish<R: Wait>(
-        &mut self,
-        alloc: Global,
-        desk: &mut PacerDesk<'_, R>,
-        presentation: &Presentation,
-        moment: u64,
-    ) -> Next {
-        let unit_ms = presentation.unit_ms();
-        match desk.finish(self.session(), unit_ms, moment) {
-            Ok(()) => {
-                self.stage = Stage::Finished;
-                self.report(alloc, desk, presentation, moment)
-            }
-            Err(Refusal::NoSession | Refusal::WrongState) => Next::Never,
-            Err(_) => Next::At(moment.saturating_add(u64::from(unit_ms.ms()))),
-        }
-    }
-
-    // Tells the connection that asked for the play of its end, unless the session has gone on. The
-    // streams of GStreamer say goodbye a moment later: it waits for that.
-    fn report<R: Wait>(
-        &mut self,
-        alloc: Global,
-        desk: &mut PacerDesk<'_, R>,
-        presentation: &Presentation,
-        moment: u64,
-    ) -> Next {
-        let Some(view) = desk.look(self.session()) else {
-            return Next::Never;
-        };
-        match self.put_report(alloc, desk, &view, presentation, moment) {
-            Ok(()) => {
-                desk.paced.reported = desk.paced.reported.saturating_add(1);
-                self.stage = Stage::Reported;
-                match desk.parts.table.server().players {
-                    Players::Strict => Next::Never,
-                    Players::Gstreamer => Next::At(moment.saturating_add(GOODBYE_AFTER)),
-                }
-            }
-            Err(AllocError) => Next::At(moment.saturating_add(REPORT_AGAIN)),
-        }
-    }
-
-    fn put_report<R: Wait>(
-        &self,
-        alloc: Global,
-        desk: &PacerDesk<'_, R>,
-        view: &SessionView,
-        presentation: &Presentation,
-        moment: u64,
-    ) -> Result<(), AllocError> {
-        let Phase::Ended { .. } = view.phase() else {
-            return Ok(());
-        };
-        let NewPlay { begun, conn } = &self.asked;
-        let noted = &begun.noted;
-        // A connection that was closed is told nothing.
-        let Some(outlet) = desk.parts.outlets.get(desk.rt, *conn) else {
-            return Ok(());
-        };
-        let cseq = outlet.next_cseq(desk.rt);
-        let request = notify(alloc, &noted.uri, view, presentation, cseq, noted.cseq)?;
-        let mut text = Vec::new(alloc);
-        write_request(&mut text, &request)?;
-        outlet.put(desk.rt, moment, Message::Response, text.as_slice());
-        Ok(())
-    }
-
-    // Says goodbye for the streams of the play, unless the session has gone on.
-    fn say_goodbye<R: Wait>(&self, desk: &mut PacerDesk<'_, R>, phase: Phase, moment: u64) {
-        if let Phase::Ended { .. } = phase {
-            let mut sink = WaysOfControl {
-                rt: desk.rt,
-                ways: &self.ways,
-                now: moment,
-            };
-            self.pacer.say_goodbye(&mut desk.packet, &mut sink);
-        }
     }
 }

@@ -1,6 +1,6 @@
 //! At which moment a play has its turn, and when its next one.
 
-ghost use Rattle.std.specs.Prelude.{◌≡◌, ◌<◌, ◌≤◌, ◌+◌, ◌*◌, ◌^◌, ℕ, min};
+ghost use Rattle.std.specs.Prelude.{◌≡◌, ◌<◌, ◌≤◌, ◌+◌, ◌*◌, ◌^◌, ◌↔◌, ℕ, min, IsTrue};
 ghost use Rattle.rtsp_pacing.specs.Catching.{IsMeasured, most_at_once};
 
 // How much of the time since the last turn of a play counts where it is behind, in milliseconds.
@@ -36,4 +36,32 @@ pub(crate) fn next_unit(due: u64, unit_ms: u32, moment: u64) -> u64
     let unit_ms = u64::from(unit_ms);
     let passed = (moment - due) % unit_ms;
     moment.saturating_add(unit_ms - passed)
+}
+
+// How soon, in milliseconds, a play is looked at again whose next unit isn't at hand.
+const SOONEST: u64 = 5;
+
+// How late at most.
+const LATEST: u64 = 250;
+
+// When a play is looked at again whose next unit was due at `due` and isn't at hand: the later that
+// is, the less often, so that thousands of plays that wait for a disk cost no more than if they played.
+pub(crate) fn look_again(due: u64, moment: u64) -> u64
+    ensures later { moment + SOONEST < 2 ^ 64 → moment + SOONEST ≤ result }
+    ensures soon { result ≤ moment + LATEST }
+    ensures measured { moment ≤ due + 8 * SOONEST → result ≤ moment + SOONEST }
+{
+    let late = moment.saturating_sub(due);
+    moment.saturating_add((late / 8).max(SOONEST).min(LATEST))
+}
+
+// How late, in milliseconds, what was counted of a play that was left may come.
+const LEFT_FOR: u64 = 10_000;
+
+// Whether what was counted of a play that was left is waited for no longer, at a moment, where the
+// next of it was due at `due`. Otherwise a player could make play after play that waits for a disk.
+pub(crate) fn is_given_up(due: u64, moment: u64) -> bool
+    ensures { IsTrue result ↔ (due + LEFT_FOR < moment) }
+{
+    moment.saturating_sub(due) > LEFT_FOR
 }

@@ -14,7 +14,7 @@ use rtsp_content::{Operation, Table};
 use rtsp_lanes::{BookHandle, PoolEnd, open_book, whole_of};
 use rtsp_lock::LockBook;
 use rtsp_pacing::PacerPlays;
-use rtsp_sockets::Media;
+use rtsp_sockets::{Media, Reader};
 use rtsp_status::StatusServer;
 use rtsp_threads::{OwnStatus, Scribe, ScribeBell, close_book, end_expired};
 use std::alloc::Global;
@@ -50,6 +50,8 @@ pub struct Server {
     lanes: Vec<SocketLane>,
     // The plays of each pacer, which has none yet.
     pacers: Vec<PacerPlays>,
+    // Those that read ahead, where that is wanted.
+    readers: Vec<Reader>,
     operation: Operation,
     status: Option<StatusServer>,
     address: SocketAddr,
@@ -59,7 +61,8 @@ pub struct Server {
 impl Server {
     /// A server of this configuration, which listens on this address, and keeps and shows what is
     /// wanted of it. There are as many lanes as the configuration has workers, and half as many pacers
-    /// as the machine has cores, but at least one. With a number of connections it ends after so many. Where the limit of descriptors
+    /// as the machine has cores, but at least one; where the media isn't held in memory, some threads
+    /// read it ahead. With a number of connections it ends after so many. Where the limit of descriptors
     /// leaves none for connections, it is `DeviceFailed`.
     pub fn open<R: Threads + Wait + Net + rt::Clock + RandomSource + Files<File = File>>(
         rt: &R,
@@ -70,6 +73,7 @@ impl Server {
         connections: Option<u64>,
     ) -> Result<Server, ServerFault> {
         let media = Media::open(rt, alloc, &table)?;
+        let readers = media.readers(alloc)?;
         let mut handle = open_book(alloc, &whole_of(&table))?;
         let scribe = match operation.journal() {
             Some(_) => {
@@ -111,6 +115,7 @@ impl Server {
             handle,
             lanes,
             pacers,
+            readers,
             operation,
             status,
             address,
@@ -161,6 +166,7 @@ impl Server {
             mut handle,
             lanes,
             pacers,
+            readers,
             operation,
             status,
             address,
@@ -177,6 +183,7 @@ impl Server {
             handle,
             lanes,
             pacers,
+            readers,
             address,
         };
         let beside = Beside {

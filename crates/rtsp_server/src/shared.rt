@@ -252,7 +252,7 @@ impl Shared {
         }
     }
 
-    /// Ends the threads beside the lanes, but for that of the log.
+    /// Ends the threads beside the lanes, but for that of the log and those that read ahead.
     pub(crate) fn stop<R: Wait>(&self, rt: &R) {
         self.bells.stop(rt);
         self.stop_bell.ring(rt);

@@ -14,7 +14,7 @@ use rtsp_lanes::{BookHandle, PoolEnd, run_pool};
 use rtsp_lock::{BookLock, BookSeat};
 use rtsp_log::{Event, LogWriter, SleepPause, StderrSink};
 use rtsp_pacing::{Bell, PacerParts, PacerPlays, pace};
-use rtsp_sockets::Media;
+use rtsp_sockets::{Media, Reader};
 use rtsp_status::StatusServer;
 use rtsp_threads::{OwnStatus, STANDING_LIMIT, Scribe};
 use std::alloc::Global;
@@ -41,6 +41,7 @@ pub(crate) struct Start {
     pub(crate) handle: BookHandle,
     pub(crate) lanes: Vec<SocketLane>,
     pub(crate) pacers: Vec<PacerPlays>,
+    pub(crate) readers: Vec<Reader>,
     pub(crate) address: SocketAddr,
 }
 
@@ -114,6 +115,11 @@ impl Parts {
         }
     }
 
+    // The body of a thread that reads ahead.
+    fn read_ahead<R: Wait + rt::Clock>(&self, rt: &R, reader: Reader) {
+        reader.run(rt, &self.media, self.shared.begun);
+    }
+
     // The body of the sweeper's thread.
     fn sweep<R: Wait + Net + rt::Clock>(&self, rt: &R, handle: BookHandle) {
         run_sweeper(rt, handle, &self.shared);
@@ -165,10 +171,16 @@ impl Parts {
         self.shared.log.event(rt, Event::NoThread);
     }
 
+    // Ends the threads beside the lanes, but for that of the log.
+    fn stop<R: Wait>(&self, rt: &R) {
+        self.media.stop_readers(rt);
+        self.shared.stop(rt);
+    }
+
     // Ends the threads that there are, since one is missing.
     fn stop_for_want_of_threads<R: Wait + rt::Clock>(&self, rt: &R) {
         self.shared.log.event(rt, Event::NoThread);
-        self.shared.stop(rt);
+        self.stop(rt);
     }
 
     // What this thread does while the lanes run: it tells that all stand, and writes the journal where
@@ -218,6 +230,7 @@ impl Parts {
                 handle: mut own,
                 lanes,
                 pacers,
+                readers,
                 address,
             } = start;
             let mut missing = 0u64;
@@ -229,6 +242,11 @@ impl Parts {
                 let pacer = OnePacer { number, plays };
                 let spawned = scope.spawn(move || self.pace(rt, alloc, pacer, theirs));
                 if spawned.is_err() {
+                    missing = missing.saturating_add(1);
+                }
+            }
+            for reader in readers {
+                if scope.spawn(move || self.read_ahead(rt, reader)).is_err() {
                     missing = missing.saturating_add(1);
                 }
             }
@@ -315,7 +333,7 @@ impl Parts {
         let count = lanes.len() as u64;
         let BookHandle { lock, mut seat } = own;
         let end = run_pool(rt, alloc, lanes, &lock, &mut seat, &self.table);
-        self.shared.stop(rt);
+        self.stop(rt);
         if end.idle < count {
             Ok(end)
         } else {

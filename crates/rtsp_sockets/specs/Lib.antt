@@ -7,3 +7,4 @@ pub mod Clocks
 pub mod Files
 pub mod Media
 pub mod Asking
+pub mod Wishes

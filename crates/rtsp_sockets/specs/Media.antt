@@ -1,5 +1,5 @@
 -- Where the units of tracks stand.
-use Rattle.std.specs.Prelude.{◌≡◌, ℕ, ◌*◌, List, Option, Some, slice_get}
+use Rattle.std.specs.Prelude.{◌≡◌, ℕ, ◌*◌, List, Option, Some, IsSome, slice_get}
 use Rattle.std.specs.Global.{Vec}
 use Rattle.rtsp_sockets.specs.declared.media.Place.{Place}
 use Rattle.rtsp_sockets.specs.Files.{StandAt}
@@ -18,3 +18,12 @@ module _ {M : Type 0} (text : M → Option (List ℕ)) where
     pub file : M
     pub is_file : slice_get files place.file ≡ Some file
     pub stand : StandAt (text file) (unit * place.octets) octets
+
+module _ {M : Type 0} (held : M → Option (Vec ℕ)) where
+  -- the file of a track is held in memory
+  pub record IsInMemory (files : List M) (places : List (Vec Place)) (presentation track : ℕ) : Type 0 where
+    pub place : Place
+    pub is_place : IsPlaceOf places presentation track place
+    pub file : M
+    pub is_file : slice_get files place.file ≡ Some file
+    pub is_held : IsSome (held file)

@@ -1,14 +1,18 @@
 //! The sockets and files of a server, each a part by itself. No thread is started here, and none
-//! waits but for a lock.
+//! waits but for a lock, and a reader for what it has to read.
 //!
 //! `outlet` is the writing side of a connection, over `pending`, the bytes that wait to be written;
 //! `outlets` are those of all connections. `frame_room` is how much of a stream may wait, `loan` what
 //! a connection has of room that all share. `ports` are the sockets of ports that are bound. `words`
-//! and `clock` are the system's words and moments, `media` the files of the tracks.
+//! and `clock` are the system's words and moments, `media` the files of the tracks. Where these aren't held
+//! in memory, a `reader` reads them ahead, by `chunks` that are `wanted`.
 
 #![tactic(auto)]
 
+mod at_hand;
 mod bound;
+mod chunk_marks;
+mod chunks;
 mod clock;
 mod drawing;
 mod frame_room;
@@ -24,9 +28,12 @@ mod port_binder;
 mod ports;
 mod put;
 mod read_at;
+mod reader;
 mod slots;
 mod try_write;
 mod unit;
+mod wanted;
+mod wishes;
 mod words;
 
 pub use clock::{PieceClock, RunningClock};
@@ -41,4 +48,5 @@ pub use port_binder::PortBinder;
 pub use ports::{PortSockets, PortTable};
 pub use put::Put;
 pub use read_at::ReadAt;
+pub use reader::{READERS, Reader};
 pub use words::{RandomWords, SourceWords};

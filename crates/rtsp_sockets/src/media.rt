@@ -5,6 +5,7 @@ ghost use Rattle.rtsp_sockets.specs.Media.{IsPlaceOf, StandInFile};
 
 use crate::media_file::MediaFile;
 use crate::read_at::ReadAt;
+use crate::wanted::Wanted;
 use rtsp_content::{Presentation, Table, Track};
 use std::alloc::{AllocError, Global};
 use std::fs::File;
@@ -12,8 +13,11 @@ use std::rt::Files;
 use thiserror::Error;
 
 /// Files that have fewer bytes than this together are held in memory: 256 MiB. Otherwise each unit
-/// is read from its file when it is sent.
+/// is read from its file when it is sent, and files are read ahead by threads of their own.
 pub const HELD_LIMIT: u64 = 256 * 1024 * 1024;
+
+// How many chunks may wait to be read. Who finds no room asks anew.
+const WISHES: usize = 4_096;
 
 /// Media that can't be had.
 #[derive(Clone, Copy, Debug, PartialEq, Eq, Error)]
@@ -36,17 +40,19 @@ impl From<AllocError> for MediaFault {
 
 // Where the units of a track are: in which file, and how long each is.
 #[derive(Clone, Copy)]
-struct Place {
-    file: usize,
-    octets: u16,
+pub(crate) struct Place {
+    pub(crate) file: usize,
+    pub(crate) octets: u16,
 }
 
 /// The media of all tracks. Tracks that name one file share it.
 #[derive(Drop)]
 pub struct MediaOf<F: ReadAt> {
-    files: Vec<MediaFile<F>>,
+    pub(crate) files: Vec<MediaFile<F>>,
     // The places of the tracks of each presentation, in the order of the configuration.
     places: Vec<Vec<Place>>,
+    // The chunks that are to be read ahead.
+    pub(crate) wanted: Wanted,
 }
 
 /// The media of files of the system.
@@ -68,12 +74,13 @@ impl MediaOf<File> {
         let mut media = MediaOf {
             files: Vec::new(alloc),
             places: Vec::new(alloc),
+            wanted: Wanted::new(alloc, 0)?,
         };
         let mut paths = Vec::new(alloc);
         for presentation in table.presentations() {
             let mut places = Vec::new(alloc);
             for track in presentation.tracks() {
-                let file = media.file_of(rt, &mut paths, presentation, track)?;
+                let file = media.file_of(rt, alloc, &mut paths, presentation, track)?;
                 let octets = track.octets();
                 places
                     .push(Place { file, octets })
@@ -89,6 +96,7 @@ impl MediaOf<File> {
     fn file_of<'t, R: Files<File = File>>(
         &mut self,
         rt: &R,
+        alloc: Global,
         paths: &mut Vec<&'t str>,
         presentation: &Presentation,
         track: &'t Track,
@@ -102,7 +110,7 @@ impl MediaOf<File> {
             };
         }
         let place = self.files.len();
-        let file = MediaFile::open(rt, path, len)?;
+        let file = MediaFile::open(rt, alloc, path, len)?;
         self.files.push(file).map_err(AllocError::from)?;
         paths.push(path).map_err(AllocError::from)?;
         Ok(place)
@@ -117,7 +125,7 @@ fn place_of(places: &[Place], track: usize) -> Option<Place>
 }
 
 impl<F: ReadAt> MediaOf<F> {
-    // Holds all files in memory where they are small.
+    // Holds all files in memory where they are small. Else they are to be read ahead.
     fn hold_if_small(&mut self, alloc: Global) -> Result<(), MediaFault> {
         let mut total = 0u64;
         for file in &self.files {
@@ -127,7 +135,12 @@ impl<F: ReadAt> MediaOf<F> {
             for file in &mut self.files {
                 file.hold(alloc)?;
             }
+            return Ok(());
         }
+        for file in &mut self.files {
+            file.mark_chunks(alloc)?;
+        }
+        self.wanted = Wanted::new(alloc, WISHES)?;
         Ok(())
     }
 
@@ -138,7 +151,7 @@ impl<F: ReadAt> MediaOf<F> {
         self.places.get(presentation)
     }
 
-    fn place(&self, presentation: usize, track: u16) -> Option<Place>
+    pub(crate) fn place(&self, presentation: usize, track: u16) -> Option<Place>
         ensures { IfSome result (IsPlaceOf self.now.places.items presentation track) }
     {
         match self.places_of(presentation) {
@@ -147,7 +160,7 @@ impl<F: ReadAt> MediaOf<F> {
         }
     }
 
-    fn file(&self, place: usize) -> Option<&MediaFile<F>>
+    pub(crate) fn file(&self, place: usize) -> Option<&MediaFile<F>>
         ensures { option_copied result ≡ slice_get self.now.files.items place }
     {
         self.files.get(place)

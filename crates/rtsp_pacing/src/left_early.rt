@@ -1,0 +1,51 @@
+//! How many plays that were left before they were taken over are sent.
+
+ghost use Rattle.std.specs.Prelude.{◌≡◌, ◌≤◌, ◌<◌, ◌↔◌, ◌/◌, ◌≢◌, ◌⊎◌, IsTrue};
+
+use rtsp_record::Phase;
+
+// In each so many milliseconds so many of them are sent at most. Players who seek are far below; one
+// that asks for play after play, of which each counts a unit, is to keep a pacer from nothing.
+const WINDOW: u64 = 20;
+const MOST: u32 = 64;
+
+// The moment at which a play in this phase began.
+pub(crate) fn begun_at(phase: Phase) -> u64 {
+    match phase {
+        Phase::Playing { since, .. } => since,
+        Phase::Ready { .. } | Phase::Ended { .. } => 0,
+    }
+}
+
+// Which window it is, and how many were taken in it.
+#[derive(Clone, Copy, Debug, PartialEq, Eq)]
+pub(crate) struct LeftEarly {
+    window: u64,
+    count: u32,
+    ghost few: { count ≤ MOST },
+}
+
+impl LeftEarly {
+    pub(crate) fn new() -> LeftEarly {
+        LeftEarly {
+            window: 0,
+            count: 0,
+        }
+    }
+
+    // Whether a play that began at this moment is sent, too.
+    pub(crate) fn take(&mut self, moment: u64) -> bool
+        ensures window { self.new.window ≡ moment / WINDOW }
+        ensures room { IsTrue result ↔ ((self.old.window ≢ moment / WINDOW) ⊎ (self.old.count < MOST)) }
+    {
+        let window = moment / WINDOW;
+        if window != self.window {
+            *self = LeftEarly { window, count: 0 };
+        }
+        if self.count >= MOST {
+            return false;
+        }
+        self.count += 1;
+        true
+    }
+}
