@@ -1,12 +1,14 @@
 //! How many plays that were left before they were taken over are sent.
 
 ghost use Rattle.std.specs.Prelude.{◌≡◌, ◌≤◌, ◌<◌, ◌↔◌, ◌/◌, ◌≢◌, ◌⊎◌, IsTrue};
+ghost use Rattle.rtsp_pacing.specs.declared.left_early.TheConstants.{MOST};
 
 use rtsp_record::Phase;
 
 // In each so many milliseconds so many of them are sent at most. Players who seek are far below; one
 // that asks for play after play, of which each counts a unit, is to keep a pacer from nothing.
 const WINDOW: u64 = 20;
+
 const MOST: u32 = 64;
 
 // The moment at which a play in this phase began.

@@ -92,7 +92,12 @@ impl PacedPlay {
     }
 
     // Says goodbye for the streams of the play, unless the session has gone on.
-    pub(super) fn say_goodbye<R: Wait>(&self, desk: &mut PacerDesk<'_, R>, phase: Phase, moment: u64) {
+    pub(super) fn say_goodbye<R: Wait>(
+        &self,
+        desk: &mut PacerDesk<'_, R>,
+        phase: Phase,
+        moment: u64,
+    ) {
         if let Phase::Ended { .. } = phase {
             let mut sink = WaysOfControl {
                 rt: desk.rt,
