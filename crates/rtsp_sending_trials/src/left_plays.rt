@@ -259,7 +259,10 @@ fn sent<R: Abort + Threads + Wait + Clock + Net + AllocGlobal + Sync>(
     Ok(run(rt, parts, plays, (seat, player), &bells, media, leaving))
 }
 
-fn whole(pair: u16) -> Whole {
+fn whole(pair: u16) -> Whole
+    ensures first { result.first_port ≡ pair }
+    ensures pairs { result.pairs ≡ 1 }
+{
     Whole {
         first_port: pair,
         pairs: 1,
