@@ -1,8 +1,9 @@
 """Proves the crates below the program side by side, in copies of the tree.
 
 `rt` lets one command at a time work on a crate and on all that it rests on, and `rt all` gives each crate one job. So a
-crate is proved in a copy of the tree that has it and the crates below it, these as they were proved. Those that lie on a
-long chain of crates get most of the jobs, and the others one each of what these leave, of jobs and of the cores.
+crate is proved in a copy of the tree that has it and the crates below it, these as they were proved. First come those
+with the longest chain of others behind them, and the crates that can begin share the jobs that nobody has: each further
+job of a crate reads all that lies below it once more, so none gets two while another one waits for its first.
 """
 import collections
 import contextlib
@@ -23,15 +24,10 @@ TOP = pathlib.Path(__file__).resolve().parent.parent
 SOURCES = ("src", "specs", "proofs")
 # What the proof of a crate takes at most for each of its jobs, in bytes, as far as it was seen here.
 MEMORY_OF_A_JOB = 2_000_000_000
-# More jobs than these make a proof no shorter.
-MOST_JOBS = 8
+# More jobs than these make a proof hardly shorter.
+MOST_JOBS = 4
 # What a crate costs beside its own code, in bytes of code: all that lies below is read.
 READING = 40_000
-# The part of the longest chain that makes another one long.
-NEARLY = 0.95
-# How a command is run that gets only what others leave of the cores. Where the kernel groups processes by session, and
-# each command has a session of its own, only the group's own number counts against others.
-AFTER_OTHERS = ["sh", "-c", '{ echo 10 >/proc/self/autogroup; } 2>/dev/null; exec nice -n 10 "$0" "$@"']
 # Lines of rt that say nothing to someone who looks for what went wrong.
 PLAIN = re.compile(
     r"(statements|library|logic|crate|axioms|linked|by-macro:|so far:) ?"
@@ -85,20 +81,6 @@ def chains(uses: Uses) -> Dict[str, int]:
     return found
 
 
-def on_long_chains(uses: Uses) -> Set[str]:
-    """The crates that lie on a chain nearly as long as the longest one: these make a build as long as it is."""
-    upwards = chains(uses)
-    downwards: Dict[str, int] = {}
-
-    def chain(name: str) -> int:
-        """What the longest chain below a crate costs."""
-        if name not in downwards:
-            downwards[name] = max((cost(it) + chain(it) for it in uses[name]), default=0)
-        return downwards[name]
-
-    return {it for it in uses if upwards[it] + chain(it) >= NEARLY * max(upwards.values())}
-
-
 def free_memory() -> int:
     """The bytes of memory that are free, or many where the system doesn't say."""
     with contextlib.suppress(OSError):
@@ -128,16 +110,14 @@ def functions_kept(folder: pathlib.Path, crate: str, since: float) -> int:
 class Run:
     """A command of rt in a folder, and the last lines of it that say something."""
 
-    def __init__(
-        self, name: str, folder: pathlib.Path, words: List[str], lines: "queue.Queue", is_urgent: bool = True
-    ) -> None:
+    def __init__(self, name: str, folder: pathlib.Path, words: List[str], lines: "queue.Queue") -> None:
         self.name, self.folder = name, folder
         self.tail: Deque[str] = collections.deque(maxlen=40)
         # How many functions rt says that the crate has.
         self.count = 0
         self.began = time.time()
         self.process = subprocess.Popen(
-            [*([] if is_urgent else AFTER_OTHERS), "rt", *words],
+            ["rt", *words],
             cwd=folder,
             stdin=subprocess.DEVNULL,
             stdout=subprocess.PIPE,
@@ -253,7 +233,6 @@ class Libraries:
 
     def __init__(self, uses: Uses, program: str) -> None:
         self.uses, self.chains = uses, chains(uses)
-        self.long_ones = on_long_chains(uses)
         self.left = {it for it in uses if it != program}
         self.proved: Set[str] = set()
         self.free: List[Tree] = []
@@ -264,23 +243,17 @@ class Libraries:
         """Whether more than one of them was never built."""
         return sum(not (crate_of(TOP, it) / "out/rlib/stamp").exists() for it in self.left) > 1
 
-    def jobs_for(self, name: str, at_once: int) -> int:
-        """How many jobs a crate gets that can begin, if any. One on a long chain gets all but one, or two where there are
-        only two, whatever else is at work: nobody can give it more later."""
-        if name in self.long_ones:
-            return min(max(at_once - 1, 2), MOST_JOBS)
-        return min(1, max(0, at_once - sum(self.jobs.values())))
-
     def start_some(self, folder: str, at_once: int, lines: "queue.Queue") -> None:
         """Starts those that rest on proved crates alone, as long as there are jobs for them."""
         ready = [it for it in self.left if self.proved.issuperset(self.uses[it])]
         ready.sort(key=lambda it: -self.chains[it])
-        for name in ready:
-            jobs = self.jobs_for(name, at_once)
-            if not jobs:
-                continue
+        for at, name in enumerate(ready):
+            free = at_once - sum(self.jobs.values())
+            if free <= 0:
+                return
+            jobs = min(max(free // (len(ready) - at), 1), MOST_JOBS)
             tree = self.free.pop() if self.free else Tree(self.uses, folder)
-            run = Run(name, tree.begin(name), ["lib", "--jobs", str(jobs)], lines, is_urgent=name in self.long_ones)
+            run = Run(name, tree.begin(name), ["lib", "--jobs", str(jobs)], lines)
             self.left.remove(name)
             self.running[run], self.jobs[run] = tree, jobs
 

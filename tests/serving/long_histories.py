@@ -24,7 +24,8 @@ PROCESSES, CLIENTS_OF_ONE = 5, 10
 CLIENTS = PROCESSES * CLIENTS_OF_ONE
 # A session is played so often in turn.
 PLAYS = 2
-# Where a file has become long before the time is over, clients go on until there are so many, or the patience is over.
+# Clients go on until there are so many files, on a slow machine until the patience is over. What they make is bounded so:
+# reading the files again takes a fast machine longer than making them.
 FILES, PATIENCE = 3, 90.0
 OVER_UDP = ("Transport", 'RTP/AVP;unicast;dest_addr=":9"/":9"')
 SESSION = re.compile(rb"(?m)^Session: ([0-9a-f]{32})")
@@ -155,15 +156,13 @@ def are_whole(checks: Checks, strands: Dict[str, List[str]], lived: List[Lived])
     checks.that(f"each of {len(strands)} sessions is told of from its beginning to its end", not odd, odd[:3])
 
 
-def fifty(checks: Checks, seconds: float) -> None:
+def fifty(checks: Checks, most: int) -> None:
     settings = {"pairs": 2 * CLIENTS, "sessions": 2 * CLIENTS, "uplink": 10_000_000}
     with chronicled(checks, holds_signals=True, **settings) as server:
         began, clients = time.monotonic(), Clients(server)
         try:
-            while time.monotonic() < began + seconds or (
-                len(files(server)) < FILES and time.monotonic() < began + PATIENCE
-            ):
-                time.sleep(0.2)
+            while len(files(server)) <= most and time.monotonic() < began + PATIENCE:
+                time.sleep(0.1)
             lived, faults = clients.end()
             checks.same("what went wrong", [], faults)
             server.process.send_signal(signal.SIGTERM)
@@ -183,11 +182,11 @@ def fifty(checks: Checks, seconds: float) -> None:
 
 @serving_test(limit=300, is_long=True)
 def fifty_clients(checks: Checks) -> None:
-    """Fifty clients for twenty seconds and until there are three files, then a clean end."""
-    fifty(checks, 20.0)
+    """Fifty clients until a file more than three is begun, then a clean end."""
+    fifty(checks, FILES)
 
 
-@serving_test(limit=400, is_by_name=True)
-def fifty_clients_for_a_minute(checks: Checks) -> None:
-    """The same for a minute."""
-    fifty(checks, 60.0)
+@serving_test(limit=900, is_by_name=True)
+def fifty_clients_for_long(checks: Checks) -> None:
+    """The same for twenty files."""
+    fifty(checks, 20)

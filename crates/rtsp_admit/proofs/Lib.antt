@@ -11,4 +11,5 @@ pub mod Counting
 pub mod Sharing
 pub mod Alone
 pub mod Freeing
+pub mod Unbinding
 pub mod Adding

@@ -2,10 +2,12 @@
 
 ghost use Rattle.std.specs.Prelude.{◌≡◌, ℕ, OnOk, OnErr};
 ghost use Rattle.rtsp_record.specs.declared.holdings.Thing.TheVariants.{Pair, Port};
+ghost use Rattle.rtsp_sessions.specs.declared.udp_ports.UdpPorts.TheVariants as udp;
+ghost use Rattle.rtsp_book.specs.Receipts.{freed_as, freed_pairs, freed_ports};
 ghost use Rattle.rtsp_admit.specs.Binder.{Calls, Bound, Failed, Unbound, UnboundAll, Released, as_pairs, as_ports, freed_addresses};
 
 use rtsp_book::Receipt;
-use rtsp_record::Thing;
+use rtsp_record::{Holding, Record, Thing};
 use thiserror::Error;
 
 /// Ports that can't be bound.
@@ -40,21 +42,57 @@ pub trait Binder {
         ensures { Unbound calls admission (Port port) self.old self.new };
 }
 
-// Unbinds pairs in this order.
-fn unbind_pairs<B: Binder>(binder: &mut B, pairs: &[(u64, u16)])
-    ensures { UnboundAll B.calls (as_pairs pairs.now) binder.old binder.new }
+// The pair of ports that a record frees, with its admission.
+fn freed_pair(change: &Record) -> Option<(u64, u16)>
+    ensures { result ≡ freed_as udp.Pair change.now }
 {
-    for pair in pairs {
-        binder.unbind(pair.0, pair.1);
+    match change {
+        Record::Free(
+            Holding {
+                admission,
+                thing: Thing::Pair(pair),
+                ..
+            },
+        ) => Some((*admission, *pair)),
+        _ => None,
     }
 }
 
-// Unbinds single ports in this order.
-fn unbind_ports<B: Binder>(binder: &mut B, ports: &[(u64, u16)])
-    ensures { UnboundAll B.calls (as_ports ports.now) binder.old binder.new }
+// The single port that a record frees, with its admission.
+fn freed_port(change: &Record) -> Option<(u64, u16)>
+    ensures { result ≡ freed_as udp.Port change.now }
 {
-    for port in ports {
-        binder.unbind_port(port.0, port.1);
+    match change {
+        Record::Free(
+            Holding {
+                admission,
+                thing: Thing::Port(port),
+                ..
+            },
+        ) => Some((*admission, *port)),
+        _ => None,
+    }
+}
+
+// Unbinds the pairs that these records freed, in this order.
+fn unbind_pairs<B: Binder>(binder: &mut B, changes: &[Record])
+    ensures { UnboundAll B.calls (as_pairs (freed_pairs changes.now)) binder.old binder.new }
+{
+    for change in changes {
+        if let Some((admission, pair)) = freed_pair(change) {
+            binder.unbind(admission, pair);
+        }
+    }
+}
+
+// Unbinds the single ports that these records freed, in this order.
+fn unbind_ports<B: Binder>(binder: &mut B, changes: &[Record])
+    ensures { UnboundAll B.calls (as_ports (freed_ports changes.now)) binder.old binder.new }
+{
+    for change in changes {
+        if let Some((admission, port)) = freed_port(change) {
+            binder.unbind_port(admission, port);
+        }
     }
 }
 
@@ -63,8 +101,9 @@ fn unbind_ports<B: Binder>(binder: &mut B, ports: &[(u64, u16)])
 pub fn unbind_freed<B: Binder>(binder: &mut B, made: &Receipt)
     ensures { UnboundAll B.calls (freed_addresses made.now) binder.old binder.new }
 {
-    unbind_pairs(binder, made.freed_pairs().as_slice());
-    unbind_ports(binder, made.freed_ports().as_slice());
+    let changes = made.records();
+    unbind_pairs(binder, changes);
+    unbind_ports(binder, changes);
 }
 
 // Unbinds an address, where there is one and it is ports.

@@ -94,9 +94,13 @@ short_row : (w : Whole) (s : ℕ) (o : Option Session) → SoundRow w o → row_
 short_row w s None ok = omega arith
 short_row w s (Some f) ok = row_short w f ok
 
+-- as many records as the session owes returns at most
+pub gives_few : (w : Whole) (s : ℕ) (b : Book) (rs : List Record) → Sound w b → AllFine (Giving s) rs → AllAllowed w b rs → length rs ≤ 51
+gives_few w s b rs ok g h = omega (arith, row_given w s b rs g h, short_row w s (get b s) (ok.rows s))
+
 pub gives_back : (w : Whole) (s : ℕ) (b : Book) (rs : List Record) → Sound w b → AllFine (Giving s) rs → AllAllowed w b rs → GivesBack b rs
 gives_back w s b rs ok g h =
-    record { owed_less = owed_given w s b rs g h; short = omega (arith, row_given w s b rs g h, short_row w s (get b s) (ok.rows s)) }
+    record { owed_less = owed_given w s b rs g h; short = omega (arith, gives_few w s b rs ok g h) }
 
 -- records of one session that give back
 abbrev pub Gave : List Record → Type 0

@@ -28,7 +28,7 @@ use Rattle.rtsp_record.specs.Sound.{SoundRow, Sound}
 use Rattle.rtsp_book.specs.Returns.{ending}
 use Rattle.rtsp_book.proofs.Runs.{OwnAll, Giving, all_lone, lone_allowed}
 use Rattle.rtsp_book.proofs.Ending.{ending_own, giving_ending}
-use Rattle.rtsp_book.proofs.Giving.{gives_back, made_gives}
+use Rattle.rtsp_book.proofs.Giving.{gives_few, gives_back, made_gives}
 
 -- Look-ups.
 
@@ -67,15 +67,15 @@ module _ {X R : Type 0} where
 -- Ends.
 
 -- the end of a sound session is short
-pub ending_short : (w : Whole) (b : Book) (s : ℕ) (f : Session) → Sound w b → get b s ≡ Some f → length (ending s f) ≤ 64
+pub ending_short : (w : Whole) (b : Book) (s : ℕ) (f : Session) → Sound w b → get b s ≡ Some f → length (ending s f) ≤ 51
 ending_short w b s f ok is =
     let own = subst (OwnAll (ending s f)) (sym is) (ending_own w s f (subst (SoundRow w) is (ok.rows s))).0 in
-    (gives_back w s b (ending s f) ok (giving_ending s f) (lone_allowed w s b (ending s f) (all_lone s (ending s f) (giving_ending s f)) own)).short
+    gives_few w s b (ending s f) ok (giving_ending s f) (lone_allowed w s b (ending s f) (all_lone s (ending s f) (giving_ending s f)) own)
 
-pub short_view : (w : Whole) (b : Book) (s : ℕ) (v : ℕ × Session) → Sound w b → v.0 ≡ s → get b s ≡ Some v.1 → length (ending v.0 v.1) ≤ 64
+pub short_view : (w : Whole) (b : Book) (s : ℕ) (v : ℕ × Session) → Sound w b → v.0 ≡ s → get b s ≡ Some v.1 → length (ending v.0 v.1) ≤ 51
 short_view w b s v ok at is = ending_short w b v.0 v.1 ok (ap (get b) at ∙ is)
 
-pub short_found : (w : Whole) (b : Book) (p : ℕ × Session → Bool) (v : ℕ × Session) → Sound w b → Some v ≡ first_with p (entries b) → length (ending v.0 v.1) ≤ 64
+pub short_found : (w : Whole) (b : Book) (p : ℕ × Session → Bool) (v : ℕ × Session) → Sound w b → Some v ≡ first_with p (entries b) → length (ending v.0 v.1) ≤ 51
 short_found w b p v ok is = ending_short w b v.0 v.1 ok (get-entries b v.0 ∙ first_found p (entries b) v (entries_sorted b) (sym is))
 
 -- What is made where no earlier refusal fits is allowed.

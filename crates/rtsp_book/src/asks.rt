@@ -4,7 +4,7 @@ use rtsp_record::{Stream, Thing};
 use rtsp_sessions::Startup;
 
 /// The session that an admission opens.
-#[derive(Clone, Copy, Debug, PartialEq, Eq)]
+#[derive(Clone, Copy, PartialEq, Eq)]
 pub struct Opening {
     pub id: u128,
     /// The connection that opens it.
@@ -14,7 +14,7 @@ pub struct Opening {
 }
 
 /// The address that an admission asks for.
-#[derive(Clone, Copy, Debug, PartialEq, Eq)]
+#[derive(Clone, Copy)]
 pub enum Wanted {
     /// A pair of ports.
     Pair,
@@ -26,7 +26,7 @@ pub enum Wanted {
 
 /// What an admission asks for: perhaps a new session, bits per second of the uplink, an address, a
 /// stream over them, and perhaps a startup number for the session. Its numbers were drawn before.
-#[derive(Clone, Copy, Debug, PartialEq, Eq)]
+#[derive(Clone, Copy)]
 pub struct Ask {
     pub session: u64,
     pub admission: u64,
@@ -40,7 +40,7 @@ pub struct Ask {
 }
 
 /// What an admission was given.
-#[derive(Clone, Copy, Debug, PartialEq, Eq)]
+#[derive(Clone, Copy, PartialEq, Eq)]
 pub struct Admitted {
     pub session: u64,
     pub admission: u64,

@@ -3,17 +3,18 @@
 ghost use Rattle.std.specs.Prelude.{◌≡◌, ◌<◌, ◌≤◌, [], ◌∷◌, ◌++◌, length, filter_map};
 ghost use Rattle.rtsp_book.specs.Receipts.{freed_pairs, freed_ports, freed_as};
 
-use rtsp_record::{Holding, Record, Renewal, Thing};
+use rtsp_record::{Id, Life, Record, Thing};
 use rtsp_sessions::UdpPorts;
 use std::marker::Model;
 
-/// The greatest number of records of one step.
-pub(crate) const MOST: usize = 64;
+// No step records more than the end of a session with 16 admissions: a Move, a Drop and two Frees
+// for each admission, an Unbind and a Close.
+const MOST: usize = 51;
 
 /// The records of an accepted step, in order, at most 64. It is of fixed size and takes no memory.
 #[derive(Drop)]
 pub struct Receipt {
-    records: [Record; 64],
+    records: [Record; MOST],
     len: usize,
 }
 
@@ -25,7 +26,7 @@ impl Model for Receipt {
 
     ghost view = { λ r. take r.len r.records };
 
-    ghost invariant = { λ r. r.len ≤ 64 };
+    ghost invariant = { λ r. r.len ≤ 51 };
 }
 
 impl Receipt {
@@ -33,13 +34,15 @@ impl Receipt {
     pub fn new() -> Self
         ensures { result ≡ [] }
     {
-        let blank = Record::Touch(Renewal {
+        // Each of its bytes is 0: the places are cleared at once, and none is written by itself.
+        let blank = Record::Open(Life {
             session: 0,
-            from: 0,
-            to: 0,
+            id: Id::new(0),
+            conn: 0,
+            expires: 0,
         });
         Receipt {
-            records: [blank; 64],
+            records: [blank; MOST],
             len: 0,
         }
     }
@@ -52,7 +55,7 @@ impl Receipt {
     }
 
     pub(crate) fn push(&mut self, change: Record)
-        requires { length self.old < 64 }
+        requires { length self.old < 51 }
         ensures { self.new ≡ self.old ++ change ∷ [] }
     {
         self.records[self.len] = change;

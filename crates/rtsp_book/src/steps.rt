@@ -5,7 +5,7 @@ use rtsp_sessions::Startup;
 
 /// What an admission has done so far: perhaps it opened the session, and then it held at most two
 /// different things, in this order.
-#[derive(Clone, Copy, Debug, PartialEq, Eq)]
+#[derive(Clone, Copy)]
 pub struct Chain {
     pub session: u64,
     pub admission: u64,
@@ -15,7 +15,7 @@ pub struct Chain {
 }
 
 /// Channels to be held under an admission.
-#[derive(Clone, Copy, Debug, PartialEq, Eq)]
+#[derive(Clone, Copy)]
 pub struct ChannelHold {
     pub session: u64,
     pub admission: u64,
@@ -25,7 +25,7 @@ pub struct ChannelHold {
 }
 
 /// A stream to be set up over what is held under an admission.
-#[derive(Clone, Copy, Debug, PartialEq, Eq)]
+#[derive(Clone, Copy)]
 pub struct Commit {
     pub session: u64,
     pub admission: u64,
@@ -35,7 +35,7 @@ pub struct Commit {
 }
 
 /// A play to be begun.
-#[derive(Clone, Copy, Debug, PartialEq, Eq)]
+#[derive(Clone, Copy, PartialEq, Eq)]
 pub struct Play {
     pub session: u64,
     /// The first unit; without, the session's present point.
@@ -54,7 +54,7 @@ pub struct Play {
 /// places in the media are units. A growing step may also be refused as `JournalFull` or
 /// `OutOfMemory`, the others never are. Of several refusals that fit, the first in the order of
 /// `Refusal` is answered.
-#[derive(Clone, Copy, Debug, PartialEq, Eq)]
+#[derive(Clone, Copy)]
 pub enum Step {
     /// Opens a session: the first step of a SETUP without a session. It grows. `TooManySessions`;
     /// `IdTaken` where a living session has the number or the id.

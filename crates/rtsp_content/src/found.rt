@@ -10,7 +10,7 @@ use crate::presentation::Presentation;
 use crate::track::Track;
 
 /// What a path names, by indices that are counted from 0.
-#[derive(Clone, Copy, Debug, PartialEq, Eq)]
+#[derive(Clone, Copy, PartialEq, Eq)]
 pub enum Found {
     /// A presentation.
     Presentation(u16),

@@ -15,7 +15,7 @@ use std::marker::Model;
 use toml::{Table, Value};
 
 /// What becomes of the entries of the journal that its files don't take.
-#[derive(Clone, Copy, Debug, PartialEq, Eq)]
+#[derive(Clone, Copy, PartialEq, Eq)]
 pub enum WhenFull {
     /// They wait, so that nothing is missing, and the journal fills up.
     Keep,
@@ -25,7 +25,7 @@ pub enum WhenFull {
 }
 
 /// The files that `serve` writes its journal to.
-#[derive(Debug, Drop)]
+#[derive(Drop)]
 pub struct JournalFiles {
     folder: String,
     period: u32,

@@ -19,7 +19,7 @@ use toml::value::Array;
 use toml::{Table, Value};
 
 /// The form that a text has to have.
-#[derive(Clone, Copy, Debug)]
+#[derive(Clone, Copy)]
 pub enum Form {
     /// 1 to 64 of `a` to `z`, digits, `-` and `_`.
     Name,

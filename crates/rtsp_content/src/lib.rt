@@ -3,6 +3,7 @@
 
 #![tactic(auto)]
 
+mod example;
 mod fault;
 mod found;
 mod journal_files;
@@ -17,6 +18,7 @@ mod server;
 mod table;
 mod track;
 
+pub use example::EXAMPLE;
 pub use fault::TableFault;
 pub use found::Found;
 pub use journal_files::{JournalFiles, WhenFull};

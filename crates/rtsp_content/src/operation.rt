@@ -16,7 +16,7 @@ use std::marker::Model;
 use toml::Table;
 
 /// What `serve` keeps and shows for those who run it.
-#[derive(Debug, Drop)]
+#[derive(Drop)]
 pub struct Operation {
     journal: Option<JournalFiles>,
     access_log: bool,

@@ -13,7 +13,7 @@ use rtsp_npt::UnitLength;
 use std::marker::Model;
 
 /// Tracks that are played together, in units of one length: each track has one packet a unit.
-#[derive(Debug, Drop)]
+#[derive(Drop)]
 pub struct Presentation {
     pub(crate) name: String,
     pub(crate) units: u32,

@@ -15,7 +15,7 @@ use crate::limits::{
 use toml::{Table, Value};
 
 /// The players that the server is to understand.
-#[derive(Clone, Copy, Debug, PartialEq, Eq)]
+#[derive(Clone, Copy, PartialEq, Eq)]
 pub enum Players {
     /// Those that write what RFC 7826 says.
     Strict,
@@ -25,7 +25,7 @@ pub enum Players {
 }
 
 /// The numbers of the server, and its players.
-#[derive(Clone, Copy, Debug, PartialEq, Eq)]
+#[derive(Clone, Copy, PartialEq, Eq)]
 pub struct Server {
     /// The first of the UDP ports that are given out in pairs. It is even.
     pub first_port: u16,

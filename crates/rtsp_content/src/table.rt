@@ -24,7 +24,7 @@ use std::alloc::Global;
 use std::marker::Model;
 
 /// What the server serves, and its own numbers.
-#[derive(Debug, Drop)]
+#[derive(Drop)]
 pub struct Table {
     server: Server,
     presentations: Vec<Presentation>,

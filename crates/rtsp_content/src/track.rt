@@ -8,7 +8,7 @@ ghost use Rattle.rtsp_content.specs.Track.{media_text};
 use std::marker::Model;
 
 /// What kind of media a track has.
-#[derive(Clone, Copy, Debug, PartialEq, Eq)]
+#[derive(Clone, Copy, PartialEq, Eq)]
 pub enum Media {
     Audio,
     Video,
@@ -28,7 +28,7 @@ impl Media {
 
 /// One media stream of a presentation: a raw file of units of one size, each sent as one RTP
 /// packet.
-#[derive(Debug, Drop)]
+#[derive(Drop)]
 pub struct Track {
     pub(crate) name: String,
     pub(crate) media: Media,

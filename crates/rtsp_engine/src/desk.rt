@@ -6,7 +6,7 @@ use rtsp_content::Table;
 use rtsp_lock::{BookLock, BookSeat};
 
 /// Who asks: the connection's number, and the player's IPv4 address.
-#[derive(Clone, Copy, Debug)]
+#[derive(Clone, Copy)]
 pub struct Asker {
     pub conn: u64,
     pub peer: u32,

@@ -12,7 +12,7 @@ use rtsp_state::Room;
 use std::alloc::Global;
 
 /// How the serving of a connection has ended.
-#[derive(Clone, Copy, Debug, PartialEq, Eq)]
+#[derive(Clone, Copy, PartialEq, Eq)]
 pub enum ServeEnd {
     /// The input is at its end, perhaps inside an item.
     Closed,

@@ -17,7 +17,7 @@ use rtsp_state::Room;
 use std::alloc::Global;
 
 /// What comes of reading where nothing is waited for.
-#[derive(Clone, Copy, Debug, PartialEq, Eq)]
+#[derive(Clone, Copy, PartialEq, Eq)]
 pub enum Reading {
     /// So many bytes.
     Bytes(usize),
@@ -77,7 +77,7 @@ pub trait PieceAnswerer {
 }
 
 /// How a visit has ended.
-#[derive(Clone, Copy, Debug, PartialEq, Eq)]
+#[derive(Clone, Copy, PartialEq, Eq)]
 pub enum VisitEnd {
     /// There may be more to read.
     More,

@@ -1,7 +1,7 @@
 //! What a sweep did.
 
 /// What a sweep did.
-#[derive(Clone, Copy, Debug, PartialEq, Eq)]
+#[derive(Clone, Copy, PartialEq, Eq)]
 pub struct Swept {
     /// How many of its steps were accepted.
     pub ended: u32,

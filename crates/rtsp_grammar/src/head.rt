@@ -17,7 +17,7 @@ use rtsp_text::Text;
 use std::alloc::Global;
 
 /// A message without its body.
-#[derive(Debug, Drop)]
+#[derive(Drop)]
 pub struct Head {
     pub start: StartLine,
     pub headers: Headers,

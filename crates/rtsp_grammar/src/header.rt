@@ -10,7 +10,7 @@ use std::marker::Model;
 
 // Where a header is in the buffer: its name begins at `name`, its value at `value`, and it ends
 // before `end`.
-#[derive(Clone, Copy, Debug)]
+#[derive(Clone, Copy)]
 struct Place {
     name: usize,
     value: usize,
@@ -18,7 +18,7 @@ struct Place {
 }
 
 /// One header of a message (RFC 7826 section 5.2).
-#[derive(Clone, Copy, Debug)]
+#[derive(Clone, Copy)]
 pub struct Header<'a> {
     /// As it was written: names are compared without regard to case.
     pub name: &'a [u8],
@@ -40,7 +40,7 @@ impl Header<'_> {
 pub struct Repeated;
 
 /// The headers of a message, in order.
-#[derive(Debug, Drop)]
+#[derive(Drop)]
 pub struct Headers {
     bytes: Vec<u8>,
     places: Vec<Place>,
@@ -139,7 +139,7 @@ impl Headers {
 
 /// Headers that are being made, and the room that is left for more: how many, and how many bytes of
 /// their names and values.
-#[derive(Debug, Drop)]
+#[derive(Drop)]
 pub struct HeadersBuilder {
     bytes: Vec<u8>,
     places: Vec<Place>,

@@ -6,7 +6,7 @@ use crate::version::Version;
 use rtsp_text::Text;
 
 /// A request (RFC 7826 section 7).
-#[derive(Debug, Drop)]
+#[derive(Drop)]
 pub struct Request {
     pub method: Method,
     /// As it is written, `*` too; one that is read has at most 1,024 bytes.
@@ -18,7 +18,7 @@ pub struct Request {
 }
 
 /// A response (RFC 7826 section 8).
-#[derive(Debug, Drop)]
+#[derive(Drop)]
 pub struct Response {
     pub version: Version,
     /// Three digits, so at most 999.
@@ -31,7 +31,7 @@ pub struct Response {
 }
 
 /// Bytes of one channel between messages (RFC 7826 section 14).
-#[derive(Debug, Drop)]
+#[derive(Drop)]
 pub struct Frame {
     pub channel: u8,
     /// At most 65,535 bytes.
@@ -39,7 +39,7 @@ pub struct Frame {
 }
 
 /// What follows one another on a connection: a request, a response or a frame.
-#[derive(Debug, Drop)]
+#[derive(Drop)]
 pub enum Item {
     Request(Request),
     Response(Response),

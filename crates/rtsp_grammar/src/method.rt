@@ -9,7 +9,7 @@ use rtsp_text::Text;
 use std::alloc::{AllocError, Global};
 
 /// A method (RFC 7826 section 13): one of the standard's ten, or any other token.
-#[derive(Debug, Drop)]
+#[derive(Drop)]
 pub enum Method {
     Describe,
     GetParameter,

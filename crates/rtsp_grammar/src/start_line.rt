@@ -15,7 +15,7 @@ use std::alloc::{AllocError, Global};
 const URI_LIMIT: usize = 1024;
 
 /// What a first line says.
-#[derive(Debug, Drop)]
+#[derive(Drop)]
 pub enum StartLine {
     Request {
         method: Method,

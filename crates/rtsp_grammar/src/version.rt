@@ -10,7 +10,7 @@ use rtsp_text::{Text, is_number, split_once};
 use std::alloc::{AllocError, Global};
 
 /// The protocol's version (RFC 7826 sections 4.1 and 20.2.2).
-#[derive(Debug, Drop)]
+#[derive(Drop)]
 pub enum Version {
     /// 2.0. Its numbers are compared as numbers, so that leading zeros count for nothing.
     Rtsp2,

@@ -1,7 +1,7 @@
 //! What a living session is searched by.
 
 /// What a living session is searched by.
-#[derive(Clone, Copy, Debug)]
+#[derive(Clone, Copy)]
 pub(crate) enum Search {
     /// A number that is not below this one.
     From(u64),

@@ -14,7 +14,7 @@ use std::thread;
 use std::thread::Threads;
 
 /// What a turn of a lane came to.
-#[derive(Clone, Copy, Debug, PartialEq, Eq)]
+#[derive(Clone, Copy, PartialEq, Eq)]
 pub struct LaneTurn {
     /// How many connections were served to their end in it.
     pub ended: u64,
@@ -36,7 +36,7 @@ pub trait Lane: Drop {
 }
 
 /// How a pool has ended.
-#[derive(Clone, Copy, Debug, PartialEq, Eq)]
+#[derive(Clone, Copy, PartialEq, Eq)]
 pub struct PoolEnd {
     /// How many connections were served to their end.
     pub served: u64,

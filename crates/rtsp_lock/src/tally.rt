@@ -6,7 +6,7 @@ use crate::rule::LockBook;
 use rtsp_book::{BookRep, Kept};
 
 /// The figures of the book at one moment.
-#[derive(Clone, Copy, Debug, PartialEq, Eq)]
+#[derive(Clone, Copy, PartialEq, Eq)]
 pub struct Tally {
     /// Living sessions.
     pub sessions: usize,

@@ -1,6 +1,5 @@
 //! The example configuration: what it says, how it is described, and what is refused beside it.
 
-use crate::example::EXAMPLE;
 use rtsp_content::*;
 use std::alloc::{AllocError, Global};
 use std::process::Abort;

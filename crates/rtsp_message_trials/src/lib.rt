@@ -6,8 +6,6 @@
 #[cfg(test)]
 mod configurations;
 #[cfg(test)]
-mod example;
-#[cfg(test)]
 mod header_values;
 #[cfg(test)]
 mod last_turns;

@@ -2,8 +2,7 @@
 
 ghost use Rattle.std.specs.Prelude.{◌≡◌};
 
-use crate::example::EXAMPLE;
-use rtsp_content::Table;
+use rtsp_content::{EXAMPLE, Table};
 use rtsp_record::{Holding, Id, Life, Phase, Record, Setup, Stream, Thing, Transition, Whole};
 use rtsp_rtp::*;
 use rtsp_sessions::{BookRep, PlainBook, SessionView};

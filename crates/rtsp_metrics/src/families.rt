@@ -12,7 +12,7 @@ use rtsp_text::append_all;
 use std::alloc::AllocError;
 
 /// A figure: what stands behind the name of its family, and its value.
-#[derive(Clone, Copy, Debug)]
+#[derive(Clone, Copy)]
 pub(crate) struct Figure<'a> {
     pub(crate) mark: &'a [u8],
     pub(crate) value: u128,

@@ -1,7 +1,7 @@
 //! What requests and answers are counted by.
 
 /// The method of a request, as the figures name it.
-#[derive(Clone, Copy, Debug, PartialEq, Eq)]
+#[derive(Clone, Copy, PartialEq, Eq)]
 pub enum Method {
     Options,
     Describe,
@@ -15,7 +15,7 @@ pub enum Method {
 }
 
 /// What the first digit of a status says.
-#[derive(Clone, Copy, Debug, PartialEq, Eq)]
+#[derive(Clone, Copy, PartialEq, Eq)]
 pub enum Outcome {
     Success,
     Redirection,
@@ -24,7 +24,7 @@ pub enum Outcome {
 }
 
 /// Why a request was refused, as the figures name it.
-#[derive(Clone, Copy, Debug, PartialEq, Eq)]
+#[derive(Clone, Copy, PartialEq, Eq)]
 pub enum Refusal {
     Bandwidth,
     Unavailable,
@@ -35,20 +35,25 @@ pub enum Refusal {
     Other,
 }
 
+// The names of the methods that are counted by themselves.
+const NAMES: [(&[u8], Method); 8] = [
+    (b"OPTIONS", Method::Options),
+    (b"DESCRIBE", Method::Describe),
+    (b"SETUP", Method::Setup),
+    (b"PLAY", Method::Play),
+    (b"PAUSE", Method::Pause),
+    (b"TEARDOWN", Method::Teardown),
+    (b"GET_PARAMETER", Method::GetParameter),
+    (b"SET_PARAMETER", Method::SetParameter),
+];
+
 impl Method {
     /// The method of this name; any other name is `Other`.
     pub fn of(name: &[u8]) -> Method {
-        match name {
-            b"OPTIONS" => Method::Options,
-            b"DESCRIBE" => Method::Describe,
-            b"SETUP" => Method::Setup,
-            b"PLAY" => Method::Play,
-            b"PAUSE" => Method::Pause,
-            b"TEARDOWN" => Method::Teardown,
-            b"GET_PARAMETER" => Method::GetParameter,
-            b"SET_PARAMETER" => Method::SetParameter,
-            _ => Method::Other,
-        }
+        NAMES
+            .iter()
+            .find(|known| known.0 == name)
+            .map_or(Method::Other, |known| known.1)
     }
 }
 

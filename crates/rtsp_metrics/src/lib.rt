@@ -26,6 +26,3 @@ pub use snapshot::{
     BookFigures, ByMethod, ByOutcome, Connections, Counts, Held, Lateness, Packets, Refusals,
     Snapshot,
 };
-
-#[cfg(test)]
-mod tests;

@@ -11,7 +11,7 @@ use rtsp_text::{append_all, three_digits};
 use std::alloc::{AllocError, Global};
 
 /// What a row shows, beside its name.
-#[derive(Clone, Copy, Debug)]
+#[derive(Clone, Copy)]
 pub(crate) enum Row<'a> {
     Number(&'a [u8], u64),
     /// A part of a whole.

@@ -1,14 +1,14 @@
 //! The figures of a server at one moment.
 
 /// What is held of a whole, and what is free of it.
-#[derive(Clone, Copy, Debug, PartialEq, Eq)]
+#[derive(Clone, Copy, PartialEq, Eq)]
 pub struct Held {
     pub held: u64,
     pub free: u64,
 }
 
 /// What the book has, by one look under its lock.
-#[derive(Clone, Copy, Debug, PartialEq, Eq)]
+#[derive(Clone, Copy, PartialEq, Eq)]
 pub struct BookFigures {
     /// Sessions that live.
     pub sessions: u64,
@@ -27,7 +27,7 @@ pub struct BookFigures {
 }
 
 /// What became of connections.
-#[derive(Clone, Copy, Debug, PartialEq, Eq)]
+#[derive(Clone, Copy, PartialEq, Eq)]
 pub struct Connections {
     pub accepted: u64,
     /// Closed at once, because the server or the address of the player had no more.
@@ -35,7 +35,7 @@ pub struct Connections {
 }
 
 /// Answers by the first digit of their status.
-#[derive(Clone, Copy, Debug, PartialEq, Eq)]
+#[derive(Clone, Copy, PartialEq, Eq)]
 pub struct ByOutcome {
     pub success: u64,
     pub redirection: u64,
@@ -53,7 +53,7 @@ impl ByOutcome {
 }
 
 /// Requests that were answered, by their method.
-#[derive(Clone, Copy, Debug, PartialEq, Eq)]
+#[derive(Clone, Copy, PartialEq, Eq)]
 pub struct ByMethod {
     pub options: ByOutcome,
     pub describe: ByOutcome,
@@ -82,7 +82,7 @@ impl ByMethod {
 }
 
 /// Requests that were refused, by why.
-#[derive(Clone, Copy, Debug, PartialEq, Eq)]
+#[derive(Clone, Copy, PartialEq, Eq)]
 pub struct Refusals {
     /// The uplink has no more (453).
     pub bandwidth: u64,
@@ -113,14 +113,14 @@ impl Refusals {
 }
 
 /// RTP packets.
-#[derive(Clone, Copy, Debug, PartialEq, Eq)]
+#[derive(Clone, Copy, PartialEq, Eq)]
 pub struct Packets {
     pub sent: u64,
     pub lost: u64,
 }
 
 /// How many packets were sent so late, each counted once, and how late all were together.
-#[derive(Clone, Copy, Debug, PartialEq, Eq)]
+#[derive(Clone, Copy, PartialEq, Eq)]
 pub struct Lateness {
     pub within_1_ms: u64,
     pub within_2_ms: u64,
@@ -136,7 +136,7 @@ pub struct Lateness {
 }
 
 /// What the counters of a server have counted.
-#[derive(Clone, Copy, Debug, PartialEq, Eq)]
+#[derive(Clone, Copy, PartialEq, Eq)]
 pub struct Counts {
     pub connections: Connections,
     pub requests: ByMethod,
@@ -153,7 +153,7 @@ pub struct Counts {
 }
 
 /// All figures of a server.
-#[derive(Clone, Copy, Debug, PartialEq, Eq)]
+#[derive(Clone, Copy, PartialEq, Eq)]
 pub struct Snapshot {
     /// Since the server began.
     pub uptime_seconds: u64,

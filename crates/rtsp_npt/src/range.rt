@@ -3,7 +3,7 @@
 use crate::time::Time;
 
 /// A range of normal play time, with the times as they were written.
-#[derive(Clone, Copy, Debug, PartialEq, Eq)]
+#[derive(Clone, Copy, PartialEq, Eq)]
 pub enum Range {
     /// `npt`: from the resume point to the end.
     Rest,

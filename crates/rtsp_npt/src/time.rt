@@ -18,7 +18,7 @@ const SECONDS_DIGITS: usize = 19;
 const FRACTION_DIGITS: usize = 9;
 
 /// A time of normal play time, exactly as it was written.
-#[derive(Clone, Copy, Debug, PartialEq, Eq, PartialOrd, Ord)]
+#[derive(Clone, Copy, PartialEq, Eq, PartialOrd, Ord)]
 pub struct Time {
     /// Nanoseconds from the beginning of the media.
     pub nanos: u128,

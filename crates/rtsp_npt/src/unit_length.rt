@@ -5,7 +5,7 @@ ghost use Rattle.std.specs.Prelude.{◌≡◌, ◌≤◌};
 use std::marker::Model;
 
 /// How long a unit of media lasts: 1 to 1,000 milliseconds. A contract sees it as their number.
-#[derive(Clone, Copy, Debug, PartialEq, Eq)]
+#[derive(Clone, Copy, PartialEq, Eq)]
 pub struct UnitLength {
     ms: u32,
 }

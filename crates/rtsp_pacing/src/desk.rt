@@ -32,7 +32,7 @@ pub struct PacerParts<'a> {
 }
 
 /// What a pacer did.
-#[derive(Clone, Copy, Debug, PartialEq, Eq)]
+#[derive(Clone, Copy, PartialEq, Eq)]
 pub struct Paced {
     /// Plays that it took over.
     pub plays: u64,

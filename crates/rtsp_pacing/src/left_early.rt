@@ -20,7 +20,7 @@ pub(crate) fn begun_at(phase: Phase) -> u64 {
 }
 
 // Which window it is, and how many were taken in it.
-#[derive(Clone, Copy, Debug, PartialEq, Eq)]
+#[derive(Clone, Copy, PartialEq, Eq)]
 pub(crate) struct LeftEarly {
     window: u64,
     count: u32,

@@ -10,7 +10,7 @@ pub const REFUSED_FOR: u64 = 5_000;
 pub const SPARED_FOR: u64 = 60_000;
 
 // Whether a player's port refuses datagrams, as its system tells where nobody has it.
-#[derive(Clone, Copy, Debug, PartialEq, Eq)]
+#[derive(Clone, Copy, PartialEq, Eq)]
 pub(crate) struct Refusals {
     // Since when each datagram was refused, if any was.
     since: Option<u64>,

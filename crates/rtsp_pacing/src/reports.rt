@@ -13,7 +13,7 @@ use rtsp_record::Thing;
 use std::sync::Wait;
 
 /// A frame that came on a channel of a connection, at a moment in milliseconds.
-#[derive(Clone, Copy, Debug, PartialEq, Eq)]
+#[derive(Clone, Copy, PartialEq, Eq)]
 pub struct Report {
     pub conn: u64,
     pub channel: u8,

@@ -3,7 +3,7 @@
 use crate::streams::Stream;
 
 /// What a session may hold under an admission: bits of the uplink, or an address for its packets.
-#[derive(Clone, Copy, Debug, PartialEq, Eq)]
+#[derive(Clone, Copy, PartialEq, Eq)]
 pub enum Thing {
     /// The UDP port with this number and the next, for RTP and RTCP (RFC 3550 section 11).
     Pair(u16),
@@ -17,7 +17,7 @@ pub enum Thing {
 }
 
 /// What a session holds under one admission, and the stream that goes over it.
-#[derive(Clone, Copy, Debug, PartialEq, Eq)]
+#[derive(Clone, Copy, PartialEq, Eq)]
 pub struct Admission {
     /// Bits per second of the uplink.
     pub rate: Option<u64>,
@@ -27,7 +27,7 @@ pub struct Admission {
 }
 
 /// What the server has: ports, bandwidth, and how many sessions and entries there may be.
-#[derive(Clone, Copy, Debug, PartialEq, Eq)]
+#[derive(Clone, Copy, PartialEq, Eq)]
 pub struct Whole {
     /// The least port of the pairs; even, 1,024 at least.
     pub first_port: u16,

@@ -9,7 +9,7 @@ const HALF: u128 = 1 << 64;
 
 /// A session's id: 128 bits, drawn at random (RFC 7826 section 4.3). It is kept in two halves: a
 /// u128 would align every record to 16 bytes.
-#[derive(Clone, Copy, Debug, PartialEq, Eq)]
+#[derive(Clone, Copy, PartialEq, Eq)]
 pub struct Id {
     high: u64,
     low: u64,

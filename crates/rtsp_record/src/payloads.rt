@@ -7,7 +7,7 @@ use crate::phases::Phase;
 use crate::streams::Stream;
 
 /// What a session begins with.
-#[derive(Clone, Copy, Debug, PartialEq, Eq)]
+#[derive(Clone, Copy, PartialEq, Eq)]
 pub struct Life {
     /// The session's number.
     pub session: u64,
@@ -19,7 +19,7 @@ pub struct Life {
 }
 
 /// A thing that a session holds under an admission.
-#[derive(Clone, Copy, Debug, PartialEq, Eq)]
+#[derive(Clone, Copy, PartialEq, Eq)]
 pub struct Holding {
     pub session: u64,
     pub admission: u64,
@@ -27,7 +27,7 @@ pub struct Holding {
 }
 
 /// A track that is set up over what an admission holds.
-#[derive(Clone, Copy, Debug, PartialEq, Eq)]
+#[derive(Clone, Copy, PartialEq, Eq)]
 pub struct Setup {
     pub session: u64,
     pub admission: u64,
@@ -35,7 +35,7 @@ pub struct Setup {
 }
 
 /// A session's way from one phase to another.
-#[derive(Clone, Copy, Debug, PartialEq, Eq)]
+#[derive(Clone, Copy, PartialEq, Eq)]
 pub struct Transition {
     pub session: u64,
     pub from: Phase,
@@ -43,7 +43,7 @@ pub struct Transition {
 }
 
 /// A change of the moment from which on a session may be ended.
-#[derive(Clone, Copy, Debug, PartialEq, Eq)]
+#[derive(Clone, Copy, PartialEq, Eq)]
 pub struct Renewal {
     pub session: u64,
     pub from: u64,
@@ -51,7 +51,7 @@ pub struct Renewal {
 }
 
 /// A startup number that a session has on a connection (RFC 7826 section 18.33).
-#[derive(Clone, Copy, Debug, PartialEq, Eq)]
+#[derive(Clone, Copy, PartialEq, Eq)]
 pub struct Binding {
     pub session: u64,
     pub conn: u64,

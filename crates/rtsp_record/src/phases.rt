@@ -5,7 +5,7 @@ ghost use Rattle.rtsp_record.specs.Moments.{due, point, sent_before, sent_with_d
 
 /// Where a session is in its play. `at`, `from` and `stop` are units of media, `stop` exclusive;
 /// `sent` counts the units sent in earlier plays, modulo 2^32.
-#[derive(Clone, Copy, Debug, PartialEq, Eq)]
+#[derive(Clone, Copy, PartialEq, Eq)]
 pub enum Phase {
     /// It plays from `at` on when it is asked to.
     Ready {

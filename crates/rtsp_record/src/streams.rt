@@ -1,7 +1,7 @@
 //! The stream of one track.
 
 /// A track that is set up for a session, with what its RTP packets carry (RFC 3550 section 5.1).
-#[derive(Clone, Copy, Debug, PartialEq, Eq)]
+#[derive(Clone, Copy, PartialEq, Eq)]
 pub struct Stream {
     /// The presentation's place in the table of content, from 0.
     pub presentation: u16,

@@ -8,7 +8,7 @@ use rtsp_content::Track;
 use rtsp_record::Stream;
 
 /// What is the same in all packets of a stream (RFC 3550 section 5.1), and what counts them.
-#[derive(Clone, Copy, Debug, PartialEq, Eq)]
+#[derive(Clone, Copy, PartialEq, Eq)]
 pub struct Source {
     /// The track's place in its presentation, from 0.
     pub track: u16,

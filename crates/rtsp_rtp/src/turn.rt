@@ -1,7 +1,7 @@
 //! What comes of a turn.
 
 /// What comes of a turn of a pacer.
-#[derive(Clone, Copy, Debug, PartialEq, Eq)]
+#[derive(Clone, Copy, PartialEq, Eq)]
 pub enum Turn {
     /// All that was due is sent, and more will be due.
     More,
@@ -14,7 +14,7 @@ pub enum Turn {
 }
 
 /// What comes of a turn of a pacer whose session has left the play.
-#[derive(Clone, Copy, Debug, PartialEq, Eq)]
+#[derive(Clone, Copy, PartialEq, Eq)]
 pub enum LastTurn {
     /// All units that were counted as sent are.
     Done,

@@ -1,4 +1,5 @@
-//! Tests of the crates that send over real sockets of this host. The crate has nothing else.
+//! Tests of the crates that send over real sockets of this host, and of what players may have of them.
+//! The crate has nothing else.
 
 #![tactic(auto)]
 
@@ -12,6 +13,8 @@ mod outlets;
 mod pairs_and_files;
 #[cfg(test)]
 mod plays;
+#[cfg(test)]
+mod shares;
 #[cfg(test)]
 mod sockets;
 #[cfg(test)]

@@ -7,12 +7,13 @@ ghost use Rattle.rtsp_engine.specs.Serving.{serving_of};
 ghost use Rattle.rtsp_dialect.specs.Understanding.{AnswersUnderstood, GivesUpUnderstood, TakesPiece, FaultsPiece, gathered};
 
 use crate::figures::AnswerCounter;
+use crate::lane_lines::LaneLines;
 use crate::shared::Shared;
 use rtsp_content::Table;
 use rtsp_engine::{Asker, Binder, Clock, Connection, PieceAnswerer, Plays, Shares, Words};
 use rtsp_grammar::MessageFault;
 use rtsp_lanes::BookHandle;
-use rtsp_log::Event;
+use rtsp_log::{Event, moment};
 use rtsp_metrics::AnswerCounters;
 use rtsp_pacing::NotedPlays;
 use rtsp_sockets::{Outlet, PieceClock, PortBinder, RandomWords};
@@ -31,6 +32,7 @@ pub(crate) struct Front<'a, R> {
     pub(crate) shared: &'a Shared,
     /// Those of the lane.
     pub(crate) answers: &'a AnswerCounters,
+    pub(crate) lines: &'a LaneLines,
     pub(crate) table: &'a Table,
     pub(crate) now: u64,
     pub(crate) handle: &'a mut BookHandle,
@@ -53,6 +55,7 @@ fn answer_piece<R: Wait + Net + rt::Clock, W: Words, P: Plays>(
     alloc: Global,
     shared: &Shared,
     answers: &AnswerCounters,
+    lines: &LaneLines,
     table: &Table,
     handle: &mut BookHandle,
     lane: &mut BookHandle,
@@ -77,10 +80,17 @@ fn answer_piece<R: Wait + Net + rt::Clock, W: Words, P: Plays>(
     let mut binder = PortBinder::new(rt, &shared.ports, host);
     let mut clock = PieceClock::new(rt, shared.begun);
     let mut shares = LaneShares::new(rt, shared.session_shares.as_ref(), lane);
+    let moment = if shared.log.logs_access() {
+        moment(rt)
+    } else {
+        0
+    };
     let witness = AnswerCounter {
         rt,
         shared,
         answers,
+        lines,
+        moment,
         peer: asker.peer,
         conn: asker.conn,
     };
@@ -134,6 +144,7 @@ impl<R: Wait + Net + rt::Clock> PieceAnswerer for Front<'_, R> {
             alloc,
             self.shared,
             self.answers,
+            self.lines,
             self.table,
             self.handle,
             self.lane,

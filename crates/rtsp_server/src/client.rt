@@ -21,7 +21,7 @@ use std::rt;
 use std::sync::{Arc, Wait};
 
 /// What comes of a visit to a connection.
-#[derive(Clone, Copy, Debug, PartialEq, Eq)]
+#[derive(Clone, Copy, PartialEq, Eq)]
 pub(crate) enum Visit {
     /// Nothing is left to be done until the system tells of it.
     Done,
@@ -32,7 +32,7 @@ pub(crate) enum Visit {
 }
 
 // How far a connection has come.
-#[derive(Clone, Copy, Debug, PartialEq, Eq)]
+#[derive(Clone, Copy, PartialEq, Eq)]
 enum Stage {
     Open,
     // Too much waits to be written, so it isn't read.
@@ -89,7 +89,7 @@ impl Client {
         let host = host_of(&stream);
         let mut handle = lane.split(service.rt)?;
         let conn = handle.draw(service.rt)?;
-        let loan = Loan::of(&service.shared.frame_room)?;
+        let loan = Loan::of(&service.shared.lent.frames)?;
         let outlet = Arc::new(service.alloc, Outlet::new(service.alloc, stream, loan)).ok()?;
         Some(Client {
             handle,
@@ -97,7 +97,7 @@ impl Client {
             host,
             outlet,
             input: Connection::new(service.alloc),
-            unread: UnreadLoan::of(&service.shared.unread_room)?,
+            unread: UnreadLoan::of(&service.shared.lent.unread)?,
             stage: Stage::Open,
             is_readable: false,
             is_writable: false,
@@ -212,6 +212,7 @@ impl Client {
             service.alloc,
             service.shared,
             service.answers,
+            service.lines,
             service.table,
             service.now,
             handle,

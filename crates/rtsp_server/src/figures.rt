@@ -1,10 +1,11 @@
 //! What is counted and shown of a server, for whoever runs it.
 
+use crate::lane_lines::LaneLines;
 use crate::shared::Shared;
 use rtsp_content::Table;
 use rtsp_lanes::BookHandle;
 use rtsp_lock::{HandOutFault, Mark, Then};
-use rtsp_log::{Access, Cut, Event};
+use rtsp_log::{Access, Event};
 use rtsp_metrics::{AnswerCounters, BookFigures, Counts, Held, Method, Snapshot};
 use rtsp_record::Entry;
 use rtsp_status::Source;
@@ -27,6 +28,10 @@ pub(crate) struct AnswerCounter<'a, R> {
     pub(crate) rt: &'a R,
     pub(crate) shared: &'a Shared,
     pub(crate) answers: &'a AnswerCounters,
+    pub(crate) lines: &'a LaneLines,
+    /// The moment of the lines, in milliseconds since 1970: the clock is read once for the requests of a
+    /// piece, which are answered within some milliseconds.
+    pub(crate) moment: u64,
     pub(crate) peer: u32,
     pub(crate) conn: u64,
 }
@@ -46,12 +51,12 @@ impl<R: Wait + rt::Clock> Witness for AnswerCounter<'_, R> {
             let access = Access {
                 peer: self.peer,
                 conn: self.conn,
-                method: Cut::of(told.method),
-                uri: Cut::of(told.uri),
+                method: told.method,
+                uri: told.uri,
                 status: told.status,
                 session: told.session(),
             };
-            log.access(self.rt, access);
+            self.lines.add(self.rt, log, self.moment, access);
         }
     }
 }

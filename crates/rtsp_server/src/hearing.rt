@@ -6,7 +6,7 @@ use rtsp_pacing::{Report, hear, report_step};
 use std::sync::Wait;
 
 /// Whose RTCP a connection hears: that of the session whose play was begun on it last.
-#[derive(Clone, Copy, Debug)]
+#[derive(Clone, Copy)]
 pub(crate) struct Hearing {
     session: Option<u64>,
     // When a frame was heard last.

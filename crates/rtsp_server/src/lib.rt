@@ -4,9 +4,9 @@
 //! `server` starts all of them and joins them, with what `opening` gives, and `threads` is what each
 //! does. `socket_lane` is a lane of sockets, `client` a connection of it, and `visiting` reads it:
 //! `answering` is what is done with its input by a thread's handle of the book, `writing` and `hearing`
-//! with its output and its RTCP; `unread` is what it holds of a message that isn't whole. `sweeper` and
-//! `stopping` are the threads that end sessions and the server. What they go by is in rtsp_threads, and how one player is kept from
-//! harming the others in rtsp_shares.
+//! with its output and its RTCP; `unread` is what it holds of a message that isn't whole, and `lane_lines`
+//! what a lane holds of the log. `sweeper` and `stopping` are the threads that end sessions and the server.
+//! What they go by is in rtsp_threads, and how one player is kept from harming the others in rtsp_shares.
 
 #![tactic(auto)]
 
@@ -15,6 +15,7 @@ mod client;
 mod fault;
 mod figures;
 mod hearing;
+mod lane_lines;
 mod opening;
 mod server;
 mod service;

@@ -5,7 +5,9 @@ use crate::shared::Shared;
 use crate::socket_lane::SocketLane;
 use mio::net::TcpListener;
 use rtsp_content::{Operation, Table};
+use rtsp_lanes::{BookHandle, open_book, whole_of};
 use rtsp_pacing::PacerPlays;
+use rtsp_sockets::{Media, Reader};
 use rtsp_status::{PEERS, StatusServer};
 use rtsp_threads::{CONNECTIONS, ScribeBell, connections_for, descriptor_limit};
 use std::alloc::{AllocError, Global};
@@ -18,40 +20,125 @@ use std::sync::{Arc, Wait};
 use std::thread::Threads;
 use std::{io, net, rt, thread};
 
-// How many threads the machine runs at once.
-pub(crate) fn cores<R: Threads>(rt: &R) -> usize {
-    match thread::available_parallelism(rt) {
-        Ok(cores) => cores.get(),
-        Err(_) => 1,
+// What sends the packets of plays, and reads them ahead.
+#[derive(Drop)]
+pub(crate) struct Sending {
+    pub(crate) media: Media,
+    pub(crate) readers: Vec<Reader>,
+    pub(crate) pacers: Vec<PacerPlays>,
+}
+
+impl Sending {
+    // For half as many pacers as the machine has cores, but at least one.
+    pub(crate) fn open<R: Threads + Files<File = File>>(
+        rt: &R,
+        alloc: Global,
+        table: &Table,
+    ) -> Result<Sending, ServerFault> {
+        let media = Media::open(rt, alloc, table)?;
+        let readers = media.readers(alloc)?;
+        let count = (cores(rt) / 2).max(1);
+        let pacers = open_pacers(alloc, count, table.server().sessions)?;
+        Ok(Sending {
+            media,
+            readers,
+            pacers,
+        })
     }
 }
 
-// What the threads of a server share, where this address can be listened on.
-pub(crate) fn share<R: Net + rt::Clock>(
-    rt: &R,
+// What players connect to, before it has threads.
+#[derive(Drop)]
+pub(crate) struct Listening {
+    pub(crate) shared: Arc<Shared>,
+    pub(crate) lanes: Vec<SocketLane>,
+    pub(crate) address: SocketAddr,
+    pub(crate) connections: u64,
+}
+
+// What a server is opened for.
+#[derive(Clone, Copy)]
+pub(crate) struct Opening<'a> {
+    pub(crate) table: &'a Table,
+    pub(crate) operation: &'a Operation,
+    pub(crate) pacers: usize,
+}
+
+impl Opening<'_> {
+    // Listens on this address for so many connections, or any number. It comes last, since then all
+    // descriptors are in use but those that the threads open.
+    pub(crate) fn listen<R: Wait + Net + rt::Clock + Files<File = File>>(
+        self,
+        rt: &R,
+        alloc: Global,
+        address: SocketAddr,
+        connections: Option<u64>,
+        scribe: Option<ScribeBell>,
+    ) -> Result<Listening, ServerFault> {
+        let listener = net::TcpListener::from(TcpListener::bind(rt, address)?);
+        let address = listener.local_addr()?;
+        let shared = self.share(rt, alloc, listener.try_clone()?, connections, scribe)?;
+        let workers = usize::from(self.table.server().workers);
+        let lanes = open_lanes(rt, alloc, &shared, &listener, workers)?;
+        let connections = connections_of(self.table, self.operation, &listener)?;
+        if connections == 0 {
+            return Err(ServerFault::DeviceFailed);
+        }
+        shared.gate.allow(connections);
+        Ok(Listening {
+            shared,
+            lanes,
+            address,
+            connections,
+        })
+    }
+
+    // What the threads of the server share.
+    fn share<R: Net + rt::Clock>(
+        self,
+        rt: &R,
+        alloc: Global,
+        listener: net::TcpListener,
+        connections: Option<u64>,
+        scribe: Option<ScribeBell>,
+    ) -> Result<Arc<Shared>, ServerFault> {
+        let listener = TcpListener::from_std(listener);
+        let shared = Shared::open(
+            rt,
+            alloc,
+            self.table,
+            listener,
+            connections,
+            self.pacers,
+            scribe,
+            self.operation.access_log(),
+        )?;
+        match Arc::new(alloc, shared) {
+            Ok(shared) => Ok(shared),
+            Err(_) => Err(ServerFault::OutOfMemory),
+        }
+    }
+}
+
+// The book, whose entries are kept where they are written to files, by a thread with this bell.
+pub(crate) fn open_journal(
     alloc: Global,
     table: &Table,
-    listener: net::TcpListener,
-    connections: Option<u64>,
-    pacers: usize,
-    scribe: Option<ScribeBell>,
     operation: &Operation,
-) -> Result<Arc<Shared>, ServerFault> {
-    let listener = TcpListener::from_std(listener);
-    let logs_access = operation.access_log();
-    let shared = Shared::open(
-        rt,
-        alloc,
-        table,
-        listener,
-        connections,
-        pacers,
-        scribe,
-        logs_access,
-    )?;
-    match Arc::new(alloc, shared) {
-        Ok(shared) => Ok(shared),
-        Err(_) => Err(ServerFault::OutOfMemory),
+) -> Result<(BookHandle, Option<ScribeBell>), ServerFault> {
+    let mut handle = open_book(alloc, &whole_of(table))?;
+    if operation.journal().is_none() {
+        return Ok((handle, None));
+    }
+    handle.keep_entries();
+    Ok((handle, Some(ScribeBell::new())))
+}
+
+// How many threads the machine runs at once.
+fn cores<R: Threads>(rt: &R) -> usize {
+    match thread::available_parallelism(rt) {
+        Ok(cores) => cores.get(),
+        Err(_) => 1,
     }
 }
 
@@ -71,7 +158,7 @@ pub(crate) fn open_status<R: Net + rt::Clock + RandomSource>(
 }
 
 // So many lanes, each with descriptors of its own.
-pub(crate) fn open_lanes<R: Wait + Net + Files<File = File>>(
+fn open_lanes<R: Wait + Net + Files<File = File>>(
     rt: &R,
     alloc: Global,
     shared: &Arc<Shared>,
@@ -89,11 +176,7 @@ pub(crate) fn open_lanes<R: Wait + Net + Files<File = File>>(
 }
 
 // The plays of so many pacers. Any of them may come to have those of all sessions.
-pub(crate) fn open_pacers(
-    alloc: Global,
-    count: usize,
-    sessions: u16,
-) -> Result<Vec<PacerPlays>, AllocError> {
+fn open_pacers(alloc: Global, count: usize, sessions: u16) -> Result<Vec<PacerPlays>, AllocError> {
     let mut pacers = Vec::new(alloc);
     for _ in 0..count {
         pacers.push(PacerPlays::open(alloc, usize::from(sessions))?)?;
@@ -117,7 +200,7 @@ fn kept_for(operation: &Operation) -> u64 {
 // the descriptors is kept for all pairs, for a connection of each lane that is turned away, for the
 // watcher's account, and for whoever runs the server. The system gives the least number that is
 // free, so all below are in use.
-pub(crate) fn connections_of(
+fn connections_of(
     table: &Table,
     operation: &Operation,
     listener: &net::TcpListener,

@@ -5,18 +5,14 @@ ghost use Rattle.std.specs.FinMap.{empty};
 ghost use Rattle.rtsp_record.specs.Books.{book_of};
 
 use crate::fault::ServerFault;
-use crate::opening::{connections_of, cores, open_lanes, open_pacers, open_status, share};
-use crate::socket_lane::SocketLane;
+use crate::opening::{Listening, Opening, Sending, open_journal, open_status};
 use crate::threads::{Beside, Parts, Start};
-use mio::net::TcpListener;
 use rtsp_book::Kept;
 use rtsp_content::{Operation, Table};
-use rtsp_lanes::{BookHandle, PoolEnd, open_book, whole_of};
+use rtsp_lanes::PoolEnd;
 use rtsp_lock::LockBook;
-use rtsp_pacing::PacerPlays;
-use rtsp_sockets::{Media, Reader};
 use rtsp_status::StatusServer;
-use rtsp_threads::{OwnStatus, Scribe, ScribeBell, close_book, end_expired};
+use rtsp_threads::{OwnStatus, Scribe, close_book, end_expired};
 use std::alloc::Global;
 use std::fs::File;
 use std::io::{Eprint, Write};
@@ -46,12 +42,7 @@ pub trait Announce: Drop {
 pub struct Server {
     alloc: Global,
     parts: Parts,
-    handle: BookHandle,
-    lanes: Vec<SocketLane>,
-    // The plays of each pacer, which has none yet.
-    pacers: Vec<PacerPlays>,
-    // Those that read ahead, where that is wanted.
-    readers: Vec<Reader>,
+    start: Start,
     operation: Operation,
     status: Option<StatusServer>,
     address: SocketAddr,
@@ -72,39 +63,26 @@ impl Server {
         address: SocketAddr,
         connections: Option<u64>,
     ) -> Result<Server, ServerFault> {
-        let media = Media::open(rt, alloc, &table)?;
-        let readers = media.readers(alloc)?;
-        let mut handle = open_book(alloc, &whole_of(&table))?;
-        let scribe = match operation.journal() {
-            Some(_) => {
-                handle.keep_entries();
-                Some(ScribeBell::new())
-            }
-            None => None,
-        };
-        let count = (cores(rt) / 2).max(1);
-        let pacers = open_pacers(alloc, count, table.server().sessions)?;
-        let listener = net::TcpListener::from(TcpListener::bind(rt, address)?);
-        let address = listener.local_addr()?;
-        let ours = listener.try_clone()?;
-        let shared = share(
-            rt,
-            alloc,
-            &table,
-            ours,
-            connections,
-            count,
-            scribe,
-            &operation,
-        )?;
-        let workers = usize::from(table.server().workers);
-        let lanes = open_lanes(rt, alloc, &shared, &listener, workers)?;
         let status = open_status(rt, alloc, &operation)?;
-        let connections = connections_of(&table, &operation, &listener)?;
-        if connections == 0 {
-            return Err(ServerFault::DeviceFailed);
-        }
-        shared.gate.allow(connections);
+        let (handle, scribe) = open_journal(alloc, &table, &operation)?;
+        let sending = Sending::open(rt, alloc, &table)?;
+        let pacers = sending.pacers.len();
+        let open = Opening {
+            table: &table,
+            operation: &operation,
+            pacers,
+        };
+        let Listening {
+            shared,
+            lanes,
+            address,
+            connections,
+        } = open.listen(rt, alloc, address, connections, scribe)?;
+        let Sending {
+            media,
+            readers,
+            pacers,
+        } = sending;
         Ok(Server {
             alloc,
             parts: Parts {
@@ -112,10 +90,12 @@ impl Server {
                 media,
                 shared,
             },
-            handle,
-            lanes,
-            pacers,
-            readers,
+            start: Start {
+                handle,
+                lanes,
+                pacers,
+                readers,
+            },
             operation,
             status,
             address,
@@ -163,10 +143,7 @@ impl Server {
         let Server {
             alloc,
             parts,
-            mut handle,
-            lanes,
-            pacers,
-            readers,
+            mut start,
             operation,
             status,
             address,
@@ -176,15 +153,9 @@ impl Server {
             Some(files) => Some(Scribe::open(rt, alloc, files)?),
             None => None,
         };
-        let (Some(mut last), Some(shown)) = (handle.split(rt), handle.split(rt)) else {
+        let own = &mut start.handle;
+        let (Some(mut last), Some(shown)) = (own.split(rt), own.split(rt)) else {
             return Err(ServerFault::NoThread);
-        };
-        let start = Start {
-            handle,
-            lanes,
-            pacers,
-            readers,
-            address,
         };
         let beside = Beside {
             signals: OwnStatus::open(rt).ok(),
@@ -192,7 +163,7 @@ impl Server {
             status,
             handle: shown,
         };
-        let (mut scribe, ended) = parts.run(rt, alloc, start, beside, announcer, scribe);
+        let (mut scribe, ended) = parts.run(rt, alloc, start, beside, announcer, address, scribe);
         let pool = ended?;
         let mut binder = parts.shared.unbinder(rt);
         end_expired(rt, &mut last, &mut binder, u64::MAX);

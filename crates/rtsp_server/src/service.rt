@@ -1,5 +1,6 @@
 //! What a turn of a lane is made with.
 
+use crate::lane_lines::LaneLines;
 use crate::shared::Shared;
 use rtsp_content::Table;
 use rtsp_metrics::AnswerCounters;
@@ -14,5 +15,6 @@ pub(crate) struct Service<'a, R> {
     pub(crate) shared: &'a Shared,
     /// Those of the lane.
     pub(crate) answers: &'a AnswerCounters,
+    pub(crate) lines: &'a LaneLines,
     pub(crate) now: u64,
 }

@@ -6,7 +6,7 @@ use mio::Waker;
 use mio::net::TcpListener;
 use rtsp_content::{Server, Table};
 use rtsp_lanes::BookHandle;
-use rtsp_log::{Event, Log};
+use rtsp_log::{BATCH_LINES, Event, Log};
 use rtsp_metrics::{AnswerCounters, Counters, Counts};
 use rtsp_pacing::Bells;
 use rtsp_shares::{ShareTable, Watermark};
@@ -22,6 +22,24 @@ use std::sync::{Arc, Mutex, Wait};
 use std::time::Instant;
 use std::{io, rt};
 
+/// The memory that is lent to all connections together.
+#[derive(Drop)]
+pub(crate) struct Lent {
+    /// For frames that wait.
+    pub(crate) frames: Arc<SharedRoom>,
+    /// For messages that aren't whole.
+    pub(crate) unread: Arc<SharedRoom>,
+}
+
+impl Lent {
+    fn open(alloc: Global) -> Result<Lent, AllocError> {
+        Ok(Lent {
+            frames: SharedRoom::open(alloc, LENT_IN_ALL)?,
+            unread: SharedRoom::open(alloc, HELD_IN_ALL)?,
+        })
+    }
+}
+
 /// What the threads of a server share beside the book.
 #[derive(Drop)]
 pub(crate) struct Shared {
@@ -30,9 +48,7 @@ pub(crate) struct Shared {
     /// What addresses have of the sessions, where each has a share of them.
     pub(crate) session_shares: Option<Mutex<ShareTable>>,
     pub(crate) outlets: Outlets,
-    /// What is lent to connections for frames that wait, and for messages that aren't whole.
-    pub(crate) frame_room: Arc<SharedRoom>,
-    pub(crate) unread_room: Arc<SharedRoom>,
+    pub(crate) lent: Lent,
     pub(crate) ports: PortTable,
     /// The pacers', by which they learn of plays.
     pub(crate) bells: Bells,
@@ -86,22 +102,26 @@ impl Shared {
         logs_access: bool,
     ) -> io::Result<Shared> {
         let numbers = table.server();
-        let lines = if logs_access { LOG_LINES } else { FEW_LINES };
+        // Lines of requests wait in batches.
+        let room = if logs_access {
+            LOG_LINES / BATCH_LINES
+        } else {
+            FEW_LINES
+        };
         let watermark = Watermark::new(alloc, usize::from(numbers.workers))?;
         Ok(Shared {
             listener,
             gate: Gate::new(alloc, connections, numbers.connections_per_address)?,
             session_shares: session_shares(alloc, numbers)?,
             outlets: Outlets::new(alloc),
-            frame_room: SharedRoom::open(alloc, LENT_IN_ALL)?,
-            unread_room: SharedRoom::open(alloc, HELD_IN_ALL)?,
+            lent: Lent::open(alloc)?,
             ports: PortTable::open(alloc, numbers.first_port, numbers.pairs)?,
             bells: Bells::new(alloc, pacers, numbers.sessions)?,
             stop_bell: StopBell::new(),
             scribe,
             halt: Halt::new(),
             counters: Counters::new(),
-            log: Log::new(alloc, lines, logs_access)?,
+            log: Log::new(alloc, room, logs_access)?,
             begun: Instant::now(rt)?,
             watermark: Mutex::new(watermark),
             has_ended: AtomicBool::new(false),

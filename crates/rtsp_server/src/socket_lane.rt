@@ -1,6 +1,7 @@
 //! A lane of sockets.
 
 use crate::client::{Client, Visit};
+use crate::lane_lines::LaneLines;
 use crate::service::Service;
 use crate::shared::Shared;
 use crate::tools::Tools;
@@ -12,7 +13,6 @@ use rtsp_content::Table;
 use rtsp_lanes::{BookHandle, Lane, LaneTurn};
 use rtsp_log::Event;
 use rtsp_metrics::AnswerCounters;
-use rtsp_sockets::RandomWords;
 use rtsp_threads::{ACCEPTS, Accepted, Acceptor, SWEEP_EVERY, TURN_EVERY};
 use slab::Slab;
 use std::alloc::Global;
@@ -38,6 +38,7 @@ const EVENTS: usize = 256;
 pub struct SocketLane {
     shared: Arc<Shared>,
     answers: Arc<CachePadded<AnswerCounters>>,
+    lines: LaneLines,
     clients: Clients,
     // Whether it has begun.
     stands: bool,
@@ -74,42 +75,64 @@ impl SocketLane {
         number: usize,
         listener: net::TcpListener,
     ) -> io::Result<SocketLane> {
-        let poll = Poll::new(rt)?;
-        let fd = shared.listener.as_raw_fd();
-        let registry = poll.registry();
-        registry.register(&mut SourceFd(&fd), LISTENER, Interest::READABLE)?;
-        shared.add_waker(rt, Waker::new(registry, WAKER)?)?;
-        let clients = Clients {
-            number,
-            poll,
-            events: Events::with_capacity(alloc, EVENTS)?,
-            of: Slab::new(alloc),
-            ready: VecDeque::new(alloc),
-            acceptor: Acceptor::new(listener)?,
-            tools: Tools::new(alloc, RandomWords::open(rt)?)?,
-            now: 0,
-            swept: 0,
-            read: 0,
-            ended: 0,
-        };
         let answers = shared.answer_counters(rt, alloc)?;
         let shared = Arc::try_clone(shared)?;
+        let clients = Clients::open(rt, alloc, &shared, number, listener)?;
         Ok(SocketLane {
             shared,
             answers,
+            lines: LaneLines::new(alloc),
             clients,
             stands: false,
         })
     }
 }
 
+// What the system tells of the listener of all lanes, and by which the others wake this one.
+fn open_poll<R: Wait + Net>(rt: &R, shared: &Shared) -> io::Result<Poll> {
+    let poll = Poll::new(rt)?;
+    let fd = shared.listener.as_raw_fd();
+    let registry = poll.registry();
+    registry.register(&mut SourceFd(&fd), LISTENER, Interest::READABLE)?;
+    shared.add_waker(rt, Waker::new(registry, WAKER)?)?;
+    Ok(poll)
+}
+
 impl Clients {
-    // Waits for something to do. Whether the system told all that there was: it tells so many events
-    // at once at most.
-    fn wait<R: rt::Clock>(&mut self, rt: &R) -> bool {
+    // No connection yet.
+    fn open<R: Wait + Net + Files<File = File>>(
+        rt: &R,
+        alloc: Global,
+        shared: &Shared,
+        number: usize,
+        listener: net::TcpListener,
+    ) -> io::Result<Clients> {
+        let acceptor = Acceptor::new(listener)?;
+        let tools = Tools::open(rt, alloc)?;
+        let events = Events::with_capacity(alloc, EVENTS)?;
+        let poll = open_poll(rt, shared)?;
+        Ok(Clients {
+            number,
+            poll,
+            events,
+            of: Slab::new(alloc),
+            ready: VecDeque::new(alloc),
+            acceptor,
+            tools,
+            now: 0,
+            swept: 0,
+            read: 0,
+            ended: 0,
+        })
+    }
+
+    // Waits for something to do, but no longer than the lines of the log may wait. Whether the system
+    // told all that there was: it tells so many events at once at most.
+    fn wait<R: rt::Clock>(&mut self, rt: &R, lines: &LaneLines) -> bool {
         let mut time = 0;
         if self.ready.is_empty() {
-            time = self.acceptor.patience(self.now).min(TURN_EVERY);
+            let patience = self.acceptor.patience(self.now);
+            time = patience.min(lines.patience(self.now)).min(TURN_EVERY);
         }
         let time = Duration::from_millis(time);
         if self.poll.poll(&mut self.events, Some(time)).is_err() {
@@ -336,11 +359,12 @@ impl Clients {
         table: &'a Table,
         shared: &'a Shared,
         answers: &'a AnswerCounters,
+        lines: &'a LaneLines,
         handle: &mut BookHandle,
     ) -> LaneTurn {
         // What had come by now is what this turn is told of, and what earlier ones have left.
         let begun = self.now;
-        let is_all_told = self.wait(rt);
+        let is_all_told = self.wait(rt, lines);
         self.now = self.now.max(shared.now(rt));
         let service = Service {
             rt,
@@ -348,6 +372,7 @@ impl Clients {
             table,
             shared,
             answers,
+            lines,
             now: self.now,
         };
         self.ended = 0;
@@ -361,9 +386,11 @@ impl Clients {
             self.tell_read(&service, begun);
         }
         self.sweep(&service);
+        lines.hand_over_due(rt, &shared.log, self.now);
         let is_over = shared.gate.is_shut() && self.of.is_empty();
         if is_over {
             self.tell_read(&service, u64::MAX);
+            lines.hand_over(rt, &shared.log);
         }
         LaneTurn {
             ended: self.ended,
@@ -387,10 +414,11 @@ impl Lane for SocketLane {
         let SocketLane {
             shared,
             answers,
+            lines,
             clients,
             ..
         } = self;
         let (shared, answers) = (&**shared, &***answers);
-        clients.turn(rt, alloc, table, shared, answers, handle)
+        clients.turn(rt, alloc, table, shared, answers, lines, handle)
     }
 }

@@ -40,9 +40,10 @@ pub(crate) struct Parts {
 pub(crate) struct Start {
     pub(crate) handle: BookHandle,
     pub(crate) lanes: Vec<SocketLane>,
+    // The plays of each pacer, which has none yet.
     pub(crate) pacers: Vec<PacerPlays>,
+    // Those that read ahead, where that is wanted.
     pub(crate) readers: Vec<Reader>,
-    pub(crate) address: SocketAddr,
 }
 
 // What those beside them begin with, for whoever runs the server: where signals are seen, where the
@@ -223,6 +224,7 @@ impl Parts {
         alloc: Global,
         start: Start,
         announcer: A,
+        address: SocketAddr,
         scribe: Option<Scribe>,
     ) -> (Option<Scribe>, Result<PoolEnd, ServerFault>) {
         thread::scope(thread::scope_env(), rt, move |scope| {
@@ -231,7 +233,6 @@ impl Parts {
                 lanes,
                 pacers,
                 readers,
-                address,
             } = start;
             let mut missing = 0u64;
             for (number, plays) in pacers.into_iter().enumerate() {
@@ -290,6 +291,7 @@ impl Parts {
         start: Start,
         beside: Beside<E>,
         announcer: A,
+        address: SocketAddr,
         scribe: Option<Scribe>,
     ) -> (Option<Scribe>, Result<PoolEnd, ServerFault>) {
         thread::scope(thread::scope_env(), rt, move |scope| {
@@ -309,7 +311,7 @@ impl Parts {
                 self.shared.log.close();
                 return (scribe, Err(ServerFault::NoThread));
             }
-            let served = self.serve(rt, alloc, start, announcer, scribe);
+            let served = self.serve(rt, alloc, start, announcer, address, scribe);
             self.shared.log.event(rt, Event::Stopped);
             self.shared.log.close();
             served

@@ -4,7 +4,10 @@ use rtsp_pacing::NotedPlays;
 use rtsp_sockets::RandomWords;
 use rtsp_state::Room;
 use rtsp_threads::PIECE;
-use std::alloc::{AllocError, Global};
+use std::alloc::Global;
+use std::fs::File;
+use std::io;
+use std::rt::Files;
 
 /// What a lane answers with, for one connection after another.
 #[derive(Drop)]
@@ -19,12 +22,14 @@ pub(crate) struct Tools {
 }
 
 impl Tools {
-    pub(crate) fn new(alloc: Global, words: RandomWords) -> Result<Tools, AllocError> {
+    pub(crate) fn open<R: Files<File = File>>(rt: &R, alloc: Global) -> io::Result<Tools> {
+        let piece = Vec::from_elem(alloc, 0, PIECE)?;
+        let words = RandomWords::open(rt)?;
         Ok(Tools {
             words,
             plays: NotedPlays::new(alloc),
             room: Room::new(alloc),
-            piece: Vec::from_elem(alloc, 0, PIECE)?,
+            piece,
         })
     }
 }

@@ -1,6 +1,7 @@
 //! A visit to a connection: what has come is read, answered and written.
 
 use crate::answering::Front;
+use crate::lane_lines::LaneLines;
 use crate::shared::Shared;
 use crate::writing::AnswerWriter;
 use rtsp_content::Table;
@@ -32,6 +33,7 @@ pub(crate) fn visit_lent<'a, R: Wait + Net + rt::Clock>(
     alloc: Global,
     shared: &'a Shared,
     answers: &'a AnswerCounters,
+    lines: &'a LaneLines,
     table: &'a Table,
     now: u64,
     handle: &'a mut BookHandle,
@@ -51,6 +53,7 @@ pub(crate) fn visit_lent<'a, R: Wait + Net + rt::Clock>(
         rt,
         shared,
         answers,
+        lines,
         table,
         now,
         handle,

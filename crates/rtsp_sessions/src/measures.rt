@@ -8,7 +8,7 @@ use crate::views::SessionView;
 use rtsp_record::{Admission, Phase, Stream, Thing};
 
 /// What is counted, over a session or over a whole book.
-#[derive(Clone, Copy, Debug)]
+#[derive(Clone, Copy)]
 pub enum Measure {
     /// Living sessions.
     Sessions,

@@ -1,7 +1,7 @@
 //! A pair of UDP ports, or a single one.
 
 /// What of UDP is held as one thing, by its first port.
-#[derive(Clone, Copy, Debug)]
+#[derive(Clone, Copy)]
 pub enum UdpPorts {
     /// A port for RTP and the next one for RTCP.
     Pair,

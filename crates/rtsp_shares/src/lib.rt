@@ -13,8 +13,6 @@
 mod living;
 mod place;
 mod table;
-#[cfg(test)]
-mod trials;
 mod watermark;
 
 pub use living::Living;

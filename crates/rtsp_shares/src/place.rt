@@ -1,7 +1,7 @@
 //! A place of an address.
 
 /// A place that an address has taken.
-#[derive(Clone, Copy, Debug, PartialEq, Eq)]
+#[derive(Clone, Copy, PartialEq, Eq)]
 pub struct Place {
     /// The IPv4 address.
     pub(crate) address: u32,

@@ -6,7 +6,7 @@ ghost use Rattle.std.specs.Prelude.{◌≡◌, ◌<◌, ◌≤◌, ◌+◌, ◌-
 pub(crate) const CHUNK: u64 = 128 * 1_024;
 
 // The chunks of a file that have some bytes of it, from the first to the last.
-#[derive(Clone, Copy, Debug, PartialEq, Eq)]
+#[derive(Clone, Copy, PartialEq, Eq)]
 pub(crate) struct Chunks {
     pub(crate) first: u64,
     pub(crate) last: u64,

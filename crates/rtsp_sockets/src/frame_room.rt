@@ -17,7 +17,7 @@ const MOST_FRAMES: usize = FRAME_ROOM + (MOST_ROOM - ALL_ROOM);
 
 /// How many bytes may wait once a frame of some streams waits too. What of them is beyond
 /// `FRAME_ROOM` has to be lent.
-#[derive(Clone, Copy, Debug, PartialEq, Eq)]
+#[derive(Clone, Copy, PartialEq, Eq)]
 pub struct FrameRoom {
     bytes: usize,
 }

@@ -11,7 +11,7 @@ pub const FRAME_ROOM: usize = 64 * 1024;
 pub const ALL_ROOM: usize = 256 * 1024;
 
 /// What is put into the outlet of a connection.
-#[derive(Clone, Copy, Debug, PartialEq, Eq)]
+#[derive(Clone, Copy, PartialEq, Eq)]
 pub enum Message {
     /// Responses, or a request of the server, each whole.
     Response,

@@ -16,7 +16,7 @@ use std::alloc::Global;
 use std::marker::Model;
 
 // What a connection takes.
-#[derive(Clone, Copy, Debug, PartialEq, Eq)]
+#[derive(Clone, Copy, PartialEq, Eq)]
 pub(crate) enum Condition {
     Open,
     // No more frames.

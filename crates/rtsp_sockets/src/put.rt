@@ -1,7 +1,7 @@
 //! What comes of a message.
 
 /// What came of a message that was put into an outlet.
-#[derive(Clone, Copy, Debug, PartialEq, Eq)]
+#[derive(Clone, Copy, PartialEq, Eq)]
 pub enum Put {
     /// It was written whole.
     Sent,

@@ -19,7 +19,7 @@ use rtsp_record::Phase;
 use std::alloc::{AllocError, Global};
 
 // A play that has reached its stop, as its PLAY_NOTIFY reports it.
-#[derive(Debug, Drop)]
+#[derive(Drop)]
 struct EndedPlay {
     cseq: u32,
     session: u128,

@@ -10,7 +10,7 @@ use std::marker::Model;
 use url::{Position, Url};
 
 // The URI as it is kept: as its parser gave it, or the text of one that needs no parser.
-#[derive(Debug, Drop)]
+#[derive(Drop)]
 enum Written {
     Parsed(Url),
     Plain(Text),
@@ -33,7 +33,7 @@ impl Written {
 
 /// The URI of media as it is written, without query and fragment and with one slash at its end: the
 /// names of tracks are joined to it. A contract sees its bytes.
-#[derive(Debug, Drop)]
+#[derive(Drop)]
 pub struct MediaBase {
     written: Written,
 }

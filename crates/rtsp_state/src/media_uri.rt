@@ -10,7 +10,7 @@ use std::alloc::{AllocError, Global};
 
 /// The URI of a presentation, as a request has it, and what the names of its tracks are joined to:
 /// the same without query and fragment, with one slash at its end.
-#[derive(Debug, Drop)]
+#[derive(Drop)]
 pub struct MediaUri {
     pub text: Text,
     pub base: MediaBase,

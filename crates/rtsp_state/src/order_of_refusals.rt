@@ -25,7 +25,7 @@ use rtsp_grammar::{Headers, Request, Text, Version};
 use std::alloc::Global;
 
 /// What a request asks, whatever its number.
-#[derive(Debug, Drop)]
+#[derive(Drop)]
 pub struct Asked {
     pub method: Method,
     pub target: Target,

@@ -19,7 +19,7 @@ const NAME_LIMIT: usize = 64;
 const LINE_ROOM: usize = 40;
 
 /// A parameter of a session or of its media.
-#[derive(Clone, Copy, Debug, PartialEq, Eq)]
+#[derive(Clone, Copy, PartialEq, Eq)]
 pub enum Parameter {
     /// The point of the session.
     Position,

@@ -5,7 +5,7 @@ use crate::setup_plan::SetupPlan;
 use crate::step_plan::StepPlan;
 
 /// What is done about a request.
-#[derive(Debug, Drop)]
+#[derive(Drop)]
 pub enum Plan {
     /// It is answered at once.
     Answer(Reply),

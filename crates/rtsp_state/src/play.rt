@@ -25,7 +25,7 @@ use rtsp_record::Stream;
 use std::alloc::Global;
 
 /// The units to be played: from `from`, or the session's point if it is missing, up to `stop`.
-#[derive(Clone, Copy, Debug)]
+#[derive(Clone, Copy)]
 pub struct Units {
     pub from: Option<u32>,
     pub stop: u32,

@@ -27,7 +27,7 @@ use rtsp_grammar::Text;
 use std::alloc::AllocError;
 use std::marker::Model;
 
-#[derive(Debug, Drop)]
+#[derive(Drop)]
 enum Kind {
     // 400 to a request whose CSeq can't be read.
     Unnumbered,
@@ -41,7 +41,7 @@ enum Kind {
 }
 
 /// A response that is known before any step. A contract sees it as the response that it means.
-#[derive(Debug, Drop)]
+#[derive(Drop)]
 pub struct Reply {
     kind: Kind,
 }

@@ -10,7 +10,7 @@ use rtsp_grammar::Headers;
 use std::marker::Model;
 
 /// What the URI of a request names. Media comes with its URI.
-#[derive(Debug, Drop)]
+#[derive(Drop)]
 pub enum Target {
     /// OPTIONS is about the server, whatever its URI.
     Server,
@@ -24,7 +24,7 @@ pub enum Target {
 
 /// How a request names a session: by its id, or by a startup number of the connection (RFC 7826
 /// section 18.33).
-#[derive(Clone, Copy, Debug, PartialEq, Eq)]
+#[derive(Clone, Copy, PartialEq, Eq)]
 pub enum Name {
     Id(u128),
     Startup(u32),

@@ -4,7 +4,7 @@ ghost use Rattle.std.specs.Prelude.{◌≡◌};
 ghost use Rattle.rtsp_state.specs.Response.{without_session};
 
 /// What each response shows first: the request's number, and its session.
-#[derive(Clone, Copy, Debug)]
+#[derive(Clone, Copy)]
 pub struct ResponseStart {
     pub cseq: u32,
     /// The id of the living session that is shown.

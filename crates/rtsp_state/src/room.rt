@@ -16,7 +16,7 @@ use std::marker::Model;
 /// The buffer that a connection's responses are written into. Room is reserved in it before a step
 /// is made, so that the response can be written after the step without more memory. A contract
 /// sees what is written, and how many bytes more fit.
-#[derive(Debug, Drop)]
+#[derive(Drop)]
 pub struct Room {
     bytes: Vec<u8>,
 }

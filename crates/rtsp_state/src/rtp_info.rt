@@ -15,7 +15,7 @@ use std::alloc::{AllocError, Global};
 use std::marker::Model;
 
 /// One stream in RTP-Info (RFC 7826 section 18.45).
-#[derive(Debug, Drop)]
+#[derive(Drop)]
 pub struct StreamInfo {
     /// The URI of its track.
     pub url: Text,
@@ -29,7 +29,7 @@ pub struct StreamInfo {
 }
 
 /// The streams in RTP-Info, in the order of the table.
-#[derive(Debug, Drop)]
+#[derive(Drop)]
 pub struct RtpInfo {
     items: Vec<StreamInfo>,
 }

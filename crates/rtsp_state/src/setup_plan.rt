@@ -28,14 +28,14 @@ use rtsp_transport::ChannelPair;
 use std::alloc::AllocError;
 
 /// A session, by its number in the book and its id on the wire.
-#[derive(Clone, Copy, Debug, PartialEq, Eq)]
+#[derive(Clone, Copy, PartialEq, Eq)]
 pub struct SessionKey {
     pub session: u64,
     pub id: u128,
 }
 
 /// The session that a track is set up in.
-#[derive(Clone, Copy, Debug)]
+#[derive(Clone, Copy)]
 pub enum SetupSession {
     /// One that is opened: the moment at which it ends if nothing renews it, in milliseconds, and
     /// the startup number that the client gave it (RFC 7826 section 18.33).
@@ -45,7 +45,7 @@ pub enum SetupSession {
 }
 
 /// How the packets of a track are sent to the player.
-#[derive(Clone, Copy, Debug)]
+#[derive(Clone, Copy)]
 pub enum Delivery {
     /// By UDP, to these ports.
     Udp { rtp_port: u16, rtcp_port: u16 },
@@ -57,7 +57,7 @@ pub enum Delivery {
 }
 
 /// A track that is to be set up, with what is known of it from the request and the table.
-#[derive(Clone, Copy, Debug)]
+#[derive(Clone, Copy)]
 pub struct SetupPlan {
     pub cseq: u32,
     pub session: SetupSession,
@@ -76,7 +76,7 @@ pub struct SetupPlan {
 
 /// What is drawn for an admission: the connection's number, the session's key where one is opened
 /// (a living session keeps its own), the admission's number, and the words of the stream.
-#[derive(Clone, Copy, Debug)]
+#[derive(Clone, Copy)]
 pub struct Drawn {
     pub conn: u64,
     pub key: SessionKey,

@@ -6,7 +6,7 @@ ghost use Rattle.rtsp_state.specs.Status.{code, status_of};
 use rtsp_book::Refusal;
 
 /// The status of a response: `Success`, or why a request is refused.
-#[derive(Clone, Copy, Debug, PartialEq, Eq)]
+#[derive(Clone, Copy, PartialEq, Eq)]
 pub enum Status {
     Success,
     BadRequest,

@@ -21,7 +21,7 @@ use rtsp_record::{Phase, Record};
 use std::alloc::AllocError;
 
 /// A step of a living session, and what the response to it shows.
-#[derive(Debug, Drop)]
+#[derive(Drop)]
 pub struct StepPlan {
     /// What a response shows first where the step is refused.
     pub start: ResponseStart,
@@ -32,7 +32,7 @@ pub struct StepPlan {
 }
 
 /// What the response to a step shows beside its start.
-#[derive(Debug, Drop)]
+#[derive(Drop)]
 pub enum Details {
     Nothing,
     /// Where the session is paused: at the point that the step moves to, or at this one.

@@ -4,7 +4,7 @@ ghost use Rattle.std.specs.Prelude.{◌≡◌};
 ghost use Rattle.rtsp_state.specs.Words.{name_of_field, text_of};
 
 /// Headers of a response, in their order.
-#[derive(Clone, Copy, Debug)]
+#[derive(Clone, Copy)]
 pub enum Field {
     CSeq,
     Session,
@@ -48,7 +48,7 @@ pub fn name_of_field(of: Field) -> &'static [u8]
 }
 
 /// Fixed parts of values.
-#[derive(Clone, Copy, Debug)]
+#[derive(Clone, Copy)]
 pub enum Word {
     AllMethods,
     AlwaysMethods,

@@ -20,6 +20,3 @@ pub use limits::{HEAD, LIFE, PEERS};
 pub use server::{Source, StatusServer};
 pub use service::StatusService;
 pub use shown::Shown;
-
-#[cfg(test)]
-mod tests;

@@ -7,7 +7,7 @@ use std::marker::Model;
 
 /// A `Vec` that contracts see as its elements alone, so that values which hold one are compared
 /// without its capacity.
-#[derive(Debug, Drop)]
+#[derive(Drop)]
 pub struct List<T> {
     items: Vec<T>,
 }

@@ -5,14 +5,14 @@ ghost use Rattle.std.specs.Prelude.{◌≡◌, IfOk};
 use std::alloc::{AllocError, Global};
 use std::marker::Model;
 
-#[derive(Debug, Drop)]
+#[derive(Drop)]
 enum Bytes {
     Owned(Vec<u8>),
     Fixed(&'static [u8]),
 }
 
 /// A text: bytes of its own, or bytes of the program, which take no memory.
-#[derive(Debug, Drop)]
+#[derive(Drop)]
 pub struct Text {
     bytes: Bytes,
 }

@@ -4,7 +4,7 @@ use crate::limits::{MESSAGE_LIMIT, SILENCE_LIMIT};
 use rtsp_engine::Connection;
 
 /// When a connection was heard of, and what was asked on it. Moments are milliseconds.
-#[derive(Clone, Copy, Debug)]
+#[derive(Clone, Copy)]
 pub struct Activity {
     // Whether a track was to be set up on it.
     has_setup: bool,

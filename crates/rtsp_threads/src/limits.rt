@@ -59,7 +59,7 @@ pub const SIGNALS_EVERY: u64 = 100;
 /// hang up, so that all is over within 3 s.
 pub const STOP_LIMIT: u64 = 2_500;
 
-/// So many lines of the log wait at most until they are written, where each answer has one; further
+/// The queue of the log has room for about so many lines, in batches, where each answer has one; further
 /// ones are dropped and counted.
 pub const LOG_LINES: usize = 4_096;
 

@@ -25,7 +25,7 @@ const SIGINT: u64 = 1 << 1;
 const SIGTERM: u64 = 1 << 14;
 
 /// What the signals ask for that have come.
-#[derive(Clone, Copy, Debug, PartialEq, Eq)]
+#[derive(Clone, Copy, PartialEq, Eq)]
 pub enum StopAsked {
     /// None has come.
     Nothing,

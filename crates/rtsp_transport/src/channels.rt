@@ -11,7 +11,7 @@ const CHANNEL_DIGITS: usize = 3;
 
 /// Two channels of an interleaved connection: an even one of at most 254 for RTP, and the next for
 /// RTCP. A contract sees it as the channel of RTP.
-#[derive(Clone, Copy, Debug, PartialEq, Eq)]
+#[derive(Clone, Copy, PartialEq, Eq)]
 pub struct ChannelPair {
     rtp: u8,
 }

@@ -3,7 +3,7 @@
 use crate::channels::ChannelPair;
 
 /// What a client's specifications come to.
-#[derive(Clone, Copy, Debug, PartialEq, Eq)]
+#[derive(Clone, Copy, PartialEq, Eq)]
 pub enum Pick {
     /// RTP and RTCP go to these ports of the client.
     Udp { rtp_port: u16, rtcp_port: u16 },

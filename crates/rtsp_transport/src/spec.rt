@@ -16,14 +16,14 @@ use rtsp_text::{List, Text, split_once, trimmed};
 use std::alloc::Global;
 
 /// One parameter of a specification: `name` or `name=value`.
-#[derive(Debug, Drop)]
+#[derive(Drop)]
 pub struct Parameter {
     pub name: Text,
     pub value: Option<Text>,
 }
 
 /// One transport specification: a protocol and its parameters, in order.
-#[derive(Debug, Drop)]
+#[derive(Drop)]
 pub struct Spec {
     pub protocol: Text,
     pub parameters: List<Parameter>,

@@ -10,7 +10,7 @@ use rtsp_text::{all_or_nothing, write_decimal, write_hex_u32};
 use std::alloc::AllocError;
 
 /// The transport that a client was granted.
-#[derive(Clone, Copy, Debug, PartialEq, Eq)]
+#[derive(Clone, Copy, PartialEq, Eq)]
 pub enum Granted {
     /// RTP and RTCP over UDP, to the client's ports and from the server's: RTP's, and the next for
     /// RTCP.

@@ -3,13 +3,13 @@
 
 use crate::world::{serve, tone};
 use rtsp_book::Kept;
-use rtsp_content::Table;
+use rtsp_content::{EXAMPLE, Table};
 use rtsp_engine::{Asker, CountedReader, CountedWriter, ServeEnd, TURNS};
 use rtsp_lock::{LockBook, open};
 use rtsp_record::write_journal;
 use rtsp_server::whole_of;
 use rtsp_undo::{book_text, rewind};
-use rtspd::{CountedWords, EXAMPLE, Exit, PortSet, run_words};
+use rtspd::{CountedWords, Exit, PortSet, run_words};
 use std::alloc::{AllocError, Global};
 use std::process::Abort;
 use std::sync::Wait;

@@ -3,7 +3,7 @@
 use crate::reading::session_of;
 
 /// A request that was answered.
-#[derive(Clone, Copy, Debug)]
+#[derive(Clone, Copy)]
 pub struct Told<'a> {
     /// As the player wrote it.
     pub method: &'a [u8],

@@ -6,12 +6,10 @@
 
 #![tactic(auto)]
 
-mod example;
 mod reasons;
 mod running;
 mod serving;
 
-pub use example::EXAMPLE;
 pub use reasons::tell_reasons;
 pub use rtsp_command_line::{CommandLine, Exit, read_words};
 pub use rtsp_devices::{CountedWords, NoPlays, NoShares, PortSet, StandingClock};

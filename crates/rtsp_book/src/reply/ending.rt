@@ -31,7 +31,7 @@ fn take_back(
     admission: u64,
     thing: Option<Thing>,
 )
-    requires { length made.old + length (taking_back session admission view.now.1 thing) ≤ 64 }
+    requires { length made.old + length (taking_back session admission view.now.1 thing) ≤ 51 }
     ensures { made.new ≡ made.old ++ taking_back session admission view.now.1 thing }
 {
     let Some(thing) = thing else {
@@ -51,7 +51,7 @@ fn take_back(
 fn take_all_back(made: &mut Receipt, view: &SessionView, chain: &Chain)
     requires empty { made.old ≡ [] }
     requires number { view.now.0 ≡ chain.now.session }
-    requires short { length (ending view.now.0 view.now.1) ≤ 64 }
+    requires short { length (ending view.now.0 view.now.1) ≤ 51 }
     ensures { made.new ≡ unwinding chain.now view.now.1 }
 {
     if chain.opened {

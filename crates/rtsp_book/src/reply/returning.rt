@@ -13,7 +13,7 @@ use rtsp_record::{
 use rtsp_sessions::{Admissions, SessionView, Startup};
 
 pub(crate) fn drop_stream(made: &mut Receipt, session: u64, admission: u64, stream: Option<Stream>)
-    requires { length made.old + length (dropping session admission stream) ≤ 64 }
+    requires { length made.old + length (dropping session admission stream) ≤ 51 }
     ensures { made.new ≡ made.old ++ dropping session admission stream }
 {
     if let Some(stream) = stream {
@@ -26,7 +26,7 @@ pub(crate) fn drop_stream(made: &mut Receipt, session: u64, admission: u64, stre
 }
 
 pub(crate) fn free_address(made: &mut Receipt, session: u64, admission: u64, address: Option<Thing>)
-    requires { length made.old + length (freeing session admission address) ≤ 64 }
+    requires { length made.old + length (freeing session admission address) ≤ 51 }
     ensures { made.new ≡ made.old ++ freeing session admission address }
 {
     if let Some(thing) = address {
@@ -39,7 +39,7 @@ pub(crate) fn free_address(made: &mut Receipt, session: u64, admission: u64, add
 }
 
 pub(crate) fn free_rate(made: &mut Receipt, session: u64, admission: u64, rate: Option<u64>)
-    requires { length made.old + length (freeing_rate session admission rate) ≤ 64 }
+    requires { length made.old + length (freeing_rate session admission rate) ≤ 51 }
     ensures { made.new ≡ made.old ++ freeing_rate session admission rate }
 {
     if let Some(bits) = rate {
@@ -53,7 +53,7 @@ pub(crate) fn free_rate(made: &mut Receipt, session: u64, admission: u64, rate: 
 
 // All that an admission holds.
 pub(crate) fn give_back(made: &mut Receipt, session: u64, admission: u64, held: &Admission)
-    requires { length made.old + length (giving_back session (admission, held.now)) ≤ 64 }
+    requires { length made.old + length (giving_back session (admission, held.now)) ≤ 51 }
     ensures { made.new ≡ made.old ++ giving_back session (admission, held.now) }
 {
     drop_stream(made, session, admission, held.stream);
@@ -63,7 +63,7 @@ pub(crate) fn give_back(made: &mut Receipt, session: u64, admission: u64, held: 
 
 // All that these admissions hold.
 fn give_back_all(made: &mut Receipt, session: u64, admissions: &Admissions)
-    requires { length made.old + length (flat_map (giving_back session) (entries admissions.now)) ≤ 64 }
+    requires { length made.old + length (flat_map (giving_back session) (entries admissions.now)) ≤ 51 }
     ensures { made.new ≡ made.old ++ flat_map (giving_back session) (entries admissions.now) }
 {
     for index in 0..admissions.len() {
@@ -73,7 +73,7 @@ fn give_back_all(made: &mut Receipt, session: u64, admissions: &Admissions)
 }
 
 fn reset(made: &mut Receipt, session: u64, phase: Phase)
-    requires { length made.old + length (resetting session phase) ≤ 64 }
+    requires { length made.old + length (resetting session phase) ≤ 51 }
     ensures { made.new ≡ made.old ++ resetting session phase }
 {
     if !is_opening(&phase) {
@@ -86,7 +86,7 @@ fn reset(made: &mut Receipt, session: u64, phase: Phase)
 }
 
 pub(crate) fn unbind(made: &mut Receipt, session: u64, binding: Option<Startup>)
-    requires { length made.old + length (unbinding session (as_binding binding)) ≤ 64 }
+    requires { length made.old + length (unbinding session (as_binding binding)) ≤ 51 }
     ensures { made.new ≡ made.old ++ unbinding session (as_binding binding) }
 {
     if let Some(Startup { conn, number }) = binding {
@@ -101,7 +101,7 @@ pub(crate) fn unbind(made: &mut Receipt, session: u64, binding: Option<Startup>)
 // The end of the session.
 pub(crate) fn end(made: &mut Receipt, view: &SessionView)
     requires empty { made.old ≡ [] }
-    requires short { length (ending view.now.0 view.now.1) ≤ 64 }
+    requires short { length (ending view.now.0 view.now.1) ≤ 51 }
     ensures { made.new ≡ ending view.now.0 view.now.1 }
 {
     let session = view.session();
