@@ -80,6 +80,8 @@ def ten_thousand_idle_connections(checks: Checks) -> None:
         checks.that("idle connections take no processor time", spent <= 0.1, spent)
         if hard >= MOST_CONNECTIONS + OTHER_DESCRIPTORS:
             idle += many(server, MOST_CONNECTIONS - count)
+            most = before + MOST_CONNECTIONS
+            checks.same("the descriptors of as many as may be", most, server.descriptors_rise_to(most, 10.0))
             more = many(server, 10)
             closed = [is_closed_by_server(talk, 3.0) for talk in more]
             checks.same("above the greatest number each is closed at once", [True] * 10, closed)

@@ -216,6 +216,14 @@ class Server:
             time.sleep(0.05)
         return self.descriptors()
 
+    def descriptors_rise_to(self, wanted: int, within: float) -> int:
+        """The descriptors, once they are as many or the time is over: a connection that stands for its player may still
+        wait in the system's queue."""
+        until = time.monotonic() + within
+        while self.descriptors() < wanted and time.monotonic() < until:
+            time.sleep(0.05)
+        return self.descriptors()
+
     def processor_seconds(self) -> float:
         stat = pathlib.Path(f"/proc/{self.process.pid}/stat").read_text()
         fields = stat[stat.rindex(")") + 2 :].split()

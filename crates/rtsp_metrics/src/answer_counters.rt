@@ -1,33 +1,33 @@
 //! Counters of answers, which one thread adds to.
 
-use crate::counter::Counter;
+use crate::counter::SoleCounter;
 use crate::kinds::{Method, Outcome, Refusal};
 use crate::snapshot::{ByMethod, ByOutcome, Counts, Refusals};
 
 #[derive(Drop)]
 struct OutcomeCounters {
-    success: Counter,
-    redirection: Counter,
-    client_error: Counter,
-    server_error: Counter,
+    success: SoleCounter,
+    redirection: SoleCounter,
+    client_error: SoleCounter,
+    server_error: SoleCounter,
 }
 
 impl OutcomeCounters {
     fn new() -> OutcomeCounters {
         OutcomeCounters {
-            success: Counter::new(),
-            redirection: Counter::new(),
-            client_error: Counter::new(),
-            server_error: Counter::new(),
+            success: SoleCounter::new(),
+            redirection: SoleCounter::new(),
+            client_error: SoleCounter::new(),
+            server_error: SoleCounter::new(),
         }
     }
 
     fn add(&self, outcome: Outcome) {
         match outcome {
-            Outcome::Success => self.success.add(1),
-            Outcome::Redirection => self.redirection.add(1),
-            Outcome::ClientError => self.client_error.add(1),
-            Outcome::ServerError => self.server_error.add(1),
+            Outcome::Success => self.success.add_one(),
+            Outcome::Redirection => self.redirection.add_one(),
+            Outcome::ClientError => self.client_error.add_one(),
+            Outcome::ServerError => self.server_error.add_one(),
         }
     }
 
@@ -96,37 +96,37 @@ impl MethodCounters {
 
 #[derive(Drop)]
 struct RefusalCounters {
-    bandwidth: Counter,
-    unavailable: Counter,
-    session: Counter,
-    path: Counter,
-    state: Counter,
-    transport: Counter,
-    other: Counter,
+    bandwidth: SoleCounter,
+    unavailable: SoleCounter,
+    session: SoleCounter,
+    path: SoleCounter,
+    state: SoleCounter,
+    transport: SoleCounter,
+    other: SoleCounter,
 }
 
 impl RefusalCounters {
     fn new() -> RefusalCounters {
         RefusalCounters {
-            bandwidth: Counter::new(),
-            unavailable: Counter::new(),
-            session: Counter::new(),
-            path: Counter::new(),
-            state: Counter::new(),
-            transport: Counter::new(),
-            other: Counter::new(),
+            bandwidth: SoleCounter::new(),
+            unavailable: SoleCounter::new(),
+            session: SoleCounter::new(),
+            path: SoleCounter::new(),
+            state: SoleCounter::new(),
+            transport: SoleCounter::new(),
+            other: SoleCounter::new(),
         }
     }
 
     fn add(&self, refusal: Refusal) {
         match refusal {
-            Refusal::Bandwidth => self.bandwidth.add(1),
-            Refusal::Unavailable => self.unavailable.add(1),
-            Refusal::Session => self.session.add(1),
-            Refusal::Path => self.path.add(1),
-            Refusal::State => self.state.add(1),
-            Refusal::Transport => self.transport.add(1),
-            Refusal::Other => self.other.add(1),
+            Refusal::Bandwidth => self.bandwidth.add_one(),
+            Refusal::Unavailable => self.unavailable.add_one(),
+            Refusal::Session => self.session.add_one(),
+            Refusal::Path => self.path.add_one(),
+            Refusal::State => self.state.add_one(),
+            Refusal::Transport => self.transport.add_one(),
+            Refusal::Other => self.other.add_one(),
         }
     }
 
@@ -141,8 +141,8 @@ impl RefusalCounters {
     }
 }
 
-/// The counters of what a lane answers. Each lane has its own, so that no two write to the same place
-/// in memory; anyone may read them meanwhile.
+/// The counters of what a lane answers. Each lane has its own, and alone adds to them, so that no two write
+/// to the same place in memory; anyone may read them meanwhile.
 #[derive(Drop)]
 pub struct AnswerCounters {
     requests: MethodCounters,
