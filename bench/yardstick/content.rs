@@ -1,14 +1,21 @@
 //! The example's content: the presentation `tone` with the tracks `a` and `b`.
 
-use crate::book::Refusal;
+use crate::book::{Refusal, Session};
 use crate::message::Request;
+use crate::range::Time;
 use std::fmt::Write as _;
-use std::io::Write;
+use std::io::{self, Write};
+
+/// Units of the presentation, and the milliseconds that each lasts.
+pub const UNITS: u32 = 500;
+pub const UNIT_MS: u64 = 20;
 
 struct Track {
     name: &'static str,
     payload_type: u8,
     encoding: &'static str,
+    /// Ticks of the timestamp that a unit lasts.
+    ticks: u32,
 }
 
 const TRACKS: [Track; 2] = [
@@ -16,21 +23,24 @@ const TRACKS: [Track; 2] = [
         name: "a",
         payload_type: 0,
         encoding: "PCMU",
+        ticks: 160,
     },
     Track {
         name: "b",
         payload_type: 8,
         encoding: "PCMA",
+        ticks: 160,
     },
 ];
 
-pub enum Target {
-    Presentation,
+pub enum Target<'a> {
+    /// With its URI, to which a slash and the names of tracks are joined.
+    Presentation(&'a [u8]),
     Track(u16),
 }
 
 /// What a URI names.
-pub fn find(uri: &[u8]) -> Option<Target> {
+pub fn find(uri: &[u8]) -> Option<Target<'_>> {
     let rest = uri.strip_prefix(b"rtsp://")?;
     let slash = rest.iter().position(|byte| *byte == b'/')?;
     let path = rest[slash..]
@@ -38,7 +48,8 @@ pub fn find(uri: &[u8]) -> Option<Target> {
         .next()?;
     let path = path.strip_prefix(b"/tone")?;
     if matches!(path, b"" | b"/") {
-        return Some(Target::Presentation);
+        let base = uri.len() - rest.len() + slash + "/tone".len();
+        return Some(Target::Presentation(&uri[..base]));
     }
     let name = path.strip_prefix(b"/")?;
     let index = TRACKS
@@ -55,6 +66,7 @@ fn sdp() -> Result<String, std::fmt::Error> {
         name,
         payload_type,
         encoding,
+        ..
     } in &TRACKS
     {
         write!(
@@ -67,10 +79,10 @@ fn sdp() -> Result<String, std::fmt::Error> {
 }
 
 pub fn describe(out: &mut Vec<u8>, request: &Request<'_>) -> Result<(), Refusal> {
-    let Some(Target::Presentation) = find(request.uri) else {
+    let Some(Target::Presentation(base)) = find(request.uri) else {
         return Err(Refusal::NotFound);
     };
-    let uri = std::str::from_utf8(request.uri).map_err(|_| Refusal::NotFound)?;
+    let uri = std::str::from_utf8(base).map_err(|_| Refusal::NotFound)?;
     let body = sdp().map_err(|_| Refusal::NotFound)?;
     write!(
         out,
@@ -82,15 +94,35 @@ pub fn describe(out: &mut Vec<u8>, request: &Request<'_>) -> Result<(), Refusal>
     .map_err(|_| Refusal::NotFound)
 }
 
-/// The values of the parameters that a body names, of a session that is Ready at its start.
-pub fn parameters(body: &[u8]) -> Option<String> {
-    let mut text = String::new();
+/// The values of the parameters that a body names, of a session whose point is this unit.
+pub fn parameters(body: &[u8], point: u32) -> Option<String> {
+    let mut text = String::with_capacity(64);
     for name in std::str::from_utf8(body).ok()?.lines() {
-        text.push_str(match name {
-            "position" => "position: 0.000\r\n",
-            "duration" => "duration: 10.000\r\n",
+        match name {
+            "position" => write!(text, "position: {}\r\n", Time(point)).ok()?,
+            "duration" => text.push_str("duration: 10.000\r\n"),
             _ => return None,
-        });
+        }
     }
     Some(text)
+}
+
+/// The value of RTP-Info, in the order of the tracks, where so many units were sent in earlier plays.
+pub fn put_rtp_info(out: &mut Vec<u8>, base: &str, session: &Session, sent: u32) -> io::Result<()> {
+    let mut comma = "";
+    for (track, index) in TRACKS.iter().zip(0..) {
+        let Some(stream) = session.streams().find(|it| it.track == index) else {
+            continue;
+        };
+        write!(
+            out,
+            "{comma}url=\"{base}/{}\" ssrc={:08x}:seq={};rtptime={}",
+            track.name,
+            stream.ssrc,
+            stream.seq.wrapping_add(sent as u16),
+            stream.rtptime.wrapping_add(sent.wrapping_mul(track.ticks)),
+        )?;
+        comma = ",";
+    }
+    Ok(())
 }
