@@ -2,9 +2,8 @@
 
 use crate::book::{Refusal, Session};
 use crate::message::Request;
-use crate::range::Time;
-use std::fmt::Write as _;
-use std::io::{self, Write};
+use crate::range::put_time;
+use crate::text::Text;
 
 /// Units of the presentation, and the milliseconds that each lasts.
 pub const UNITS: u32 = 500;
@@ -58,71 +57,69 @@ pub fn find(uri: &[u8]) -> Option<Target<'_>> {
     Some(Target::Track(index as u16))
 }
 
-fn sdp() -> Result<String, std::fmt::Error> {
-    let mut text = String::new();
-    text.push_str("v=0\r\no=- 1 1 IN IP4 127.0.0.1\r\ns=tone\r\nc=IN IP4 0.0.0.0\r\nt=0 0\r\n");
-    text.push_str("a=control:*\r\na=range:npt=0.000-10.000\r\n");
-    for Track {
-        name,
-        payload_type,
-        encoding,
-        ..
-    } in &TRACKS
-    {
-        write!(
-            text,
-            "m=audio 0 RTP/AVP {payload_type}\r\na=rtpmap:{payload_type} {encoding}/8000\r\n"
-        )?;
-        write!(text, "a=control:{name}\r\n")?;
+fn sdp() -> Text {
+    let mut text = Text::with_capacity(256);
+    text.put("v=0\r\no=- 1 1 IN IP4 127.0.0.1\r\ns=tone\r\nc=IN IP4 0.0.0.0\r\nt=0 0\r\n");
+    text.put("a=control:*\r\na=range:npt=0.000-10.000\r\n");
+    for track in &TRACKS {
+        text.put("m=audio 0 RTP/AVP ")
+            .put_decimal(track.payload_type);
+        text.put("\r\na=rtpmap:").put_decimal(track.payload_type);
+        text.put(" ").put(track.encoding).put("/8000\r\n");
+        text.put("a=control:").put(track.name).put("\r\n");
     }
-    Ok(text)
+    text
 }
 
-pub fn describe(out: &mut Vec<u8>, request: &Request<'_>) -> Result<(), Refusal> {
+pub fn describe(out: &mut Text, request: &Request<'_>) -> Result<(), Refusal> {
     let Some(Target::Presentation(base)) = find(request.uri) else {
         return Err(Refusal::NotFound);
     };
-    let uri = std::str::from_utf8(base).map_err(|_| Refusal::NotFound)?;
-    let body = sdp().map_err(|_| Refusal::NotFound)?;
-    write!(
-        out,
-        "RTSP/2.0 200 OK\r\nCSeq: {}\r\nContent-Base: {uri}/\r\nContent-Type: application/sdp\r\n\
-        Content-Length: {}\r\n\r\n{body}",
-        request.cseq,
-        body.len(),
-    )
-    .map_err(|_| Refusal::NotFound)
+    let sdp = sdp();
+    let body = sdp.as_bytes();
+    out.put_start(request.cseq);
+    out.put("\r\nContent-Base: ").put(base);
+    out.put("/\r\nContent-Type: application/sdp\r\nContent-Length: ");
+    out.put_decimal(body.len() as u64).put("\r\n\r\n").put(body);
+    Ok(())
 }
 
 /// The values of the parameters that a body names, of a session whose point is this unit.
-pub fn parameters(body: &[u8], point: u32) -> Option<String> {
-    let mut text = String::with_capacity(64);
+pub fn parameters(body: &[u8], point: u32) -> Option<Text> {
+    let mut text = Text::with_capacity(64);
     for name in std::str::from_utf8(body).ok()?.lines() {
         match name {
-            "position" => write!(text, "position: {}\r\n", Time(point)).ok()?,
-            "duration" => text.push_str("duration: 10.000\r\n"),
+            "position" => {
+                text.put("position: ");
+                put_time(&mut text, point);
+                text.put("\r\n");
+            }
+            "duration" => {
+                text.put("duration: 10.000\r\n");
+            }
             _ => return None,
         }
     }
     Some(text)
 }
 
-/// The value of RTP-Info, in the order of the tracks, where so many units were sent in earlier plays.
-pub fn put_rtp_info(out: &mut Vec<u8>, base: &str, session: &Session, sent: u32) -> io::Result<()> {
+/// Puts the value of RTP-Info, in the order of the tracks, where so many units were sent in earlier plays.
+pub fn put_rtp_info(out: &mut Text, base: &[u8], session: &Session, sent: u32) {
     let mut comma = "";
     for (track, index) in TRACKS.iter().zip(0..) {
         let Some(stream) = session.streams().find(|it| it.track == index) else {
             continue;
         };
-        write!(
-            out,
-            "{comma}url=\"{base}/{}\" ssrc={:08x}:seq={};rtptime={}",
-            track.name,
-            stream.ssrc,
-            stream.seq.wrapping_add(sent as u16),
-            stream.rtptime.wrapping_add(sent.wrapping_mul(track.ticks)),
-        )?;
+        let seq = stream.seq.wrapping_add(sent as u16);
+        let rtptime = stream.rtptime.wrapping_add(sent.wrapping_mul(track.ticks));
+        out.put(comma)
+            .put("url=\"")
+            .put(base)
+            .put("/")
+            .put(track.name);
+        out.put("\" ssrc=").put_hex::<8>(stream.ssrc);
+        out.put(":seq=").put_decimal(seq);
+        out.put(";rtptime=").put_decimal(rtptime);
         comma = ",";
     }
-    Ok(())
 }

@@ -11,6 +11,7 @@ mod content;
 mod message;
 mod range;
 mod server;
+mod text;
 mod transport;
 
 use message::read_request;
@@ -18,13 +19,14 @@ use server::Server;
 use std::fs::File;
 use std::io::{Read, Write, stdin, stdout};
 use std::os::fd::AsFd;
+use text::Text;
 
 fn main() -> std::io::Result<()> {
     let in_batches = std::env::args().nth(1).as_deref() == Some("batch");
     let mut server = Server::new();
     let mut input = stdin().lock();
     let mut output = File::from(stdout().as_fd().try_clone_to_owned()?);
-    let (mut unread, mut out) = (Vec::new(), Vec::new());
+    let (mut unread, mut out) = (Vec::new(), Text::default());
     let mut piece = [0; 4096];
     loop {
         let read = input.read(&mut piece)?;
@@ -38,12 +40,12 @@ fn main() -> std::io::Result<()> {
                 .answer(&mut out, &request)
                 .expect("each request of the bench is answered 200");
             if !in_batches {
-                output.write_all(&out)?;
+                output.write_all(out.as_bytes())?;
                 out.clear();
             }
             at += size;
         }
-        output.write_all(&out)?;
+        output.write_all(out.as_bytes())?;
         out.clear();
         unread.drain(..at);
     }

@@ -1,4 +1,4 @@
-//! Requests as they are read, and numbers as they are written.
+//! Requests as they are read.
 
 pub struct Request<'a> {
     pub method: &'a [u8],
@@ -82,18 +82,4 @@ pub fn read_request(text: &[u8]) -> Option<(Request<'_>, usize)> {
         },
         at + length,
     ))
-}
-
-pub fn put_decimal(out: &mut Vec<u8>, mut number: u64) {
-    let mut digits = [0; 20];
-    let mut first = digits.len();
-    loop {
-        first -= 1;
-        digits[first] = b'0' + (number % 10) as u8;
-        number /= 10;
-        if number == 0 {
-            break;
-        }
-    }
-    out.extend_from_slice(&digits[first..]);
 }

@@ -1,8 +1,8 @@
-//! Ranges of normal play time, as units of the media and as text.
+//! Ranges of normal play time, as text and as units of the media.
 
 use crate::book::Refusal;
 use crate::content::{UNIT_MS, UNITS};
-use std::fmt;
+use crate::text::Text;
 
 const NANOS_PER_SECOND: u64 = 1_000_000_000;
 const NANOS_PER_UNIT: u64 = UNIT_MS * 1_000_000;
@@ -96,12 +96,16 @@ impl Range {
     }
 }
 
-/// The time at which a unit begins: seconds with three decimals.
-pub struct Time(pub u32);
+/// Puts the time at which a unit begins: seconds with three decimals.
+pub fn put_time(out: &mut Text, unit: u32) {
+    let ms = u64::from(unit) * UNIT_MS;
+    out.put_decimal(ms / 1_000).put(".").put_digits::<3>(ms);
+}
 
-impl fmt::Display for Time {
-    fn fmt(&self, out: &mut fmt::Formatter<'_>) -> fmt::Result {
-        let ms = u64::from(self.0) * UNIT_MS;
-        write!(out, "{}.{:03}", ms / 1_000, ms % 1_000)
-    }
+/// Puts the range from a unit on and before another.
+pub fn put_range(out: &mut Text, from: u32, stop: u32) {
+    out.put("npt=");
+    put_time(out, from);
+    out.put("-");
+    put_time(out, stop);
 }

@@ -2,10 +2,10 @@
 
 use crate::book::{Book, Clock, Phase, Refusal, Stream};
 use crate::content::{self, Target, UNIT_MS, UNITS};
-use crate::message::{Request, put_decimal};
-use crate::range::{Range, Time};
+use crate::message::Request;
+use crate::range::{Range, put_range};
+use crate::text::Text;
 use crate::transport::{self, Delivery, Granted};
-use std::io::{self, Write};
 
 const PUBLIC: &str =
     "OPTIONS, DESCRIBE, SETUP, PLAY, PAUSE, TEARDOWN, GET_PARAMETER, SET_PARAMETER";
@@ -47,12 +47,6 @@ fn id_in(value: &[u8]) -> Option<u128> {
     u128::from_str_radix(std::str::from_utf8(value).ok()?, 16).ok()
 }
 
-impl From<io::Error> for Refusal {
-    fn from(_: io::Error) -> Refusal {
-        Refusal::Full
-    }
-}
-
 impl Server {
     /// No session yet. The clock stands still, as that of `rtspd stdio` does.
     pub fn new() -> Server {
@@ -74,7 +68,7 @@ impl Server {
         self.clock.now + TIMEOUT * 1_000
     }
 
-    fn setup(&mut self, out: &mut Vec<u8>, request: &Request<'_>) -> Result<(), Refusal> {
+    fn setup(&mut self, out: &mut Text, request: &Request<'_>) -> Result<(), Refusal> {
         let Some(Target::Track(track)) = content::find(request.uri) else {
             return Err(Refusal::NotFound);
         };
@@ -84,14 +78,14 @@ impl Server {
         self.numbers.ssrc += 1;
         let (id, ssrc) = (self.numbers.id, self.numbers.ssrc);
         let granted = self.admit(id, delivery, Stream::new(track, ssrc))?;
-        write!(
-            out,
-            "RTSP/2.0 200 OK\r\nCSeq: {}\r\nSession: {id:032x};timeout={TIMEOUT}\r\n\
-            Transport: {granted};ssrc={ssrc:08x}\r\n\
-            Accept-Ranges: npt\r\nMedia-Properties: Random-Access=0.020, Immutable, Unlimited\r\n\
-            Media-Range: npt=0.000-10.000\r\n\r\n",
-            request.cseq,
-        )?;
+        out.put_start(request.cseq).put_session(id);
+        out.put(";timeout=").put_decimal(TIMEOUT);
+        out.put("\r\nTransport: ");
+        granted.put(out);
+        out.put(";ssrc=").put_hex::<8>(ssrc);
+        out.put("\r\nAccept-Ranges: npt\r\n");
+        out.put("Media-Properties: Random-Access=0.020, Immutable, Unlimited\r\n");
+        out.put("Media-Range: npt=0.000-10.000\r\n\r\n");
         Ok(())
     }
 
@@ -134,11 +128,10 @@ impl Server {
         Ok(Renewed { session, id, point })
     }
 
-    fn play(&mut self, out: &mut Vec<u8>, request: &Request<'_>) -> Result<(), Refusal> {
+    fn play(&mut self, out: &mut Text, request: &Request<'_>) -> Result<(), Refusal> {
         let Some(Target::Presentation(base)) = content::find(request.uri) else {
             return Err(Refusal::NotFound);
         };
-        let base = std::str::from_utf8(base).map_err(|_| Refusal::NotFound)?;
         let Renewed { session, id, point } = self.renewed(request)?;
         let range = request.range.map_or(Ok(Range::default()), Range::read)?;
         let (from, stop) = range.units(point)?;
@@ -149,69 +142,54 @@ impl Server {
         else {
             return Err(Refusal::WrongState);
         };
-        write!(
-            out,
-            "RTSP/2.0 200 OK\r\nCSeq: {}\r\nSession: {id:032x}\r\nRange: npt={}-{}\r\n\
-            Seek-Style: RAP\r\nRTP-Info: ",
-            request.cseq,
-            Time(from),
-            Time(stop),
-        )?;
-        content::put_rtp_info(out, base, playing, sent)?;
-        out.extend_from_slice(b"\r\n\r\n");
+        out.put_start(request.cseq).put_session(id);
+        out.put("\r\nRange: ");
+        put_range(out, from, stop);
+        out.put("\r\nSeek-Style: RAP\r\nRTP-Info: ");
+        content::put_rtp_info(out, base, playing, sent);
+        out.put("\r\n\r\n");
         Ok(())
     }
 
-    fn pause(&mut self, out: &mut Vec<u8>, request: &Request<'_>) -> Result<(), Refusal> {
+    fn pause(&mut self, out: &mut Text, request: &Request<'_>) -> Result<(), Refusal> {
         let Some(Target::Presentation(_)) = content::find(request.uri) else {
             return Err(Refusal::NotFound);
         };
         let Renewed { session, id, .. } = self.renewed(request)?;
         let paused = self.book.pause(session, self.clock)?;
-        write!(
-            out,
-            "RTSP/2.0 200 OK\r\nCSeq: {}\r\nSession: {id:032x}\r\nRange: npt={}-{}\r\n\r\n",
-            request.cseq,
-            Time(paused.phase.point(self.clock)),
-            Time(UNITS),
-        )?;
+        out.put_start(request.cseq).put_session(id);
+        out.put("\r\nRange: ");
+        put_range(out, paused.phase.point(self.clock), UNITS);
+        out.put("\r\n\r\n");
         Ok(())
     }
 
-    fn teardown(&mut self, out: &mut Vec<u8>, request: &Request<'_>) -> Result<(), Refusal> {
+    fn teardown(&mut self, out: &mut Text, request: &Request<'_>) -> Result<(), Refusal> {
         content::find(request.uri).ok_or(Refusal::NotFound)?;
         let (session, _) = self.named(request)?;
         self.book.end(session)?;
-        out.extend_from_slice(b"RTSP/2.0 200 OK\r\nCSeq: ");
-        put_decimal(out, request.cseq);
-        out.extend_from_slice(b"\r\n\r\n");
+        out.put_start(request.cseq).put("\r\n\r\n");
         Ok(())
     }
 
-    fn get_parameter(&mut self, out: &mut Vec<u8>, request: &Request<'_>) -> Result<(), Refusal> {
+    fn get_parameter(&mut self, out: &mut Text, request: &Request<'_>) -> Result<(), Refusal> {
         content::find(request.uri).ok_or(Refusal::NotFound)?;
         let Renewed { id, point, .. } = self.renewed(request)?;
-        let body = content::parameters(request.body, point).ok_or(Refusal::NotFound)?;
-        write!(
-            out,
-            "RTSP/2.0 200 OK\r\nCSeq: {}\r\nSession: {id:032x}\r\nContent-Type: text/parameters\r\n\
-            Content-Length: {}\r\n\r\n{body}",
-            request.cseq,
-            body.len(),
-        )?;
+        let values = content::parameters(request.body, point).ok_or(Refusal::NotFound)?;
+        let body = values.as_bytes();
+        out.put_start(request.cseq).put_session(id);
+        out.put("\r\nContent-Type: text/parameters\r\nContent-Length: ");
+        out.put_decimal(body.len() as u64).put("\r\n\r\n").put(body);
         Ok(())
     }
 
-    fn options(out: &mut Vec<u8>, request: &Request<'_>) {
-        out.extend_from_slice(b"RTSP/2.0 200 OK\r\nCSeq: ");
-        put_decimal(out, request.cseq);
-        out.extend_from_slice(b"\r\nPublic: ");
-        out.extend_from_slice(PUBLIC.as_bytes());
-        out.extend_from_slice(b"\r\n\r\n");
+    fn options(out: &mut Text, request: &Request<'_>) {
+        out.put_start(request.cseq);
+        out.put("\r\nPublic: ").put(PUBLIC).put("\r\n\r\n");
     }
 
     /// Does what a request asks for, and puts its response behind what is there.
-    pub fn answer(&mut self, out: &mut Vec<u8>, request: &Request<'_>) -> Result<(), Refusal> {
+    pub fn answer(&mut self, out: &mut Text, request: &Request<'_>) -> Result<(), Refusal> {
         match request.method {
             b"OPTIONS" => Server::options(out, request),
             b"DESCRIBE" => content::describe(out, request)?,

@@ -1,6 +1,6 @@
 //! Transports, as a player asks for them and as it gets them.
 
-use std::fmt;
+use crate::text::Text;
 
 /// The player's address, which it may name as where packets go to.
 const PEER: &str = "127.0.0.1";
@@ -94,22 +94,25 @@ pub fn read(header: &[u8]) -> Option<Delivery> {
     header.split(|byte| *byte == b',').find_map(delivery)
 }
 
-impl fmt::Display for Granted {
-    fn fmt(&self, out: &mut fmt::Formatter<'_>) -> fmt::Result {
+impl Granted {
+    pub fn put(&self, out: &mut Text) {
         match *self {
-            Granted::Channels(channel) => write!(
-                out,
-                "RTP/AVP/TCP;unicast;interleaved={channel}-{}",
-                channel + 1
-            ),
-            Granted::Ports {
-                player: (rtp, rtcp),
-                server,
-            } => write!(
-                out,
-                "RTP/AVP;unicast;dest_addr=\":{rtp}\"/\":{rtcp}\";src_addr=\":{server}\"/\":{}\"",
-                server + 1
-            ),
+            Granted::Channels(channel) => {
+                out.put("RTP/AVP/TCP;unicast;interleaved=");
+                out.put_decimal(channel).put("-").put_decimal(channel + 1);
+            }
+            Granted::Ports { player, server } => {
+                out.put("RTP/AVP;unicast;dest_addr=");
+                put_ports(out, player);
+                out.put(";src_addr=");
+                put_ports(out, (server, server + 1));
+            }
         }
     }
+}
+
+/// Puts two ports as quoted addresses.
+fn put_ports(out: &mut Text, (rtp, rtcp): (u16, u16)) {
+    out.put("\":").put_decimal(rtp);
+    out.put("\"/\":").put_decimal(rtcp).put("\"");
 }
