@@ -1,5 +1,6 @@
 /* The yardstick: makes RTP packets of 160 octets from memory, so many plays of 500 as it is told, and looks at each. It
-   does so twice: where the compiler knows that there are 160 octets, and where it doesn't. */
+   does so twice: where the compiler knows that there are 160 octets, and where it doesn't. A second word is the number
+   of plays of that second part, where it is another one. */
 #include <stdint.h>
 #include <stdio.h>
 #include <stdlib.h>
@@ -37,10 +38,11 @@ static inline __attribute__((always_inline)) long spent(long plays, size_t lengt
 int main(int count, char **words) {
     volatile size_t told = OCTETS;
     long plays = count > 1 ? atol(words[1]) : 1;
+    long plays_unknown = count > 2 ? atol(words[2]) : plays;
     uint64_t sum = 0;
     memset(media, 7, sizeof media);
     long known = spent(plays, OCTETS, &sum);
-    long unknown = spent(plays, told, &sum);
+    long unknown = spent(plays_unknown, told, &sum);
     printf("%llu %ld %ld\n", (unsigned long long)sum, known, unknown);
     return 0;
 }

@@ -1,4 +1,4 @@
-//! Requests as they are read, and numbers as they are written.
+//! Requests as they are read.
 
 pub struct Request<'a> {
     pub method: &'a [u8],
@@ -6,6 +6,7 @@ pub struct Request<'a> {
     pub cseq: u64,
     pub session: Option<&'a [u8]>,
     pub transport: Option<&'a [u8]>,
+    pub range: Option<&'a [u8]>,
     pub body: &'a [u8],
 }
 
@@ -41,7 +42,7 @@ pub fn read_request(text: &[u8]) -> Option<(Request<'_>, usize)> {
     let (method, uri, version) = (words.next()?, words.next()?, words.next()?);
     assert!(is_token(method) && version == b"RTSP/2.0");
     assert!(uri.iter().all(|byte| (33..=126).contains(byte)));
-    let (mut cseq, mut session, mut transport, mut length) = (None, None, None, 0);
+    let (mut cseq, mut session, mut transport, mut range, mut length) = (None, None, None, None, 0);
     loop {
         let (header, size) = line(&text[at..])?;
         at += size;
@@ -60,6 +61,8 @@ pub fn read_request(text: &[u8]) -> Option<(Request<'_>, usize)> {
             session = Some(value);
         } else if name.eq_ignore_ascii_case(b"Transport") {
             transport = Some(value);
+        } else if name.eq_ignore_ascii_case(b"Range") {
+            range = Some(value);
         } else if name.eq_ignore_ascii_case(b"Content-Length") {
             length = number(value) as usize;
         }
@@ -74,22 +77,9 @@ pub fn read_request(text: &[u8]) -> Option<(Request<'_>, usize)> {
             cseq,
             session,
             transport,
+            range,
             body,
         },
         at + length,
     ))
-}
-
-pub fn put_decimal(out: &mut Vec<u8>, mut number: u64) {
-    let mut digits = [0; 20];
-    let mut first = digits.len();
-    loop {
-        first -= 1;
-        digits[first] = b'0' + (number % 10) as u8;
-        number /= 10;
-        if number == 0 {
-            break;
-        }
-    }
-    out.extend_from_slice(&digits[first..]);
 }

@@ -76,7 +76,12 @@ fn chains(alive: u64) -> u64 {
 
 fn renewals(walk: Walk) -> u64 {
     let mut book = filled(walk.alive);
-    spent(|| (0..TURNS).try_for_each(|turn| book.touch(walk.at(turn), turn + 1)))
+    spent(|| {
+        for turn in 0..TURNS {
+            book.touch(walk.at(turn), turn + 1)?;
+        }
+        Ok(())
+    })
 }
 
 fn numbers(walk: Walk) -> u64 {
@@ -120,10 +125,11 @@ fn chains_under_a_lock(alive: u64) -> u64 {
 fn renewals_under_a_lock(walk: Walk) -> u64 {
     let book = Mutex::new(filled(walk.alive));
     spent(|| {
-        (0..TURNS).try_for_each(|turn| {
+        for turn in 0..TURNS {
             let mut book = book.lock().expect("no thread has panicked");
-            book.touch(walk.at(turn), turn + 1)
-        })
+            book.touch(walk.at(turn), turn + 1)?;
+        }
+        Ok(())
     })
 }
 
