@@ -1,6 +1,6 @@
 //! Threads at one lock, each with a seat of its own.
 
-ghost use Rattle.std.specs.Prelude.{◌≡◌};
+ghost use Rattle.std.specs.Prelude.{◌≡◌, IfOk};
 ghost use Rattle.rtsp_record.specs.Choices.{HasPorts};
 ghost use Rattle.rtsp_book.specs.Replies.{IsAskable};
 ghost use Rattle.rtsp_lock.specs.Calls.{IsSeatOf, SameSeat};
@@ -26,14 +26,26 @@ const TURNS: u64 = 100;
 #[test]
 fn four_threads_leave_one_journal(rt: HostRuntime) -> Result<(), Fail> {
     let (lock, mut first) = open(rt.alloc(), &SMALL)?;
-    let one = first.split(&rt, &lock)?;
-    let two = first.split(&rt, &lock)?;
-    let three = first.split(&rt, &lock)?;
-    let four = first.split(&rt, &lock)?;
-    by_four(&rt, &lock, (one, two, three, four));
+    let two = two_seats(&rt, &lock, &mut first)?;
+    let more = two_seats(&rt, &lock, &mut first)?;
+    by_four(&rt, &lock, two, more);
     let kept = first.finish(&rt, lock);
     assert!(rt; is_of_four(kept.journal()) && kept.next_number() == 405);
     Ok(())
+}
+
+fn two_seats<R: Wait>(
+    rt: &R,
+    lock: &BookLock,
+    first: &mut BookSeat,
+) -> Result<(BookSeat, BookSeat), NumbersSpent>
+    requires { IsSeatOf first.old lock.now }
+    ensures same { SameSeat first.old first.new }
+    ensures seats { IfOk result (λ s. IsSeatOf s.0 lock.now × IsSeatOf s.1 lock.now) }
+{
+    let one = first.split(rt, lock)?;
+    let two = first.split(rt, lock)?;
+    Ok((one, two))
 }
 
 // Whether each actor from 1 to 4 has its entries, and no other has any.
@@ -64,12 +76,14 @@ fn by_two<R: Threads + Wait + Sync>(rt: &R, lock: &BookLock, one: BookSeat, two:
 fn by_four<R: Threads + Wait + Sync>(
     rt: &R,
     lock: &BookLock,
-    seats: (BookSeat, BookSeat, BookSeat, BookSeat),
+    two: (BookSeat, BookSeat),
+    more: (BookSeat, BookSeat),
 )
-    requires ab { IsSeatOf seats.0 lock.now × IsSeatOf seats.1 lock.now }
-    requires cd { IsSeatOf seats.2 lock.now × IsSeatOf seats.3 lock.now }
+    requires two { IsSeatOf two.0 lock.now × IsSeatOf two.1 lock.now }
+    requires more { IsSeatOf more.0 lock.now × IsSeatOf more.1 lock.now }
 {
-    let (a, b, c, d) = seats;
+    let (a, b) = two;
+    let (c, d) = more;
     thread::join(
         rt,
         move ||
@@ -140,8 +154,7 @@ fn contend<R: AllocGlobal + Threads + Wait + Clock + Sync>(
     requires { HasPorts whole.now }
 {
     let (lock, mut first) = open(rt.alloc(), whole)?;
-    let one = first.split(rt, &lock)?;
-    let two = first.split(rt, &lock)?;
+    let (one, two) = two_seats(rt, &lock, &mut first)?;
     let answered = AtomicBool::new(is_answered);
     let (one, two) = admit_both(rt, &lock, one, two, &answered);
     let kept = first.finish(rt, lock);

@@ -24,6 +24,9 @@ const CROWDED: Whole = Whole {
 struct TwoBooks {
     plain: Partner<PlainBook>,
     indexed: Partner<IndexedBook>,
+    // The most sessions that lived, and the most entries that there were.
+    most: usize,
+    longest: usize,
 }
 
 impl TwoBooks {
@@ -33,6 +36,8 @@ impl TwoBooks {
         Ok(TwoBooks {
             plain: Partner::open(alloc, whole)?,
             indexed: Partner::open(alloc, whole)?,
+            most: 0,
+            longest: 0,
         })
     }
 
@@ -43,12 +48,54 @@ impl TwoBooks {
         self.indexed.said.clear();
         self.plain.answer(&line)?;
         self.indexed.answer(&line)?;
+        self.most = self.indexed.kept.book().living().max(self.most);
+        self.longest = self.indexed.kept.journal().len().max(self.longest);
         Ok(self.plain.said.as_slice() == self.indexed.said.as_slice())
     }
 
     // Whether both say the same, and print the same book afterwards.
     fn stay_alike(&mut self, word: &str, numbers: [u64; 5]) -> Result<bool, AllocError> {
         Ok(self.agree(word, numbers)? && self.agree("book", [0; 5])?)
+    }
+
+    // Whether both are restated alike, by so many entries.
+    fn are_restated(&mut self, entries: usize) -> Result<bool, AllocError> {
+        Ok(
+            self.stay_alike("checkpoint", [0; 5])?
+                && self.agree("journal", [0; 5])?
+                && self.plain.kept.journal().len() == entries,
+        )
+    }
+
+    // Whether the journals of both lead to the book that was printed last.
+    fn are_replayed(&mut self) -> Result<bool, AllocError> {
+        let printed = self.plain.said.clone()?;
+        Ok(self.stay_alike("replay", [0; 5])? && self.plain.said.as_slice() == printed.as_slice())
+    }
+
+    // The first turn of 10,000 at random after which both differ.
+    fn act_at_random(&mut self) -> Result<Option<u32>, AllocError> {
+        let mut seed = 1;
+        for turn in 0..10_000u32 {
+            let one = next(seed);
+            seed = next(one);
+            let drawn = drawn_from(one, seed);
+            let word = word_at(seed, one >> 26, drawn.few);
+            if !self.stay_alike(word, numbers_of(word, drawn))? {
+                return Ok(Some(turn));
+            }
+        }
+        Ok(None)
+    }
+
+    // Whether both set sixteen streams of the session 2 up alike, the last under the least number.
+    fn set_sixteen_up(&mut self) -> Result<bool, AllocError> {
+        for track in 0..16u64 {
+            if !self.set_up_alike(100 - track, track)? {
+                return Ok(false);
+            }
+        }
+        Ok(true)
     }
 
     // Whether both set a stream of the session 2 up alike, the first one with a startup number.
@@ -60,6 +107,22 @@ impl TwoBooks {
                 && self.agree("port", numbers)?
                 && self.agree(last, [2, admission, track, 1, 7])?,
         )
+    }
+
+    // Whether both open 200 sessions alike, the last number first, and end 70 of them.
+    fn open_and_end_many(&mut self) -> Result<bool, AllocError> {
+        for turn in 0..200u64 {
+            let number = 1_000 - turn;
+            if !self.agree("open", [number, number, 1, 60_000, 0])? {
+                return Ok(false);
+            }
+        }
+        for turn in 0..70u64 {
+            if !self.agree("end", [801 + 2 * turn, 0, 0, 0, 0])? {
+                return Ok(false);
+            }
+        }
+        Ok(true)
     }
 }
 
@@ -153,42 +216,32 @@ fn word_at(seed: u32, kind: u32, few: u64) -> &'static str {
 #[test]
 fn steps_at_random_leave_both_books_alike(rt: HostRuntime) -> Result<(), Fail> {
     let mut both = TwoBooks::open(rt.alloc(), &CROWDED)?;
-    let mut seed = 1;
-    let mut most = 0;
-    let mut longest = 0;
-    for turn in 0..10_000u32 {
-        let one = next(seed);
-        seed = next(one);
-        let drawn = drawn_from(one, seed);
-        let word = word_at(seed, one >> 26, drawn.few);
-        assert!(rt;
-            both.stay_alike(word, numbers_of(word, drawn))?,
-            "{word} at {turn}"
-        );
-        most = both.indexed.kept.book().living().max(most);
-        longest = both.indexed.kept.journal().len().max(longest);
-    }
-    assert!(rt; most > 40 && longest > 200 && both.stay_alike("replay", [0; 5])?);
+    let differ = both.act_at_random()?;
+    assert!(rt; differ.is_none(), "they differ after {differ:?}");
+    assert!(rt; both.most > 40 && both.longest > 200 && both.are_replayed()?);
     Ok(())
 }
 
-// A session with as many streams as it may have, each under an admission of its own, the last one
-// under the least. It has a startup number and plays, so that it ends by the most records of a step.
+// A session with as many streams as it may have, each under an admission of its own. It has a
+// startup number and plays, so that it ends by the most records of a step.
+fn sixteen_are_restated(both: &mut TwoBooks) -> Result<bool, AllocError> {
+    Ok(
+        both.agree("open", [2, 1, 1, 60_000, 0])?
+            && both.set_sixteen_up()?
+            && both.agree("play", [2, 0, 0, 0, 0])?
+            && both.are_restated(51)?
+            && both.stay_alike("end", [2, 0, 0, 0, 0])?
+            && both.longest == 102,
+    )
+}
+
 #[test]
 fn sixteen_streams_are_restated(rt: HostRuntime) -> Result<(), Fail> {
-    let mut both = TwoBooks::open(rt.alloc(), &CROWDED)?;
-    assert!(rt; both.agree("open", [2, 1, 1, 60_000, 0])?);
-    for track in 0..16u64 {
-        assert!(rt; both.set_up_alike(100 - track, track)?, "track {track}");
-    }
-    assert!(rt; both.agree("play", [2, 0, 0, 0, 0])? && both.stay_alike("checkpoint", [0; 5])?);
-    assert!(rt; both.agree("journal", [0; 5])? && both.plain.kept.journal().len() == 51);
-    assert!(rt; both.stay_alike("end", [2, 0, 0, 0, 0])? && both.plain.kept.journal().len() == 102);
+    assert!(rt; sixteen_are_restated(&mut TwoBooks::open(rt.alloc(), &CROWDED)?)?);
     Ok(())
 }
 
-// More sessions than one look for the next ones finds, opened from the last on: a table that isn't
-// in order.
+// More sessions than one look for the next ones finds: a table that isn't in order.
 #[test]
 fn many_sessions_are_restated_in_order(rt: HostRuntime) -> Result<(), Fail> {
     let many = Whole {
@@ -196,14 +249,6 @@ fn many_sessions_are_restated_in_order(rt: HostRuntime) -> Result<(), Fail> {
         ..CROWDED
     };
     let mut both = TwoBooks::open(rt.alloc(), &many)?;
-    for turn in 0..200u64 {
-        let number = 1_000 - turn;
-        assert!(rt; both.agree("open", [number, number, 1, 60_000, 0])?);
-    }
-    for turn in 0..70u64 {
-        assert!(rt; both.agree("end", [801 + 2 * turn, 0, 0, 0, 0])?);
-    }
-    assert!(rt; both.stay_alike("checkpoint", [0; 5])? && both.agree("journal", [0; 5])?);
-    assert!(rt; both.indexed.kept.journal().len() == 130);
+    assert!(rt; both.open_and_end_many()? && both.are_restated(130)?);
     Ok(())
 }
