@@ -1,9 +1,10 @@
 //! What a seat does about a journal that has no room for its step: nothing where it is the lock's only one, and else a
 //! checkpoint where one may make room.
 
-use crate::books::{Asked, step};
-use crate::checkpoints_at_lock::{has_text, renew, settle, uses_by};
-use crate::world::{SMALL, is_replayed};
+use crate::lines::read_line;
+use crate::seats::{converse_at_lock, renewed};
+use crate::steps::step_of;
+use crate::world::SMALL;
 use rtsp_lock::open;
 use rtsp_record::Whole;
 use std::test::Fail;
@@ -16,62 +17,97 @@ const SHORT: Whole = Whole {
 
 #[test]
 fn a_shared_seat_makes_room_for_its_step(rt: HostRuntime) -> Result<(), Fail> {
-    let (lock, mut acts) = open(rt.alloc(), &SHORT)?;
-    let mut checks = acts.split(&rt, &lock)?;
-    settle(&rt, &lock, &mut acts, &mut checks)?;
-    assert!(rt; renew(&rt, &lock, &mut acts, 60_001, 3));
-    let kept = acts.finish(&rt, lock);
-    // Each renewal but the first finds the journal full; a seat is made for it, and that draws a number.
-    let expected = "6 open 2 00000000000000000000000000000001 1 60002\n\
-        6 hold 2 3 rate 80000\n\
-        6 hold 2 3 pair 5000\n\
-        6 add 2 3 0 0 00000001 0 0 7f000001 8000 8001\n\
-        0 touch 2 60002 60003\n";
-    has_text(&rt, rt.alloc(), &kept, expected)?;
-    assert!(rt; kept.rounds() == 3 && kept.next_number() == 7);
-    assert!(rt; is_replayed(rt.alloc(), &SHORT, kept.journal())?);
-    Ok(())
+    converse_at_lock(&rt, &SHORT, ROOM_MADE)
 }
+
+// Each renewal but the first finds the journal full; a seat is made for it, and that draws a number, as each checkpoint
+// does.
+const ROOM_MADE: &str = "> open 2 1 1 60000
+open 2 00000000000000000000000000000001 1 60000
+> rate 2 3
+hold 2 3 rate 80000
+> pair 2 3
+hold 2 3 pair 5000
+> commit 2 3 0 8000 8001
+add 2 3 0 0 00000003 0 0 7f000001 8000 8001
+> checkpoint
+> renew 2 60001 3
+renewed 3
+> finish
+> journal
+6 open 2 00000000000000000000000000000001 1 60002
+6 hold 2 3 rate 80000
+6 hold 2 3 pair 5000
+6 add 2 3 0 0 00000003 0 0 7f000001 8000 8001
+0 touch 2 60002 60003
+> numbers
+entries 5 owed 4 rounds 3 next 7
+";
+
+#[test]
+fn a_setup_under_way_keeps_its_entries_in_a_full_journal(rt: HostRuntime) -> Result<(), Fail> {
+    converse_at_lock(&rt, &SHORT, UNDER_WAY)
+}
+
+const UNDER_WAY: &str = "> open 2 1 1 60000
+open 2 00000000000000000000000000000001 1 60000
+> rate 2 3
+hold 2 3 rate 80000
+> renew 2 60001 6
+renewed 5
+> finish
+> journal
+0 open 2 00000000000000000000000000000001 1 60000
+0 hold 2 3 rate 80000
+0 touch 2 60000 60001
+0 touch 2 60001 60002
+0 touch 2 60002 60003
+0 touch 2 60003 60004
+0 touch 2 60004 60005
+> numbers
+entries 7 owed 2 rounds 1 next 4
+";
+
+// Room for a session with a stream, and what it is owed.
+const EXACTLY: Whole = Whole {
+    journal: 8,
+    ..SMALL
+};
+
+#[test]
+fn no_room_is_made_where_there_is_none_to_make(rt: HostRuntime) -> Result<(), Fail> {
+    converse_at_lock(&rt, &EXACTLY, NONE_TO_MAKE)
+}
+
+const NONE_TO_MAKE: &str = "> open 2 1 1 60000
+open 2 00000000000000000000000000000001 1 60000
+> rate 2 3
+hold 2 3 rate 80000
+> pair 2 3
+hold 2 3 pair 5000
+> commit 2 3 0 8000 8001
+add 2 3 0 0 00000003 0 0 7f000001 8000 8001
+> checkpoint
+> touch 2 60001
+JournalFull
+> finish
+> journal
+2 open 2 00000000000000000000000000000001 1 60000
+2 hold 2 3 rate 80000
+2 hold 2 3 pair 5000
+2 add 2 3 0 0 00000003 0 0 7f000001 8000 8001
+> numbers
+entries 4 owed 4 rounds 1 next 3
+";
 
 #[test]
 fn the_only_seat_makes_no_checkpoint_unasked(rt: HostRuntime) -> Result<(), Fail> {
     let (lock, mut seat) = open(rt.alloc(), &SHORT)?;
-    seat.act(&rt, &lock, &step(Asked::Open(2, 1)))?;
-    assert!(rt;
-        renew(&rt, &lock, &mut seat, 60_001, 7) && !renew(&rt, &lock, &mut seat, 70_000, 1)
-    );
+    if let Some(opening) = step_of(&read_line("open 2 1 1 60000")) {
+        seat.act(&rt, &lock, &opening)?;
+    }
+    let times = renewed(&rt, &lock, &mut seat, [2, 60_001, 8, 0, 0]);
     let kept = seat.finish(&rt, lock);
-    assert!(rt; kept.journal().len() == 8 && kept.rounds() == 0 && kept.next_number() == 1);
-    Ok(())
-}
-
-#[test]
-fn no_room_is_made_where_there_is_none_to_make(rt: HostRuntime) -> Result<(), Fail> {
-    let exactly = Whole {
-        journal: 8,
-        ..SMALL
-    };
-    let (lock, mut acts) = open(rt.alloc(), &exactly)?;
-    let mut checks = acts.split(&rt, &lock)?;
-    settle(&rt, &lock, &mut acts, &mut checks)?;
-    assert!(rt; !renew(&rt, &lock, &mut acts, 60_001, 1));
-    let kept = acts.finish(&rt, lock);
-    assert!(rt; kept.journal().len() == 4 && kept.rounds() == 1 && kept.next_number() == 3);
-    Ok(())
-}
-
-#[test]
-fn a_setup_under_way_keeps_its_entries_in_a_full_journal(rt: HostRuntime) -> Result<(), Fail> {
-    let (lock, mut acts) = open(rt.alloc(), &SHORT)?;
-    let checks = acts.split(&rt, &lock)?;
-    drop(checks);
-    acts.act(&rt, &lock, &step(Asked::Open(2, 1)))?;
-    acts.act(&rt, &lock, &step(Asked::Rate(2, 3)))?;
-    assert!(rt;
-        renew(&rt, &lock, &mut acts, 60_001, 5) && !renew(&rt, &lock, &mut acts, 70_000, 1)
-    );
-    let kept = acts.finish(&rt, lock);
-    assert!(rt; kept.journal().len() == 7 && uses_by(0, 3, kept.journal()) == 1);
-    assert!(rt; kept.rounds() == 1 && kept.next_number() == 4);
+    assert!(rt; times == 7 && kept.journal().len() == 8 && kept.rounds() == 0);
     Ok(())
 }

@@ -5,6 +5,8 @@
 #[cfg(test)]
 mod admissions;
 #[cfg(test)]
+mod answers;
+#[cfg(test)]
 mod books;
 #[cfg(test)]
 mod checkpoints;
@@ -17,20 +19,26 @@ mod full_journals;
 #[cfg(test)]
 mod journals;
 #[cfg(test)]
+mod kept_books;
+#[cfg(test)]
+mod lines;
+#[cfg(test)]
 mod locks;
 #[cfg(test)]
-mod pools;
+mod other_seat;
 #[cfg(test)]
-mod port_admissions;
-#[cfg(test)]
-mod records;
+mod seats;
 #[cfg(test)]
 mod single_ports;
 #[cfg(test)]
+mod steps;
+#[cfg(test)]
 mod sweeps;
 #[cfg(test)]
-mod two_books;
+mod texts;
 #[cfg(test)]
-mod two_tables;
+mod threads;
+#[cfg(test)]
+mod two_books;
 #[cfg(test)]
 mod world;
