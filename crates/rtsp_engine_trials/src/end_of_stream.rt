@@ -3,14 +3,13 @@
 ghost use Rattle.std.specs.Prelude.{IsTrue};
 ghost use Rattle.rtsp_state.specs.Notify.{IsEnded};
 
-use crate::world::{sessions, tone};
+use crate::sessions::{example, sessions};
 use rtsp_book::{BookRep, SessionView};
 use rtsp_content::Table;
 use rtsp_grammar::write_request;
 use rtsp_record::Phase;
 use rtsp_state::*;
 use std::alloc::Global;
-use std::process::Abort;
 use std::test::Fail;
 
 const NOTIFY: &str = "PLAY_NOTIFY rtsp://h/tone RTSP/2.0\r\n\
@@ -27,32 +26,26 @@ fn is_ended(view: &SessionView) -> bool
     matches!(view.phase(), Phase::Ended { .. })
 }
 
-// What is sent to the session that is Ended.
-fn notified(alloc: Global, table: &Table, view: &SessionView) -> Result<Vec<u8>, Fail>
-    requires { IsEnded view.now.1.phase }
-{
+// What is sent to a session that is Ended; nothing to another.
+fn notified(alloc: Global, table: &Table, view: &SessionView) -> Result<Vec<u8>, Fail> {
     let mut text = Vec::new(alloc);
     let uri = MediaUri::read(alloc, b"rtsp://h/tone")?;
     if let (Some(uri), Some(presentation)) = (&uri, table.presentation(0)) {
-        let request = notify(alloc, uri, view, presentation, 1, 2)?;
-        write_request(&mut text, &request)?;
+        if is_ended(view) {
+            let request = notify(alloc, uri, view, presentation, 1, 2)?;
+            write_request(&mut text, &request)?;
+        }
     }
     Ok(text)
 }
 
 #[test]
 fn an_ended_play_is_reported(rt: HostRuntime) -> Result<(), Fail> {
-    let table = tone(&rt)?;
-    let kept = sessions(rt.alloc())?;
-    let view = kept.book().session(4);
-    assert!(rt; matches!(&view, Some(view) if is_ended(view)));
-    if let Some(view) = &view {
-        if is_ended(view) {
-            let text = notified(rt.alloc(), &table, view)?;
-            let text = std::str::from_utf8(text.as_slice())?;
-            assert!(rt; text == NOTIFY);
-        }
-    }
-    assert!(rt; MediaUri::read(rt.alloc(), b"tone")?.is_none());
+    let table = example(rt.alloc())?;
+    let Some(view) = sessions(rt.alloc())?.session(4) else {
+        panic!(rt; "it is open")
+    };
+    let text = notified(rt.alloc(), &table, &view)?;
+    assert!(rt; std::str::from_utf8(text.as_slice())? == NOTIFY);
     Ok(())
 }
