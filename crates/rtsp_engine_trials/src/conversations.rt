@@ -1,10 +1,11 @@
 //! Conversations: a response of each kind, and what devices that fail and a full journal change.
 
 use crate::devices::{Drawing, Noting, Ports, Ticking};
-use crate::server::{SERVER, Server, as_sent, converse};
+use crate::server::{SERVER, Server, Talk, as_sent, converse};
 use rtsp_devices::NoShares;
 use rtsp_engine::law_served_grows;
 use rtsp_record::Phase;
+use std::alloc::{AllocError, Global};
 use std::test::Fail;
 
 const REQUESTS: &str = "\
@@ -168,11 +169,16 @@ CSeq: 16
 
 ";
 
+// Whether these are the responses of a conversation.
+fn is_said(alloc: Global, talk: &Talk, responses: &str) -> Result<bool, AllocError> {
+    let expected = as_sent(alloc, responses)?;
+    Ok(talk.said.as_slice() == expected.as_bytes())
+}
+
 #[test]
 fn a_response_of_each_kind(rt: HostRuntime) -> Result<(), Fail> {
-    let said = converse(&rt, SERVER, None, REQUESTS)?.said;
-    let expected = as_sent(rt.alloc(), RESPONSES)?;
-    assert!(rt; std::str::from_utf8(said.as_slice())? == expected.as_str());
+    let talk = converse(&rt, SERVER, None, REQUESTS)?;
+    assert!(rt; is_said(rt.alloc(), &talk, RESPONSES)?);
     Ok(())
 }
 
@@ -281,8 +287,7 @@ Session: 00000000000000000000000000000001
 fn a_play_is_not_begun_where_something_fails(rt: HostRuntime) -> Result<(), Fail> {
     for (server, expected) in FAILING {
         let talk = converse(&rt, server, None, SETUP_AND_PLAY)?;
-        let expected = as_sent(rt.alloc(), expected)?;
-        assert!(rt; std::str::from_utf8(talk.said.as_slice())? == expected.as_str());
+        assert!(rt; is_said(rt.alloc(), &talk, expected)?, "{expected}");
         assert!(rt; talk.plays.settled.is_none(), "{expected}");
     }
     Ok(())

@@ -6,15 +6,9 @@ use std::cell::Cell;
 use std::sync::Wait;
 use std::test::Fail;
 
-const STRICT: Server = Server {
-    lines: "players = \"strict\"",
-    ..SERVER
-};
+const STRICT: &str = "players = \"strict\"";
 
-const GSTREAMER: Server = Server {
-    lines: "players = \"gstreamer\"",
-    ..SERVER
-};
+const GSTREAMER: &str = "players = \"gstreamer\"";
 
 // Two tracks of one session and a PLAY, as GStreamer sends them over UDP before the first answer.
 // Its number is the same in all of them; here the second is another, and the same modulo 10^8.
@@ -81,15 +75,18 @@ RTP-Info: url=\"rtsp://h/tone/a\" ssrc=00000001:seq=2;rtptime=3,url=\"rtsp://h/t
 
 const REFUSED: &str = "RTSP/2.0 400 Bad Request\nCSeq: 1\n\n";
 
-// Whether the answers to requests begin so.
+// Whether the answers to requests by such players begin so.
 fn begin<R: AllocGlobal + Wait>(
     rt: &R,
-    server: Server,
+    lines: &'static str,
     requests: &str,
     answers: &str,
 ) -> Result<bool, Fail> {
-    let said = converse(rt, server, None, requests)?.said;
-    Ok(said.starts_with(as_sent(rt.alloc(), answers)?.as_bytes()))
+    let talk = converse(rt, Server { lines, ..SERVER }, None, requests)?;
+    Ok(
+        talk.said
+            .starts_with(as_sent(rt.alloc(), answers)?.as_bytes()),
+    )
 }
 
 #[test]
@@ -127,17 +124,19 @@ const UNREPAIRED: [(&str, &str); 5] = [
     ),
 ];
 
+// Whether the answer to a SETUP with these lines begins so for any players.
+fn begins_alike<R: AllocGlobal + Wait>(rt: &R, lines: &str, answer: &str) -> Result<bool, Fail> {
+    let requests = format!(in rt.alloc(); "SETUP rtsp://h/tone/a RTSP/2.0\nCSeq: 1\n{lines}\n\n")?;
+    Ok(
+        begin(rt, STRICT, requests.as_str(), answer)?
+            && begin(rt, GSTREAMER, requests.as_str(), answer)?,
+    )
+}
+
 #[test]
 fn what_isn_t_repaired_is_answered_alike(rt: HostRuntime) -> Result<(), Fail> {
     for (lines, answer) in UNREPAIRED {
-        let requests = format!(in rt.alloc();
-            "SETUP rtsp://h/tone/a RTSP/2.0\nCSeq: 1\n{lines}\n\n"
-        )?;
-        assert!(rt; begin(&rt, STRICT, requests.as_str(), answer)?, "{lines}");
-        assert!(rt;
-            begin(&rt, GSTREAMER, requests.as_str(), answer)?,
-            "{lines}"
-        );
+        assert!(rt; begins_alike(&rt, lines, answer)?, "{lines}");
     }
     Ok(())
 }
@@ -156,25 +155,25 @@ Transport: RTP/AVP;unicast;client_port=40352-40353
 
 ";
 
-// What a watcher sees of that last. The session's first eight digits are zeros.
-const SEEN: [(Server, Seen); 2] = [
-    (STRICT, (3, 400, None, 5 + 15)),
-    (GSTREAMER, (3, 200, Some(0), 5 + 15)),
-];
+// Whether the answers to that are the same where they are watched, and this is seen.
+fn is_watched<R: AllocGlobal + Wait>(
+    rt: &R,
+    lines: &'static str,
+    seen: Seen,
+) -> Result<bool, Fail> {
+    let server = Server { lines, ..SERVER };
+    let watcher = Watcher {
+        seen: Cell::new((0, 0, None, 0)),
+    };
+    let watched = converse(rt, server, Some(&watcher), WATCHED)?.said;
+    let alone = converse(rt, server, None, WATCHED)?.said;
+    Ok(watched == alone && watcher.seen.get() == seen)
+}
 
+// The session's first eight digits are zeros.
 #[test]
 fn who_is_watched_is_answered_alike(rt: HostRuntime) -> Result<(), Fail> {
-    for (server, seen) in SEEN {
-        let watcher = Watcher {
-            seen: Cell::new((0, 0, None, 0)),
-        };
-        let watched = converse(&rt, server, Some(&watcher), WATCHED)?.said;
-        let alone = converse(&rt, server, None, WATCHED)?.said;
-        assert!(rt;
-            watched == alone && watcher.seen.get() == seen,
-            "{}",
-            server.lines
-        );
-    }
+    assert!(rt; is_watched(&rt, STRICT, (3, 400, None, 5 + 15))?);
+    assert!(rt; is_watched(&rt, GSTREAMER, (3, 200, Some(0), 5 + 15))?);
     Ok(())
 }

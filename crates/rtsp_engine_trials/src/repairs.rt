@@ -4,7 +4,7 @@ use crate::rows::cut;
 use rtsp_dialect::{
     law_repaired_is_within, law_repairs_to_itself, law_rest_stays, law_says_the_same, repair,
 };
-use rtsp_grammar::{Item, read_item, write_request};
+use rtsp_grammar::{Item, MessageFault, read_item, write_request};
 use std::alloc::{AllocError, Global};
 use std::test::Fail;
 
@@ -16,15 +16,31 @@ fn setup(alloc: Global, lines: &str) -> Result<String, AllocError> {
     )
 }
 
-// What a request is repaired to; nothing where it stays.
-fn repaired(alloc: Global, text: &str) -> Result<Vec<u8>, Fail> {
+// Writes what a request is repaired to; nothing where it stays.
+fn write_repaired(out: &mut Vec<u8>, alloc: Global, item: &Item) -> Result<(), AllocError> {
+    let Item::Request(request) = item else {
+        return Ok(());
+    };
+    match repair(alloc, request)? {
+        Some(request) => write_request(out, &request),
+        None => Ok(()),
+    }
+}
+
+// The same of a request that is read.
+fn repaired(alloc: Global, text: &str) -> Result<Vec<u8>, MessageFault> {
     let mut out = Vec::new(alloc);
-    if let Some((Item::Request(request), _)) = read_item(alloc, text.as_bytes())? {
-        if let Some(request) = repair(alloc, &request)? {
-            write_request(&mut out, &request)?;
-        }
+    match read_item(alloc, text.as_bytes())? {
+        Some((item, _)) => write_repaired(&mut out, alloc, &item)?,
+        None => {}
     }
     Ok(out)
+}
+
+// The same of a SETUP with these lines.
+fn setup_repaired(alloc: Global, lines: &str) -> Result<Vec<u8>, MessageFault> {
+    let text = setup(alloc, lines)?;
+    repaired(alloc, text.as_str())
 }
 
 // Numbers and specifications within RFC 7826, and those that can't be repaired.
@@ -58,8 +74,7 @@ Transport: RTP/AVP;unicast;x=\"client_port=8000-8001;client_port=8000-8001\"
 #[test]
 fn what_is_within_the_grammar_or_unclear_stays(rt: HostRuntime) -> Result<(), Fail> {
     for lines in STAY.lines() {
-        let text = setup(rt.alloc(), lines)?;
-        assert!(rt; repaired(rt.alloc(), text.as_str())?.is_empty(), "{lines}");
+        assert!(rt; setup_repaired(rt.alloc(), lines)?.is_empty(), "{lines}");
     }
     Ok(())
 }
@@ -83,19 +98,21 @@ Transport: RTP/AVP;x=\"a,b;client_port=1-2\";client_port=8000-8001 | Transport: 
 Transport: RTP/AVP;client_port=1-2 & Pipelined-Requests: 123456789 & Transport: RTP/AVP | Transport: RTP/AVP;dest_addr=\":1\"/\":2\" & Pipelined-Requests: 23456789 & Transport: RTP/AVP
 ";
 
+// Whether lines are repaired as a row says, and then stay.
+fn are_repaired(alloc: Global, row: &str) -> Result<bool, MessageFault> {
+    let row = row.replace(alloc, " & ", "\r\n")?;
+    let (before, after) = cut(row.as_str());
+    let expected = setup(alloc, after)?;
+    Ok(
+        setup_repaired(alloc, before)?.as_slice() == expected.as_bytes()
+            && setup_repaired(alloc, after)?.is_empty(),
+    )
+}
+
 #[test]
 fn what_players_write_is_repaired(rt: HostRuntime) -> Result<(), Fail> {
     for row in CHANGE.lines() {
-        let row = row.replace(rt.alloc(), " & ", "\r\n")?;
-        let (before, after) = cut(row.as_str());
-        let text = setup(rt.alloc(), before)?;
-        let expected = setup(rt.alloc(), after)?;
-        let found = repaired(rt.alloc(), text.as_str())?;
-        assert!(rt; found.as_slice() == expected.as_bytes(), "{before}");
-        assert!(rt;
-            repaired(rt.alloc(), expected.as_str())?.is_empty(),
-            "{after}"
-        );
+        assert!(rt; are_repaired(rt.alloc(), row)?, "{row}");
     }
     Ok(())
 }
@@ -107,13 +124,17 @@ const REQUESTS: [&str; 3] = [
     "GET_PARAMETER rtsp://h/ RTSP/2.0",
 ];
 
+// Whether the long number in a request that begins so is repaired.
+fn is_repaired_after(alloc: Global, line: &str) -> Result<bool, MessageFault> {
+    let text = format!(in alloc; "{line}\r\nPipelined-Requests: 123456789\r\n\r\n")?;
+    let expected = format!(in alloc; "{line}\r\nPipelined-Requests: 23456789\r\n\r\n")?;
+    Ok(repaired(alloc, text.as_str())?.as_slice() == expected.as_bytes())
+}
+
 #[test]
 fn each_method_and_version_stays(rt: HostRuntime) -> Result<(), Fail> {
     for line in REQUESTS {
-        let text = format!(in rt.alloc(); "{line}\r\nPipelined-Requests: 123456789\r\n\r\n")?;
-        let expected = format!(in rt.alloc(); "{line}\r\nPipelined-Requests: 23456789\r\n\r\n")?;
-        let found = repaired(rt.alloc(), text.as_str())?;
-        assert!(rt; found.as_slice() == expected.as_bytes(), "{line}");
+        assert!(rt; is_repaired_after(rt.alloc(), line)?, "{line}");
     }
     Ok(())
 }

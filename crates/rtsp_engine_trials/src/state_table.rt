@@ -4,7 +4,7 @@ use crate::rows::cut;
 use crate::sessions::{example, sessions};
 use rtsp_book::{BookRep, PlainBook, SessionView};
 use rtsp_content::Table;
-use rtsp_grammar::{Item, Request, read_item};
+use rtsp_grammar::{Item, MessageFault, read_item};
 use rtsp_state::{
     Plan, Screen, decide, law_allowed_is_valid, law_answers_in_order, law_answers_refusal,
     law_reads_once, law_renews_in_steps, law_shows_allowed, law_shows_session, screen,
@@ -69,10 +69,13 @@ fn is_status(cell: &str, status: u16) -> bool {
 fn is_cell(
     alloc: Global,
     table: &Table,
-    request: &Request,
+    item: &Item,
     view: Option<&SessionView>,
     cell: &str,
 ) -> Result<bool, AllocError> {
+    let Item::Request(request) = item else {
+        return Ok(false);
+    };
     match screen(alloc, request, table)? {
         Screen::Answered(reply) => Ok(is_status(cell, reply.status())),
         Screen::Asks(parsed) => match decide(alloc, parsed, view, table, LOCALHOST, 0)? {
@@ -90,10 +93,10 @@ fn comes_to(
     text: &str,
     view: Option<&SessionView>,
     cell: &str,
-) -> Result<bool, Fail> {
+) -> Result<bool, MessageFault> {
     match read_item(alloc, text.as_bytes())? {
-        Some((Item::Request(request), _)) => Ok(is_cell(alloc, table, &request, view, cell)?),
-        _ => Ok(false),
+        Some((item, _)) => Ok(is_cell(alloc, table, &item, view, cell)?),
+        None => Ok(false),
     }
 }
 
