@@ -3,14 +3,13 @@
 ghost use Rattle.std.specs.Prelude.{IsTrue};
 ghost use Rattle.rtsp_state.specs.Notify.{IsEnded};
 
-use crate::world::{sessions, tone};
+use crate::sessions::{example, sessions};
 use rtsp_book::{BookRep, SessionView};
-use rtsp_content::Table;
+use rtsp_content::{Presentation, Table};
 use rtsp_grammar::write_request;
 use rtsp_record::Phase;
 use rtsp_state::*;
-use std::alloc::Global;
-use std::process::Abort;
+use std::alloc::{AllocError, Global};
 use std::test::Fail;
 
 const NOTIFY: &str = "PLAY_NOTIFY rtsp://h/tone RTSP/2.0\r\n\
@@ -27,32 +26,39 @@ fn is_ended(view: &SessionView) -> bool
     matches!(view.phase(), Phase::Ended { .. })
 }
 
-// What is sent to the session that is Ended.
-fn notified(alloc: Global, table: &Table, view: &SessionView) -> Result<Vec<u8>, Fail>
+// What is sent to a session that is Ended.
+fn written(
+    alloc: Global,
+    uri: &MediaUri,
+    view: &SessionView,
+    presentation: &Presentation,
+) -> Result<Vec<u8>, AllocError>
     requires { IsEnded view.now.1.phase }
 {
     let mut text = Vec::new(alloc);
-    let uri = MediaUri::read(alloc, b"rtsp://h/tone")?;
-    if let (Some(uri), Some(presentation)) = (&uri, table.presentation(0)) {
-        let request = notify(alloc, uri, view, presentation, 1, 2)?;
-        write_request(&mut text, &request)?;
-    }
+    let request = notify(alloc, uri, view, presentation, 1, 2)?;
+    write_request(&mut text, &request)?;
     Ok(text)
+}
+
+// What is sent to a session; nothing where it isn't Ended.
+fn notified(alloc: Global, table: &Table, view: &SessionView) -> Result<Vec<u8>, AllocError> {
+    let uri = MediaUri::read(alloc, b"rtsp://h/tone")?;
+    match (&uri, table.presentation(0)) {
+        (Some(uri), Some(presentation)) if is_ended(view) => {
+            written(alloc, uri, view, presentation)
+        }
+        _ => Ok(Vec::new(alloc)),
+    }
 }
 
 #[test]
 fn an_ended_play_is_reported(rt: HostRuntime) -> Result<(), Fail> {
-    let table = tone(&rt)?;
-    let kept = sessions(rt.alloc())?;
-    let view = kept.book().session(4);
-    assert!(rt; matches!(&view, Some(view) if is_ended(view)));
-    if let Some(view) = &view {
-        if is_ended(view) {
-            let text = notified(rt.alloc(), &table, view)?;
-            let text = std::str::from_utf8(text.as_slice())?;
-            assert!(rt; text == NOTIFY);
-        }
-    }
-    assert!(rt; MediaUri::read(rt.alloc(), b"tone")?.is_none());
+    let table = example(rt.alloc())?;
+    let Some(view) = sessions(rt.alloc())?.session(4) else {
+        panic!(rt; "it is open")
+    };
+    let text = notified(rt.alloc(), &table, &view)?;
+    assert!(rt; text.as_slice() == NOTIFY.as_bytes());
     Ok(())
 }

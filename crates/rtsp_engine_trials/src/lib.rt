@@ -4,22 +4,20 @@
 #![tactic(auto)]
 
 #[cfg(test)]
-mod answers;
+mod conversations;
 #[cfg(test)]
-mod connections;
-#[cfg(test)]
-mod desk;
+mod devices;
 #[cfg(test)]
 mod end_of_stream;
 #[cfg(test)]
+mod players;
+#[cfg(test)]
 mod repairs;
 #[cfg(test)]
-mod responses;
+mod rows;
 #[cfg(test)]
-mod spoken;
+mod server;
+#[cfg(test)]
+mod sessions;
 #[cfg(test)]
 mod state_table;
-#[cfg(test)]
-mod watched;
-#[cfg(test)]
-mod world;

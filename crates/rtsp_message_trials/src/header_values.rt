@@ -1,227 +1,207 @@
+//! Values of headers: what is read of them, which transport is picked, and what is written.
+
+use crate::rows::cut;
 use rtsp_text::Text;
 use rtsp_transport::{
-    ChannelPair, Granted, Parameter, Pick, Spec, TextFault, is_known, pick, read_cseq,
-    read_session, read_startup, read_tags, read_transports, session_id, write_session_id,
-    write_ssrc, write_transport,
+    ChannelPair, Granted, Pick, Spec, TextFault, is_known, pick, read_cseq, read_session,
+    read_startup, read_tags, read_transports, session_id, write_session_id, write_ssrc,
+    write_transport,
 };
 use std::alloc::{AllocError, Global};
-use std::process::Abort;
 use std::test::Fail;
 
 const LOCALHOST: u32 = 0x7f00_0001;
 
-fn picked(alloc: Global, text: &[u8]) -> Result<Pick, TextFault> {
-    Ok(pick(&read_transports(alloc, text)?, LOCALHOST))
+// What is picked of the transports in a header.
+fn picked(alloc: Global, text: &str) -> &'static str {
+    let specs = match read_transports(alloc, text.as_bytes()) {
+        Ok(specs) => specs,
+        Err(TextFault::Malformed) => return "malformed",
+        Err(TextFault::OutOfMemory) => return "out of memory",
+    };
+    match pick(&specs, LOCALHOST) {
+        Pick::Udp {
+            rtp_port: 8000,
+            rtcp_port: 8001,
+        } => "8000 and 8001",
+        Pick::Mux { port: 8000 } => "8000 for both",
+        Pick::Inter { wish: None } => "any channels",
+        Pick::Inter { wish: Some(pair) } if pair.rtp() == 2 => "channels 2 and 3",
+        Pick::Prohibited => "prohibited",
+        Pick::Unsupported => "unsupported",
+        _ => "something else",
+    }
 }
 
-const UDP: Pick = Pick::Udp {
-    rtp_port: 8000,
-    rtcp_port: 8001,
-};
-
-// The first of them that can be served, or why none can.
-const FIRST_USABLE: [(&str, Pick); 6] = [
-    ("RTP/AVP/TCP;interleaved=1-2", Pick::Inter { wish: None }),
-    ("RTP/AVP;unicast;dest_addr=\":8000\"/\":8001\"", UDP),
-    (
-        "rtp/avp/udp ; mode=\"play\";dest_addr=\"127.0.0.1:8000\"/\":8001\"",
-        UDP,
-    ),
-    (
-        "RTP/AVP;dest_addr=\"192.0.2.9:8000\"/\"192.0.2.9:8001\"",
-        Pick::Prohibited,
-    ),
-    (
-        "RTP/AVP;dest_addr=\"[x]:8000\"/\":8001\"",
-        Pick::Unsupported,
-    ),
-    ("RTP/AVP/TCP;interleaved=0-1;mode=RECORD", Pick::Unsupported),
-];
+// The first transport of a header that can be served, or why none can: also for RTP and RTCP on one
+// port, and where that isn't one port, or is for something else.
+const PICKED: &str = "\
+any channels     | RTP/AVP/TCP;interleaved=1-2
+channels 2 and 3 | RTP/SAVP;unicast, RTP/AVP/TCP;interleaved=2-3
+8000 and 8001    | RTP/AVP;unicast;dest_addr=\":8000\"/\":8001\"
+8000 and 8001    | rtp/avp/udp ; mode=\"play\";dest_addr=\"127.0.0.1:8000\"/\":8001\"
+prohibited       | RTP/AVP;dest_addr=\"192.0.2.9:8000\"/\"192.0.2.9:8001\"
+unsupported      | RTP/AVP;dest_addr=\"[x]:8000\"/\":8001\"
+unsupported      | RTP/AVP/TCP;interleaved=0-1;mode=RECORD
+8000 for both    | RTP/AVP;unicast;dest_addr=\":8000\";RTCP-mux
+8000 for both    | rtp/avp/udp;rtcp-MUX;dest_addr=\"127.0.0.1:8000\"
+8000 for both    | RTP/AVP;RTCP-mux;dest_addr=\":8000\";RTCP-mux;interleaved=0-1
+8000 for both    | RTP/AVP;dest_addr=\":8000\"/\":8001\";RTCP-mux, RTP/AVP;dest_addr=\":8000\";RTCP-mux
+unsupported      | RTP/AVP;dest_addr=\":8000\"/\":8001\";RTCP-mux
+unsupported      | RTP/AVP;dest_addr=\":8000\"/\":8000\";RTCP-mux
+unsupported      | RTP/AVP;dest_addr=\":8000\"/;RTCP-mux
+unsupported      | RTP/AVP;dest_addr=:8000;RTCP-mux
+unsupported      | RTP/AVP;dest_addr=\":0\";RTCP-mux
+unsupported      | RTP/AVP;dest_addr=\":65536\";RTCP-mux
+unsupported      | RTP/AVP;dest_addr=\"[::1]:8000\";RTCP-mux
+unsupported      | RTP/AVP;dest_addr=\":8000\";RTCP-mux=1
+unsupported      | RTP/AVP;dest_addr=\":8000\";RTCP-mux;mode=RECORD
+unsupported      | RTP/AVP;RTCP-mux
+unsupported      | RTP/AVP;dest_addr=\":8000\"
+unsupported      | RTP/AVP;dest_addr=\"192.0.2.9:8000\"
+unsupported      | RTP/AVP/TCP;interleaved=0-1;RTCP-mux
+prohibited       | RTP/AVP;dest_addr=\"192.0.2.9:8000\";RTCP-mux
+8000 and 8001    | RTP/AVP/TCP;interleaved=0-1;RTCP-mux, RTP/AVP;dest_addr=\":8000\"/\":8001\"
+8000 and 8001    | RTP/AVP;dest_addr=\"192.0.2.9:8000\";RTCP-mux, RTP/AVP;dest_addr=\":8000\"/\":8001\"
+8000 and 8001    | RTP/AVP;dest_addr=\":8000\", RTP/AVP;dest_addr=\":8000\"/\":8001\"
+malformed        |
+malformed        | RTP/AVP,
+malformed        | RTP/AVP;;a
+malformed        | RTP/AVP;a=\"
+malformed        | a,a,a,a,a,a,a,a,a,a,a,a,a,a,a,a,a
+";
 
 #[test]
-fn first_usable_transport(rt: HostRuntime) -> Result<(), Fail> {
-    let wish = ChannelPair::new(2);
-    assert!(rt; matches!(wish, Some(pair) if pair.rtp() == 2) && ChannelPair::new(3).is_none());
-    let over_channels = ["RTP/SAVP;unicast, RTP/AVP/TCP;interleaved=2-3"];
-    come_to(&rt, rt.alloc(), &over_channels, Pick::Inter { wish })?;
-    for (text, expected) in FIRST_USABLE {
-        come_to(&rt, rt.alloc(), &[text], expected)?;
+fn transports_are_picked(rt: HostRuntime) {
+    for row in PICKED.lines() {
+        let (expected, text) = cut(row);
+        assert!(rt; picked(rt.alloc(), text) == expected, "{row}");
     }
-    Ok(())
+    assert!(rt; ChannelPair::new(2).is_some() && ChannelPair::new(3).is_none());
 }
-
-// What goes to one port, for RTP and RTCP both.
-const ON_ONE_PORT: [&str; 4] = [
-    "RTP/AVP;unicast;dest_addr=\":8000\";RTCP-mux",
-    "rtp/avp/udp;rtcp-MUX;dest_addr=\"127.0.0.1:8000\"",
-    "RTP/AVP;RTCP-mux;dest_addr=\":8000\";RTCP-mux;interleaved=0-1",
-    "RTP/AVP;dest_addr=\":8000\"/\":8001\";RTCP-mux, RTP/AVP;dest_addr=\":8000\";RTCP-mux",
-];
-
-// The first of them can't be served, the second can.
-const ON_TWO_PORTS: [&str; 3] = [
-    "RTP/AVP/TCP;interleaved=0-1;RTCP-mux, RTP/AVP;dest_addr=\":8000\"/\":8001\"",
-    "RTP/AVP;dest_addr=\"192.0.2.9:8000\";RTCP-mux, RTP/AVP;dest_addr=\":8000\"/\":8001\"",
-    "RTP/AVP;dest_addr=\":8000\", RTP/AVP;dest_addr=\":8000\"/\":8001\"",
-];
-
-// One port that isn't one, or that is for something else.
-const NO_ONE_PORT: [&str; 13] = [
-    "RTP/AVP;dest_addr=\":8000\"/\":8001\";RTCP-mux",
-    "RTP/AVP;dest_addr=\":8000\"/\":8000\";RTCP-mux",
-    "RTP/AVP;dest_addr=\":8000\"/;RTCP-mux",
-    "RTP/AVP;dest_addr=:8000;RTCP-mux",
-    "RTP/AVP;dest_addr=\":0\";RTCP-mux",
-    "RTP/AVP;dest_addr=\":65536\";RTCP-mux",
-    "RTP/AVP;dest_addr=\"[::1]:8000\";RTCP-mux",
-    "RTP/AVP;dest_addr=\":8000\";RTCP-mux=1",
-    "RTP/AVP;dest_addr=\":8000\";RTCP-mux;mode=RECORD",
-    "RTP/AVP;RTCP-mux",
-    "RTP/AVP;dest_addr=\":8000\"",
-    "RTP/AVP;dest_addr=\"192.0.2.9:8000\"",
-    "RTP/AVP/TCP;interleaved=0-1;RTCP-mux",
-];
-
-fn come_to(rt: &impl Abort, alloc: Global, texts: &[&str], expected: Pick) -> Result<(), Fail> {
-    for text in texts {
-        assert!(rt; picked(alloc, text.as_bytes())? == expected, "{text}");
-    }
-    Ok(())
-}
-
-#[test]
-fn transports_on_one_port(rt: HostRuntime) -> Result<(), Fail> {
-    let alloc = rt.alloc();
-    come_to(&rt, alloc, &ON_ONE_PORT, Pick::Mux { port: 8000 })?;
-    come_to(&rt, alloc, &ON_TWO_PORTS, UDP)?;
-    come_to(&rt, alloc, &NO_ONE_PORT, Pick::Unsupported)?;
-    let foreign = ["RTP/AVP;dest_addr=\"192.0.2.9:8000\";RTCP-mux"];
-    come_to(&rt, alloc, &foreign, Pick::Prohibited)
-}
-
-const NO_TREES: [&[u8]; 5] = [
-    b"",
-    b"RTP/AVP,",
-    b"RTP/AVP;;a",
-    b"RTP/AVP;a=\"",
-    b"a,a,a,a,a,a,a,a,a,a,a,a,a,a,a,a,a",
-];
 
 // Two transports, the first of which has two parameters.
 fn are_two(specs: &[Spec]) -> bool {
-    specs.len() == 2
-        && specs[0].protocol.as_bytes() == b"RTP/AVP".as_slice()
-        && are_two_parameters(specs[0].parameters.as_slice())
-}
-
-fn are_two_parameters(parameters: &[Parameter]) -> bool {
-    parameters.len() == 2
-        && parameters[1].name.as_bytes() == b"b".as_slice()
-        && parameters[1].value.is_none()
+    let [first, _] = specs else {
+        return false;
+    };
+    let [_, second] = first.parameters.as_slice() else {
+        return false;
+    };
+    first.protocol.as_bytes() == b"RTP/AVP".as_slice()
+        && second.name.as_bytes() == b"b".as_slice()
+        && second.value.is_none()
 }
 
 #[test]
 fn transports_as_trees(rt: HostRuntime) -> Result<(), Fail> {
     assert!(rt; are_two(&read_transports(rt.alloc(), b" RTP/AVP ; a=\";,\";b,X")?));
-    for text in NO_TREES {
-        let refused = read_transports(rt.alloc(), text).err();
-        assert!(rt; refused == Some(TextFault::Malformed));
-    }
     Ok(())
 }
 
-const OVER_UDP: Granted = Granted::Udp {
-    client_rtp: 8000,
-    client_rtcp: 8001,
-    server_rtp: 5000,
-    ssrc: 3,
-};
-
-const OVER_ONE_PORT: Granted = Granted::Mux {
-    client: 8000,
-    server: 5000,
-    ssrc: 1,
-};
-
-const OVER_CHANNELS: Granted = Granted::Inter {
-    channel: 0,
-    ssrc: 1,
-};
-
-// What players are told that were granted these, and an SSRC, each on a line.
-fn write_granted(out: &mut Vec<u8>) -> Result<(), AllocError> {
-    write_transport(out, &OVER_UDP)?;
-    out.push(b'\n')?;
-    write_transport(out, &OVER_ONE_PORT)?;
-    out.push(b'\n')?;
-    write_transport(out, &OVER_CHANNELS)?;
-    out.push(b'\n')?;
-    write_ssrc(out, 0xab)
-}
-
-#[test]
-fn transports_of_answers(rt: HostRuntime) -> Result<(), Fail> {
-    let mut out = Vec::new(rt.alloc());
-    write_granted(&mut out)?;
-    let expected =
-        b"RTP/AVP;unicast;dest_addr=\":8000\"/\":8001\";src_addr=\":5000\"/\":5001\";ssrc=00000003
-RTP/AVP;unicast;dest_addr=\":8000\";src_addr=\":5000\";RTCP-mux;ssrc=00000001
-RTP/AVP/TCP;unicast;interleaved=0-1;ssrc=00000001
-000000ab";
-    assert!(rt; out.as_slice() == expected.as_slice());
-    Ok(())
-}
-
-const ID_31: &[u8] = b"0000000000000000000000000000001f";
-
-const IDS: [(&[u8], Option<u128>); 3] = [
-    (ID_31, Some(31)),
-    (b"0000000000000000000000000000001F", None),
-    (b"1f", None),
+const GRANTED: [Granted; 3] = [
+    Granted::Udp {
+        client_rtp: 8000,
+        client_rtcp: 8001,
+        server_rtp: 5000,
+        ssrc: 3,
+    },
+    Granted::Mux {
+        client: 8000,
+        server: 5000,
+        ssrc: 1,
+    },
+    Granted::Inter {
+        channel: 0,
+        ssrc: 1,
+    },
 ];
 
-const NO_SESSIONS: [&[u8]; 3] = [b"a b", b"", b"abc ;timeout=9"];
+// What players are told that were granted these, each on a line, and then an SSRC and an id.
+const TOLD: &str =
+    "RTP/AVP;unicast;dest_addr=\":8000\"/\":8001\";src_addr=\":5000\"/\":5001\";ssrc=00000003
+RTP/AVP;unicast;dest_addr=\":8000\";src_addr=\":5000\";RTCP-mux;ssrc=00000001
+RTP/AVP/TCP;unicast;interleaved=0-1;ssrc=00000001
+000000ab
+0000000000000000000000000000001f";
 
-fn is_no_session(text: &[u8]) -> bool {
-    matches!(read_session(text), Err(TextFault::Malformed))
+fn tell(out: &mut Vec<u8>) -> Result<(), AllocError> {
+    for granted in &GRANTED {
+        write_transport(out, granted)?;
+        out.push(b'\n')?;
+    }
+    write_ssrc(out, 0xab)?;
+    out.push(b'\n')?;
+    write_session_id(out, 31)
 }
 
 #[test]
-fn sessions(rt: HostRuntime) -> Result<(), Fail> {
-    for (text, id) in IDS {
-        assert!(rt; session_id(text) == id);
-    }
-    for text in NO_SESSIONS {
-        assert!(rt; is_no_session(text));
-    }
-    assert!(rt; read_session(b"abc;timeout=9")? == b"abc".as_slice());
+fn what_answers_say(rt: HostRuntime) -> Result<(), Fail> {
     let mut out = Vec::new(rt.alloc());
-    write_session_id(&mut out, 31)?;
-    assert!(rt; out.as_slice() == ID_31);
+    tell(&mut out)?;
+    assert!(rt; out.as_slice() == TOLD.as_bytes());
     Ok(())
+}
+
+// Session headers, the name in each, if it has one, and the number of which that is the id.
+const SESSIONS: &str = "\
+0000000000000000000000000000001f;timeout=9 | 0000000000000000000000000000001f | 31
+0000000000000000000000000000001F           | 0000000000000000000000000000001F | none
+1f                                         | 1f                               | none
+a b                                        |                                  | none
+abc ;timeout=9                             |                                  | none
+                                           |                                  | none
+";
+
+fn name_in(text: &str) -> &[u8] {
+    match read_session(text.as_bytes()) {
+        Ok(name) => name,
+        Err(_) => b"",
+    }
+}
+
+fn number_of(name: &str) -> &'static str {
+    match session_id(name.as_bytes()) {
+        Some(31) => "31",
+        Some(_) => "another",
+        None => "none",
+    }
+}
+
+#[test]
+fn sessions(rt: HostRuntime) {
+    for row in SESSIONS.lines() {
+        let (text, values) = cut(row);
+        let (name, number) = cut(values);
+        assert!(rt;
+            name_in(text) == name.as_bytes() && number_of(name) == number,
+            "{row}"
+        );
+    }
 }
 
 #[test]
 fn numbers(rt: HostRuntime) {
-    assert!(rt; read_startup(b"00000007") == Ok(7));
-    assert!(rt; read_startup(b"123456789") == Err(TextFault::Malformed));
-    assert!(rt; read_cseq(b"123456789") == Ok(123_456_789));
-    assert!(rt; read_cseq(b"1234567890") == Err(TextFault::Malformed));
+    let startups = [read_startup(b"00000007"), read_startup(b"123456789")];
+    assert!(rt; startups == [Ok(7), Err(TextFault::Malformed)]);
+    let numbers = [read_cseq(b"123456789"), read_cseq(b"1234567890")];
+    assert!(rt; numbers == [Ok(123_456_789), Err(TextFault::Malformed)]);
 }
 
+// Three tags, of which the first is known.
 fn are_three(tags: &[Text]) -> bool {
-    tags.len() == 3
-        && tags[1].as_bytes() == b"x.y".as_slice()
-        && is_known(tags[0].as_bytes())
-        && !is_known(tags[1].as_bytes())
+    let [first, second, _] = tags else {
+        return false;
+    };
+    is_known(first.as_bytes())
+        && second.as_bytes() == b"x.y".as_slice()
+        && !is_known(second.as_bytes())
 }
 
 #[test]
 fn tags(rt: HostRuntime) -> Result<(), Fail> {
     assert!(rt; are_three(&read_tags(rt.alloc(), b"play.basic, x.y ,z")?));
-    assert!(rt; !is_known(b"Play.basic"));
-    assert!(rt; is_known(b"setup.rtp.rtcp.mux") && !is_known(b"setup.rtp.rtcp"));
-    let cut = read_tags(rt.alloc(), b"play.basic,").err();
-    assert!(rt; cut == Some(TextFault::Malformed));
+    assert!(rt; read_tags(rt.alloc(), b"play.basic,").err() == Some(TextFault::Malformed));
+    assert!(rt; is_known(b"setup.rtp.rtcp.mux") && !is_known(b"Play.basic"));
     Ok(())
 }

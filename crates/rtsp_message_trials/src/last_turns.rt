@@ -1,10 +1,8 @@
 //! What is still sent of a play that its session has left, at moments that are chosen.
 
-use crate::packets::{Keeps, failing_at, pacer_of, session};
+use crate::packets::{Keeps, ONE, failing_at, pacer_of};
 use rtsp_record::Phase;
 use rtsp_rtp::*;
-use std::alloc::Global;
-use std::process::Abort;
 use std::test::Fail;
 
 // Eight units of 20 ms, numbered across 2^32.
@@ -33,120 +31,108 @@ const PLAYED_AGAIN: Phase = Phase::Playing {
     sent: 2,
 };
 
+// More units are counted than were due when this play began.
+const SOUGHT_LATER: Phase = Phase::Playing {
+    since: 1_059,
+    from: 100,
+    stop: 500,
+    sent: 3,
+};
+
+const NEVER: usize = usize::MAX;
+
 // A moment, what a last turn comes to then, and how many packets are sent by then.
 type Turned = (u64, LastTurn, usize);
 
-// The phase in which the session is seen after its play, and the turns from then on.
-type Left = (Phase, [Turned; 2]);
+const NOT_LEFT: [Turned; 2] = [(5_000, LastTurn::NotLeft, 1), (5_000, LastTurn::NotLeft, 1)];
 
-const LEFT: [Left; 5] = [
+// The session and the phase in which it is seen after its play, the packet that can't be sent at
+// first, and the turns from then on.
+type Left = (u64, Phase, usize, [Turned; 2]);
+
+const LEFT: [Left; 14] = [
     (
+        2,
         PAUSED,
+        NEVER,
         [(1_045, LastTurn::Done, 3), (5_000, LastTurn::Done, 3)],
     ),
     (
+        2,
         PAUSED,
+        NEVER,
         [(1_039, LastTurn::More, 2), (1_040, LastTurn::Done, 3)],
     ),
     (
+        2,
         SOUGHT,
+        NEVER,
         [(1_020, LastTurn::More, 2), (1_046, LastTurn::Done, 3)],
     ),
     (
+        2,
         PLAYED_AGAIN,
+        NEVER,
         [(9_001, LastTurn::Done, 3), (9_002, LastTurn::Done, 3)],
     ),
     // It is paused behind its last unit.
     (
+        2,
         Phase::Ready { at: 15, sent: 7 },
+        NEVER,
         [(1_139, LastTurn::More, 7), (1_140, LastTurn::Done, 8)],
     ),
-];
-
-const OTHER: [Phase; 7] = [
+    // It goes on where it failed.
+    (
+        2,
+        PAUSED,
+        2,
+        [(1_045, LastTurn::SinkFailed, 2), (1_045, LastTurn::Done, 3)],
+    ),
+    (3, PAUSED, NEVER, NOT_LEFT),
     // A pause that counts nothing.
-    Phase::Ready {
-        at: 7,
-        sent: 4_294_967_295,
-    },
+    (
+        2,
+        Phase::Ready {
+            at: 7,
+            sent: 4_294_967_295,
+        },
+        NEVER,
+        NOT_LEFT,
+    ),
     // Two plays, of which the pacer saw one.
-    Phase::Ready { at: 101, sent: 3 },
+    (2, Phase::Ready { at: 101, sent: 3 }, NEVER, NOT_LEFT),
     // More than the play has.
-    Phase::Ready { at: 16, sent: 8 },
-    // More than was due when the other began.
-    Phase::Playing {
-        since: 1_059,
-        from: 100,
-        stop: 500,
-        sent: 3,
-    },
-    PLAYED,
-    Phase::Ended { at: 15, sent: 7 },
-    Phase::Ended { at: 10, sent: 2 },
+    (2, Phase::Ready { at: 16, sent: 8 }, NEVER, NOT_LEFT),
+    (2, SOUGHT_LATER, NEVER, NOT_LEFT),
+    (2, PLAYED, NEVER, NOT_LEFT),
+    (2, Phase::Ended { at: 15, sent: 7 }, NEVER, NOT_LEFT),
+    (2, Phase::Ended { at: 10, sent: 2 }, NEVER, NOT_LEFT),
 ];
 
-// A pacer of the play, whose first packet is sent.
-fn begun(rt: &impl Abort, alloc: Global, sink: &mut Keeps) -> Result<Pacer, Fail> {
-    let Some(view) = session(alloc, &[0], PLAYED)? else {
-        panic!(rt; "it is open")
-    };
-    let mut pacer = pacer_of(rt, alloc, &view)?;
-    let first = pacer.turn(2, PLAYED, 1_000, &mut Packet::new(), sink);
-    assert!(rt; first == Turn::More && sink.sent == 1);
-    Ok(pacer)
-}
-
-// Whether a last turn comes to what is wanted.
-fn is_turned(pacer: &mut Pacer, phase: Phase, sink: &mut Keeps, wanted: Turned) -> bool {
-    let (moment, comes_to, sent) = wanted;
-    let answer = pacer.last_turn(2, phase, moment, &mut Packet::new(), sink);
-    answer == comes_to && sink.sent == sent
+// Whether a play whose first packet is sent comes to its end so.
+fn is_left(pacer: &mut Pacer, sink: &mut Keeps, left: &Left) -> bool {
+    let (session, phase, _, turns) = *left;
+    let mut packet = Packet::new();
+    if pacer.turn(2, PLAYED, 1_000, &mut packet, sink) != Turn::More {
+        return false;
+    }
+    for (moment, turn, sent) in turns {
+        let comes_to = pacer.last_turn(session, phase, moment, &mut packet, sink);
+        if comes_to != turn || sink.sent != sent {
+            return false;
+        }
+    }
+    // The units from the seventh on are sent one by one.
+    sink.last_unit as usize == sink.sent.saturating_add(6)
 }
 
 #[test]
 fn a_last_turn_sends_what_was_counted(rt: HostRuntime) -> Result<(), Fail> {
-    for (phase, turns) in LEFT {
-        let mut sink = failing_at(usize::MAX);
-        let mut pacer = begun(&rt, rt.alloc(), &mut sink)?;
-        for (number, wanted) in turns.iter().enumerate() {
-            assert!(rt;
-                is_turned(&mut pacer, phase, &mut sink, *wanted),
-                "turn {number}"
-            );
-        }
-        assert!(rt; sink.last_unit as usize == sink.sent.saturating_add(6));
+    for (number, left) in LEFT.iter().enumerate() {
+        let mut pacer = pacer_of(&rt, rt.alloc(), ONE, PLAYED)?;
+        let mut sink = failing_at(left.2);
+        assert!(rt; is_left(&mut pacer, &mut sink, left), "row {number}");
     }
-    Ok(())
-}
-
-#[test]
-fn another_phase_has_no_last_turn(rt: HostRuntime) -> Result<(), Fail> {
-    for (number, phase) in OTHER.iter().enumerate() {
-        let mut sink = failing_at(usize::MAX);
-        let mut pacer = begun(&rt, rt.alloc(), &mut sink)?;
-        let none = (5_000, LastTurn::NotLeft, 1);
-        assert!(rt;
-            is_turned(&mut pacer, *phase, &mut sink, none),
-            "phase {number}"
-        );
-    }
-    Ok(())
-}
-
-#[test]
-fn a_last_turn_goes_on_where_it_failed(rt: HostRuntime) -> Result<(), Fail> {
-    let mut sink = failing_at(2);
-    let mut pacer = begun(&rt, rt.alloc(), &mut sink)?;
-    let other = pacer.last_turn(3, PAUSED, 1_045, &mut Packet::new(), &mut sink);
-    assert!(rt; other == LastTurn::NotLeft);
-    assert!(rt;
-        is_turned(
-            &mut pacer,
-            PAUSED,
-            &mut sink,
-            (1_045, LastTurn::SinkFailed, 2)
-        )
-    );
-    assert!(rt; is_turned(&mut pacer, PAUSED, &mut sink, (1_045, LastTurn::Done, 3)));
     Ok(())
 }

@@ -10,6 +10,8 @@ mod header_values;
 #[cfg(test)]
 mod last_turns;
 #[cfg(test)]
+mod limits;
+#[cfg(test)]
 mod messages;
 #[cfg(test)]
 mod normal_play_time;
@@ -17,5 +19,7 @@ mod normal_play_time;
 mod operations;
 #[cfg(test)]
 mod packets;
+#[cfg(test)]
+mod rows;
 #[cfg(test)]
 mod texts;

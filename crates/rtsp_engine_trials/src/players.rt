@@ -1,0 +1,179 @@
+//! What requests as GStreamer writes them are answered, and those that aren't repaired; and that it is
+//! the same where somebody watches.
+
+use crate::server::{SERVER, Seen, Server, Watcher, as_sent, converse};
+use std::cell::Cell;
+use std::sync::Wait;
+use std::test::Fail;
+
+const STRICT: &str = "players = \"strict\"";
+
+const GSTREAMER: &str = "players = \"gstreamer\"";
+
+// Two tracks of one session and a PLAY, as GStreamer sends them over UDP before the first answer.
+// Its number is the same in all of them; here the second is another, and the same modulo 10^8.
+const SPOKEN: &str = "\
+SETUP rtsp://h/tone/a RTSP/2.0
+CSeq: 1
+Pipelined-Requests: 1266004631
+Transport: RTP/AVP;unicast;client_port=40352-40353
+
+SETUP rtsp://h/tone/b RTSP/2.0
+CSeq: 2
+Pipelined-Requests: 2166004631
+Transport: RTP/AVP;unicast;client_port=40354-40355
+
+PLAY rtsp://h/tone/ RTSP/2.0
+CSeq: 3
+Pipelined-Requests: 1266004631
+
+";
+
+// The same in the terms of the RFC.
+const WITHIN: &str = "\
+SETUP rtsp://h/tone/a RTSP/2.0
+CSeq: 1
+Pipelined-Requests: 66004631
+Transport: RTP/AVP;unicast;dest_addr=\":40352\"/\":40353\"
+
+SETUP rtsp://h/tone/b RTSP/2.0
+CSeq: 2
+Pipelined-Requests: 66004631
+Transport: RTP/AVP;unicast;dest_addr=\":40354\"/\":40355\"
+
+PLAY rtsp://h/tone/ RTSP/2.0
+CSeq: 3
+Pipelined-Requests: 66004631
+
+";
+
+const ANSWERED: &str = "\
+RTSP/2.0 200 OK
+CSeq: 1
+Session: 00000000000000000000000000000001;timeout=60
+Transport: RTP/AVP;unicast;dest_addr=\":40352\"/\":40353\";src_addr=\":5000\"/\":5001\";ssrc=00000001
+Accept-Ranges: npt
+Media-Properties: Random-Access=0.020, Immutable, Unlimited
+Media-Range: npt=0.000-10.000
+
+RTSP/2.0 200 OK
+CSeq: 2
+Session: 00000000000000000000000000000001;timeout=60
+Transport: RTP/AVP;unicast;dest_addr=\":40354\"/\":40355\";src_addr=\":5002\"/\":5003\";ssrc=00000002
+Accept-Ranges: npt
+Media-Properties: Random-Access=0.020, Immutable, Unlimited
+Media-Range: npt=0.000-10.000
+
+RTSP/2.0 200 OK
+CSeq: 3
+Session: 00000000000000000000000000000001
+Range: npt=0.000-10.000
+Seek-Style: RAP
+RTP-Info: url=\"rtsp://h/tone/a\" ssrc=00000001:seq=2;rtptime=3,url=\"rtsp://h/tone/b\" ssrc=00000002:seq=2;rtptime=3
+
+";
+
+const REFUSED: &str = "RTSP/2.0 400 Bad Request\nCSeq: 1\n\n";
+
+// Whether the answers to requests by such players begin so.
+fn begin<R: AllocGlobal + Wait>(
+    rt: &R,
+    lines: &'static str,
+    requests: &str,
+    answers: &str,
+) -> Result<bool, Fail> {
+    let talk = converse(rt, Server { lines, ..SERVER }, None, requests)?;
+    Ok(
+        talk.said
+            .starts_with(as_sent(rt.alloc(), answers)?.as_bytes()),
+    )
+}
+
+#[test]
+fn spoken_requests_are_answered_as_repaired_ones(rt: HostRuntime) -> Result<(), Fail> {
+    assert!(rt; begin(&rt, STRICT, WITHIN, ANSWERED)?);
+    assert!(rt; begin(&rt, GSTREAMER, WITHIN, ANSWERED)?);
+    assert!(rt; begin(&rt, GSTREAMER, SPOKEN, ANSWERED)?);
+    assert!(rt; begin(&rt, STRICT, SPOKEN, REFUSED)?);
+    Ok(())
+}
+
+// Lines of a SETUP, and how its answer begins, repaired or not.
+const UNREPAIRED: [(&str, &str); 5] = [
+    (
+        "Pipelined-Requests: 12345678901\nTransport: RTP/AVP/TCP;interleaved=0-1",
+        REFUSED,
+    ),
+    (
+        "Pipelined-Requests: 1266004631\nPipelined-Requests: 1266004631\n\
+        Transport: RTP/AVP/TCP;interleaved=0-1",
+        REFUSED,
+    ),
+    (
+        "Transport: RTP/AVP;client_port=8000",
+        "RTSP/2.0 461 Unsupported Transport\nCSeq: 1\n\n",
+    ),
+    (
+        "Transport: RTP/AVP;client_port=8000-8001;client_port=8000-8001",
+        "RTSP/2.0 461 Unsupported Transport\nCSeq: 1\n\n",
+    ),
+    (
+        "Transport: RTP/AVP;client_port=8000-8001;dest_addr=\":9000\"/\":9001\"",
+        "RTSP/2.0 200 OK\nCSeq: 1\nSession: 00000000000000000000000000000001;timeout=60\n\
+        Transport: RTP/AVP;unicast;dest_addr=\":9000\"/\":9001\";",
+    ),
+];
+
+// Whether the answer to a SETUP with these lines begins so for any players.
+fn begins_alike<R: AllocGlobal + Wait>(rt: &R, lines: &str, answer: &str) -> Result<bool, Fail> {
+    let requests = format!(in rt.alloc(); "SETUP rtsp://h/tone/a RTSP/2.0\nCSeq: 1\n{lines}\n\n")?;
+    Ok(
+        begin(rt, STRICT, requests.as_str(), answer)?
+            && begin(rt, GSTREAMER, requests.as_str(), answer)?,
+    )
+}
+
+#[test]
+fn what_isn_t_repaired_is_answered_alike(rt: HostRuntime) -> Result<(), Fail> {
+    for (lines, answer) in UNREPAIRED {
+        assert!(rt; begins_alike(&rt, lines, answer)?, "{lines}");
+    }
+    Ok(())
+}
+
+const WATCHED: &str = "\
+OPTIONS * RTSP/2.0
+CSeq: 1
+
+DESCRIBE rtsp://h/tone RTSP/2.0
+CSeq: 2
+
+SETUP rtsp://h/tone/a RTSP/2.0
+CSeq: 3
+Pipelined-Requests: 1266004631
+Transport: RTP/AVP;unicast;client_port=40352-40353
+
+";
+
+// Whether the answers to that are the same where they are watched, and this is seen.
+fn is_watched<R: AllocGlobal + Wait>(
+    rt: &R,
+    lines: &'static str,
+    seen: Seen,
+) -> Result<bool, Fail> {
+    let server = Server { lines, ..SERVER };
+    let watcher = Watcher {
+        seen: Cell::new((0, 0, None, 0)),
+    };
+    let watched = converse(rt, server, Some(&watcher), WATCHED)?.said;
+    let alone = converse(rt, server, None, WATCHED)?.said;
+    Ok(watched == alone && watcher.seen.get() == seen)
+}
+
+// The session's first eight digits are zeros.
+#[test]
+fn who_is_watched_is_answered_alike(rt: HostRuntime) -> Result<(), Fail> {
+    assert!(rt; is_watched(&rt, STRICT, (3, 400, None, 5 + 15))?);
+    assert!(rt; is_watched(&rt, GSTREAMER, (3, 200, Some(0), 5 + 15))?);
+    Ok(())
+}

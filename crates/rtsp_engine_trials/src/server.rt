@@ -1,0 +1,268 @@
+//! A server in these tests, and what it answers to the requests of a connection.
+
+ghost use Rattle.rtsp_lock.specs.Calls.{IsSeatOf, SameSeat};
+
+use crate::devices::{Drawing, Noting, Ports, Ticking};
+use rtsp_content::Table;
+use rtsp_devices::NoShares;
+use rtsp_engine::{Asker, Connection, fault_response};
+use rtsp_grammar::MessageFault;
+use rtsp_lock::{BookLock, BookSeat, open};
+use rtsp_record::{Entry, Record, Whole};
+use rtsp_state::Room;
+use rtsp_watch::{Told, Witness};
+use std::alloc::{AllocError, Global};
+use std::cell::Cell;
+use std::sync::Wait;
+use std::test::Fail;
+
+/// Further lines of the configuration, how long the journal may be, and which devices work.
+#[derive(Clone, Copy)]
+pub(crate) struct Server {
+    pub(crate) lines: &'static str,
+    pub(crate) journal: u32,
+    pub(crate) ports: bool,
+    pub(crate) words: bool,
+    pub(crate) plays: bool,
+}
+
+/// A server on which all works.
+pub(crate) const SERVER: Server = Server {
+    lines: "",
+    journal: 1_000,
+    ports: true,
+    words: true,
+    plays: true,
+};
+
+// What follows the further lines.
+const CONFIGURATION: &str = "\
+first_port = 5000
+pairs = 2
+uplink = 160000
+sessions = 4
+[[presentation]]
+name = \"tone\"
+units = 500
+unit_ms = 20
+[[presentation.track]]
+name = \"a\"
+media = \"audio\"
+pt = 0
+encoding = \"PCMU\"
+clock = 8000
+octets = 160
+ticks = 160
+file = \"tone-a.raw\"
+[[presentation.track]]
+name = \"b\"
+media = \"audio\"
+pt = 8
+encoding = \"PCMA\"
+clock = 8000
+octets = 160
+ticks = 160
+file = \"tone-b.raw\"
+";
+
+const ASKER: Asker = Asker {
+    conn: 1,
+    peer: 0x7f00_0001,
+};
+
+/// How many requests were told of, and of the last one its status, the first digits of its session,
+/// and how long method and URI are.
+pub(crate) type Seen = (u32, u16, Option<u32>, usize);
+
+/// Who watches the answers.
+#[derive(Drop)]
+pub(crate) struct Watcher {
+    pub(crate) seen: Cell<Seen>,
+}
+
+impl Witness for Watcher {
+    fn answered(&self, told: &Told<'_>) {
+        let (requests, _, _, _) = self.seen.get();
+        let asked = told.method.len().saturating_add(told.uri.len());
+        self.seen.set((requests.wrapping_add(1), told.status, told.session(), asked));
+    }
+}
+
+// What is lent to a connection.
+#[derive(Drop)]
+struct Devices {
+    ports: Ports,
+    words: Drawing,
+    clock: Ticking,
+    plays: Noting,
+}
+
+impl Devices {
+    fn of(server: Server) -> Devices {
+        Devices {
+            ports: Ports {
+                work: server.ports,
+                failures: 0,
+            },
+            words: Drawing {
+                works: server.words,
+                failures: 0,
+                streams: 1,
+            },
+            clock: Ticking { moment: 0 },
+            plays: Noting {
+                works: server.plays,
+                noted: None,
+                settled: None,
+            },
+        }
+    }
+}
+
+// Has a piece of a connection's input answered, watched or not.
+fn push<R: AllocGlobal + Wait>(
+    rt: &R,
+    seat: &mut BookSeat,
+    lock: &BookLock,
+    table: &Table,
+    devices: &mut Devices,
+    watcher: Option<&Watcher>,
+    input: &mut Connection,
+    piece: &[u8],
+    room: &mut Room,
+) -> Result<(), MessageFault>
+    requires { IsSeatOf seat.old lock.now }
+    ensures { SameSeat seat.old seat.new }
+{
+    let alloc = rt.alloc();
+    let ports = &mut devices.ports;
+    let words = &mut devices.words;
+    let clock = &mut devices.clock;
+    let plays = &mut devices.plays;
+    let shares = &mut NoShares;
+    match watcher {
+        Some(watcher) => rtsp_watch::push_lent(
+            rt, alloc, seat, lock, ports, words, clock, plays, shares, table, ASKER, watcher,
+            input, piece, room,
+        ),
+        None => rtsp_dialect::push_lent(
+            rt, alloc, seat, lock, ports, words, clock, plays, shares, table, ASKER, input, piece,
+            room,
+        ),
+    }
+}
+
+// Has the input of a connection answered, which comes in two pieces.
+fn answer<R: AllocGlobal + Wait>(
+    rt: &R,
+    seat: &mut BookSeat,
+    lock: &BookLock,
+    table: &Table,
+    devices: &mut Devices,
+    watcher: Option<&Watcher>,
+    text: &[u8],
+    room: &mut Room,
+) -> Result<(), MessageFault>
+    requires { IsSeatOf seat.old lock.now }
+    ensures { SameSeat seat.old seat.new }
+{
+    let mut input = Connection::new(rt.alloc());
+    let (first, second) = text.split_at(text.len() / 2);
+    push(
+        rt, seat, lock, table, devices, watcher, &mut input, first, room,
+    )?;
+    push(
+        rt, seat, lock, table, devices, watcher, &mut input, second, room,
+    )
+}
+
+/// What a connection was answered, what was learned of its plays, and the moments to which the end
+/// of its session was moved.
+#[derive(Drop)]
+pub(crate) struct Talk {
+    pub(crate) said: Vec<u8>,
+    pub(crate) plays: Noting,
+    pub(crate) ends: Vec<u64>,
+}
+
+/// A text as it is sent: each line ends with CR LF.
+pub(crate) fn as_sent(alloc: Global, text: &str) -> Result<String, AllocError> {
+    text.replace(alloc, "\n", "\r\n")
+}
+
+fn table_of(alloc: Global, lines: &str) -> Result<Table, Fail> {
+    let text = format!(in alloc; "[server]\n{lines}\n{CONFIGURATION}")?;
+    Ok(Table::read(alloc, text.as_bytes())?)
+}
+
+// The moments to which a journal moves the ends of sessions.
+fn ends_in(alloc: Global, journal: &[Entry]) -> Result<Vec<u64>, AllocError> {
+    let mut moments = Vec::new(alloc);
+    for entry in journal {
+        if let Record::Touch(renewal) = entry.change {
+            moments.push(renewal.to)?;
+        }
+    }
+    Ok(moments)
+}
+
+// The answers, and behind them that to the fault of the input, if it has one.
+fn said_in(
+    alloc: Global,
+    room: &Room,
+    pushed: Result<(), MessageFault>,
+) -> Result<Vec<u8>, AllocError> {
+    let mut said = Vec::from_slice(alloc, room.as_bytes())?;
+    if let Err(fault) = pushed {
+        said.extend_from_slice(fault_response(fault))?;
+    }
+    Ok(said)
+}
+
+// Has the input of a connection answered by a server of its own.
+fn serve<R: AllocGlobal + Wait>(
+    rt: &R,
+    server: Server,
+    table: &Table,
+    watcher: Option<&Watcher>,
+    input: &[u8],
+) -> Result<Talk, Fail> {
+    let whole = Whole {
+        first_port: 5000,
+        pairs: 2,
+        uplink: 160_000,
+        sessions: 4,
+        journal: server.journal,
+    };
+    let (lock, mut seat) = open(rt.alloc(), &whole)?;
+    let mut devices = Devices::of(server);
+    let mut room = Room::new(rt.alloc());
+    let pushed = answer(
+        rt,
+        &mut seat,
+        &lock,
+        table,
+        &mut devices,
+        watcher,
+        input,
+        &mut room,
+    );
+    let kept = seat.finish(rt, lock);
+    Ok(Talk {
+        said: said_in(rt.alloc(), &room, pushed)?,
+        plays: devices.plays,
+        ends: ends_in(rt.alloc(), kept.journal())?,
+    })
+}
+
+/// Has the requests of a connection answered by a server of their own.
+pub(crate) fn converse<R: AllocGlobal + Wait>(
+    rt: &R,
+    server: Server,
+    watcher: Option<&Watcher>,
+    requests: &str,
+) -> Result<Talk, Fail> {
+    let table = table_of(rt.alloc(), server.lines)?;
+    let input = as_sent(rt.alloc(), requests)?;
+    serve(rt, server, &table, watcher, input.as_bytes())
+}
