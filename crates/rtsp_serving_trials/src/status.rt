@@ -1,0 +1,88 @@
+//! Whoever asks over a real socket, well or badly.
+
+use crate::figures::snapshot;
+use crate::parts::contains;
+use rtsp_metrics::Snapshot;
+use rtsp_status::{Halt, Source, StatusServer};
+use std::io::{self, Read, Write};
+use std::net::{Ipv4Addr, Net, SocketAddr, SocketAddrV4, TcpStream};
+use std::test::Fail;
+use std::thread;
+use std::time::Duration;
+
+#[derive(Drop)]
+struct SomeFigures;
+
+impl Source for SomeFigures {
+    fn snapshot(&mut self) -> Snapshot {
+        snapshot()
+    }
+}
+
+// What comes back to a request, of which these are the lines but for the host.
+fn answer_to<R: Net<Stream = TcpStream> + AllocGlobal>(
+    rt: &R,
+    address: SocketAddr,
+    lines: &str,
+) -> io::Result<Vec<u8>> {
+    let mut stream = TcpStream::connect(rt, address)?;
+    stream.set_read_timeout(Some(Duration::from_secs(10)))?;
+    stream.write_all(lines.as_bytes())?;
+    stream.write_all(b"\r\nHost: h\r\n\r\n")?;
+    let mut said = Vec::new(rt.alloc());
+    stream.read_to_end(&mut said)?;
+    Ok(said)
+}
+
+// What is asked, and answered: what the answer begins with, and what it has behind that.
+const ASKED: &str = "\
+    GET /metrics HTTP/1.1 -> HTTP/1.1 200 OK\r\n..rtspd_sessions 3\n|\
+    GET / HTTP/1.1 -> HTTP/1.1 200 OK\r\n..<tr><th>Sessions<td><td class=n>3\n|\
+    HEAD / HTTP/1.1 -> HTTP/1.1 200 OK\r\n..\r\n\r\n|\
+    GET /x HTTP/1.1 -> HTTP/1.1 404 ..\r\n\r\n|\
+    POST / HTTP/1.1 -> HTTP/1.1 405 ..allow: GET, HEAD\r\n|\
+    POST / HTTP/1.1\r\nContent-Length: 9 -> HTTP/1.1 413 ..\r\n|\
+    no request -> HTTP/1.1 400 ..\r\n";
+
+// Whether this is asked and answered so.
+fn is_answered<R: Net<Stream = TcpStream> + AllocGlobal>(
+    rt: &R,
+    address: SocketAddr,
+    asked: &str,
+) -> bool {
+    let (lines, answer) = asked.split_once(" -> ").unwrap_or((asked, ""));
+    let (begin, part) = answer.split_once("..").unwrap_or((answer, ""));
+    match answer_to(rt, address, lines) {
+        Ok(said) => said.starts_with(begin.as_bytes()) && contains(&said, part.as_bytes()),
+        Err(_) => false,
+    }
+}
+
+// The first of them that isn't answered so.
+fn first_wrong<R: Net<Stream = TcpStream> + AllocGlobal>(
+    rt: &R,
+    address: SocketAddr,
+) -> Option<&'static str> {
+    ASKED
+        .split('|')
+        .find(|asked| !is_answered(rt, address, asked))
+}
+
+#[test]
+fn each_request_has_its_answer(rt: HostRuntime) -> Result<(), Fail> {
+    let any = SocketAddr::V4(SocketAddrV4::new(Ipv4Addr::LOCALHOST, 0));
+    let mut server = StatusServer::open(&rt, rt.alloc(), any)?;
+    let address = server.address()?;
+    let halt = Halt::new();
+    let (_, wrong) = thread::join(
+        &rt,
+        || server.run(&rt, &mut SomeFigures, &halt),
+        || {
+            let wrong = first_wrong(&rt, address);
+            halt.halt();
+            wrong
+        },
+    );
+    assert!(rt; wrong.is_none(), "{wrong:?}");
+    Ok(())
+}
