@@ -8,9 +8,9 @@ mod command_lines;
 #[cfg(test)]
 mod conversations;
 #[cfg(test)]
-mod failing_devices;
+mod devices;
 #[cfg(test)]
-mod failing_lanes;
+mod failures;
 #[cfg(test)]
 mod pools;
 #[cfg(test)]

@@ -7,13 +7,11 @@ use rtsp_engine::{Asker, BindFault, Binder, CountedReader, CountedWriter, ServeE
 use rtsp_lock::open;
 use rtsp_server::{BookHandle, Lane, LaneTurn, PoolEnd, run_pool, whole_of};
 use rtspd::CountedWords;
-use std::alloc::{AllocError, Global};
+use std::alloc::Global;
 use std::net::{Net, TcpListener, TcpStream};
-use std::process::Abort;
 use std::rt::Clock;
 use std::sync::atomic::{AtomicBool, Ordering};
 use std::sync::{Arc, Wait};
-use std::test::Fail;
 use std::thread;
 use std::thread::Threads;
 use std::time::Duration;
@@ -143,57 +141,58 @@ impl Lane for OneSetup {
     }
 }
 
-fn flag(alloc: Global, is_set: bool) -> Result<Arc<AtomicBool>, Fail> {
-    let flag = Arc::new(alloc, AtomicBool::new(is_set))?;
-    Ok(flag)
+fn flag(alloc: Global, is_set: bool) -> Option<Arc<AtomicBool>> {
+    Arc::new(alloc, AtomicBool::new(is_set)).ok()
 }
 
-fn two_lanes(
+// Two lanes, of which one binds its pair only once the other's SETUP is answered. That is the first
+// one, or the second.
+fn lanes(
     alloc: Global,
-    first: OneSetup,
-    second: OneSetup,
-) -> Result<Vec<OneSetup>, AllocError> {
-    let mut lanes = Vec::new(alloc);
-    lanes.push(first)?;
-    lanes.push(second)?;
-    Ok(lanes)
-}
-
-// Runs two lanes, of which one binds its pair only once the other's SETUP is answered.
-fn run_two<
-    R: Threads + Wait + Net<Listener = TcpListener, Stream = TcpStream> + Clock + Abort + Sync,
->(rt: &R, alloc: Global, table: &Table, is_waiting_first: bool) -> Result<(), Fail> {
-    let (lock, mut seat) = open(alloc, &whole_of(table))?;
-    let lock = Arc::new(alloc, lock)?;
-    let one = flag(alloc, false)?;
-    let two = flag(alloc, false)?;
+    is_waiting_first: bool,
+    one: &Arc<AtomicBool>,
+    two: &Arc<AtomicBool>,
+) -> Option<Vec<OneSetup>> {
     let waiting = OneSetup {
-        until: Arc::try_clone(&two)?,
-        answered: Arc::try_clone(&one)?,
+        until: Arc::try_clone(two).ok()?,
+        answered: Arc::try_clone(one).ok()?,
         ids: 0,
     };
     let other = OneSetup {
         until: flag(alloc, true)?,
-        answered: Arc::try_clone(&two)?,
+        answered: Arc::try_clone(two).ok()?,
         ids: 1,
     };
-    let lanes = if is_waiting_first {
-        two_lanes(alloc, waiting, other)?
+    let pair = if is_waiting_first {
+        [waiting, other]
     } else {
-        two_lanes(alloc, other, waiting)?
+        [other, waiting]
     };
-    let end = run_pool(rt, alloc, lanes, &lock, &mut seat, table);
-    assert!(rt; end == PoolEnd { served: 2, idle: 0 });
-    assert!(rt; one.load(Ordering::SeqCst) && two.load(Ordering::SeqCst));
-    Ok(())
+    Vec::from_array(alloc, pair).ok()
+}
+
+// Whether both lanes are served.
+fn serves_both<R: Threads + Wait + Net<Listener = TcpListener, Stream = TcpStream> + Clock + Sync>(
+    rt: &R,
+    alloc: Global,
+    is_waiting_first: bool,
+) -> Option<bool> {
+    let table = tone(alloc)?;
+    let (lock, mut seat) = open(alloc, &whole_of(&table)).ok()?;
+    let lock = Arc::new(alloc, lock).ok()?;
+    let (one, two) = (flag(alloc, false)?, flag(alloc, false)?);
+    let lanes = lanes(alloc, is_waiting_first, &one, &two)?;
+    let end = run_pool(rt, alloc, lanes, &lock, &mut seat, &table);
+    let are_answered = one.load(Ordering::SeqCst) && two.load(Ordering::SeqCst);
+    Some(are_answered && end == PoolEnd { served: 2, idle: 0 })
 }
 
 #[test]
-fn the_first_lane_waits_for_the_second(rt: HostRuntime) -> Result<(), Fail> {
-    run_two(&rt, rt.alloc(), &tone(&rt)?, true)
+fn the_first_lane_waits_for_the_second(rt: HostRuntime) {
+    assert!(rt; serves_both(&rt, rt.alloc(), true) == Some(true));
 }
 
 #[test]
-fn the_second_lane_waits_for_the_first(rt: HostRuntime) -> Result<(), Fail> {
-    run_two(&rt, rt.alloc(), &tone(&rt)?, false)
+fn the_second_lane_waits_for_the_first(rt: HostRuntime) {
+    assert!(rt; serves_both(&rt, rt.alloc(), false) == Some(true));
 }

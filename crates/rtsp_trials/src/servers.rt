@@ -1,8 +1,9 @@
 //! A server with its sockets and threads, and a player on this host.
 
+use crate::world::count_of;
 use rtsp_book::BookRep;
 use rtsp_content::{Operation, Table};
-use rtsp_server::{Announce, PoolEnd, Server};
+use rtsp_server::{Announce, PoolEnd, Server, ServerEnd};
 use std::io::{Read, Write};
 use std::net::{Ipv4Addr, Net, SocketAddr, SocketAddrV4, TcpStream};
 use std::test::Fail;
@@ -24,16 +25,6 @@ const FIRST: &str = "OPTIONS * RTSP/2.0\r\nCSeq: 1\r\n\r\n\
 const OK: &[u8] = b"RTSP/2.0 200 OK\r\n";
 
 const SESSION: &[u8] = b"Session: ";
-
-fn count_of(text: &[u8], part: &[u8]) -> usize {
-    let mut count = 0usize;
-    for at in 0..text.len() {
-        if text[at..].starts_with(part) {
-            count = count.wrapping_add(1);
-        }
-    }
-    count
-}
 
 // Reads until there are so many responses, or nothing more comes.
 fn read_responses(stream: &TcpStream, said: &mut Vec<u8>, count: usize) -> Result<(), Fail> {
@@ -92,29 +83,36 @@ impl Announce for Untold {
     }
 }
 
+// The configuration, whose media is there.
+fn configured(rt: &HostRuntime) -> Result<(Table, Operation), Fail> {
+    fs::write(rt, MEDIA, &[0u8; 1600])?;
+    let table = Table::read(rt.alloc(), CONFIGURATION.as_bytes())?;
+    let operation = Operation::read_at(rt.alloc(), CONFIGURATION.as_bytes(), "")?;
+    Ok((table, operation))
+}
+
+// Whether one connection was served, and no session is left.
+fn has_served_one(end: &ServerEnd) -> bool {
+    let is_empty = match &end.book {
+        Some(kept) => kept.book().living() == 0,
+        None => false,
+    };
+    is_empty && end.pool == PoolEnd { served: 1, idle: 0 }
+}
+
 #[test]
 fn a_server_answers_three_requests(rt: HostRuntime) -> Result<(), Fail> {
-    let media = Vec::from_elem(rt.alloc(), 0u8, 1600)?;
-    fs::write(&rt, MEDIA, &media)?;
-    let table = Table::read(rt.alloc(), CONFIGURATION.as_bytes())?;
+    let (table, operation) = configured(&rt)?;
     let any = SocketAddr::V4(SocketAddrV4::new(Ipv4Addr::LOCALHOST, 0));
-    let errors = rt.stderr();
-    let operation = Operation::read_at(rt.alloc(), CONFIGURATION.as_bytes(), "")?;
     let server = Server::open(&rt, rt.alloc(), table, operation, any, Some(1))?;
     let address = server.address();
+    let errors = rt.stderr();
     let (ended, said) = thread::join(
         &rt,
         || server.run(&rt, Untold, errors),
         || play(&rt, address),
     );
-    let said = said?;
-    let end = ended?;
-    assert!(rt; end.pool == PoolEnd { served: 1, idle: 0 });
-    let is_empty = match &end.book {
-        Some(kept) => kept.book().living() == 0,
-        None => false,
-    };
-    assert!(rt; is_empty);
-    assert!(rt; count_of(&said, OK) == 3);
+    let is_answered = count_of(&said?, OK) == 3;
+    assert!(rt; is_answered && has_served_one(&ended?));
     Ok(())
 }

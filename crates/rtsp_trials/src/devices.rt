@@ -1,4 +1,4 @@
-//! Devices that fail at one of their calls.
+//! Devices that fail at one of their calls, or at none.
 
 ghost use Rattle.std.specs.Prelude.{◌≡◌, OnOk, OnErr};
 ghost use Rattle.rtsp_admit.specs.Binder.{raised};
@@ -30,25 +30,34 @@ fn is_last(left: &mut u32) -> bool {
 
 /// Gives one request at each read.
 #[derive(Drop)]
-pub struct Requests {
-    texts: [&'static str; 3],
-    given: usize,
+pub struct Requests<'a> {
+    rest: &'a [u8],
     left: u32,
     failures: u64,
 }
 
-impl Requests {
-    pub fn new(texts: [&'static str; 3], failing: Failing) -> Requests {
+impl<'a> Requests<'a> {
+    /// Those of a text, which end with an empty line each.
+    pub fn new(text: &'a str, failing: Failing) -> Requests<'a> {
         Requests {
-            texts,
-            given: 0,
+            rest: text.as_bytes(),
             left: failing.read,
             failures: 0,
         }
     }
+
+    // The next request, if one is left.
+    fn next(&mut self) -> &'a [u8] {
+        let blank = b"\r\n\r\n".as_slice();
+        let at = self.rest.windows(4).position(|part| part == blank);
+        let len = at.map_or(0, |at| at.saturating_add(4));
+        let (request, rest) = self.rest.split_at_checked(len).unwrap_or((b"", b""));
+        self.rest = rest;
+        request
+    }
 }
 
-impl ByteIn for Requests {
+impl ByteIn for Requests<'_> {
     ghost use Rattle.std.specs.Prelude.{None};
 
     ghost remaining = { λ s. None };
@@ -60,16 +69,12 @@ impl ByteIn for Requests {
             self.failures = self.failures.saturating_add(1);
             return Err(StreamFault);
         }
-        let Some(text) = self.texts.get(self.given) else {
-            return Ok(0);
-        };
-        let bytes = text.as_bytes();
-        if bytes.len() > buf.len() {
+        let request = self.next();
+        if request.len() > buf.len() {
             return Ok(0);
         }
-        self.given = self.given.saturating_add(1);
-        buf[..bytes.len()].copy_from_slice(bytes);
-        Ok(bytes.len())
+        buf[..request.len()].copy_from_slice(request);
+        Ok(request.len())
     }
 }
 
