@@ -47,7 +47,9 @@ impl<'a> Requests<'a> {
     }
 
     // The next request, if one is left.
-    fn next(&mut self) -> &'a [u8] {
+    fn next(&mut self) -> &'a [u8]
+        ensures { self.new.failures ≡ self.old.failures }
+    {
         let blank = b"\r\n\r\n".as_slice();
         let at = self.rest.windows(4).position(|part| part == blank);
         let len = at.map_or(0, |at| at.saturating_add(4));
