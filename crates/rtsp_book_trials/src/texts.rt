@@ -1,6 +1,6 @@
 //! The text of a journal: lines that stand for their entries, and lines that are refused.
 
-use rtsp_record::{JournalFault, read_journal, write_journal};
+use rtsp_record::{JournalFault, read_journal, write_entry, write_journal};
 use std::alloc::Global;
 use std::test::Fail;
 
@@ -27,9 +27,20 @@ fn written_back(alloc: Global, text: &[u8]) -> Result<Vec<u8>, Fail> {
     Ok(written)
 }
 
+// The same, an entry at a time.
+fn entries_written_back(alloc: Global, text: &[u8]) -> Result<Vec<u8>, Fail> {
+    let mut written = Vec::new(alloc);
+    let entries = read_journal(alloc, text)?;
+    for entry in entries.iter() {
+        write_entry(&mut written, entry)?;
+    }
+    Ok(written)
+}
+
 #[test]
 fn a_journal_is_read_and_written_back(rt: HostRuntime) -> Result<(), Fail> {
     assert!(rt; written_back(rt.alloc(), TEXT)?.as_slice() == TEXT);
+    assert!(rt; entries_written_back(rt.alloc(), TEXT)?.as_slice() == TEXT);
     Ok(())
 }
 

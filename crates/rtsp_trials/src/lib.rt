@@ -14,6 +14,8 @@ mod failures;
 #[cfg(test)]
 mod pools;
 #[cfg(test)]
+mod repairs;
+#[cfg(test)]
 mod servers;
 #[cfg(test)]
 mod world;
