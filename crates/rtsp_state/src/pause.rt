@@ -50,6 +50,7 @@ fn pause_presentation(
 
 /// PAUSE of a session's presentation. The tracks of a session are paused together. It is refused
 /// where no living session is named.
+#[inline(never)]
 pub fn pause(
     alloc: Global,
     context: &Context<'_>,

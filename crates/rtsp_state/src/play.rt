@@ -186,6 +186,7 @@ fn play_presentation(
 
 /// PLAY of a session's presentation. The tracks of a session are played together. It is refused
 /// where no living session is named.
+#[inline(never)]
 pub fn play(
     alloc: Global,
     context: &Context<'_>,

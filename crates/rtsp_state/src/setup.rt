@@ -133,6 +133,7 @@ fn setup_track(
 }
 
 /// SETUP of a track asks for an admission: into the session that is named, or into a new one.
+#[inline(never)]
 pub fn setup(
     alloc: Global,
     context: &Context<'_>,

@@ -42,7 +42,8 @@ fn session_found(
     }
 }
 
-// The row of a method.
+// The row of a method. The rows that plan a step or an admission stand apart, so that a request that
+// is answered at once doesn't pay for their room.
 fn row(
     alloc: Global,
     context: &Context<'_>,

@@ -73,6 +73,7 @@ fn teardown_track(
 
 /// TEARDOWN of a session's presentation ends the session, of its only track too. It is refused
 /// where no living session is named.
+#[inline(never)]
 pub fn teardown(
     alloc: Global,
     context: &Context<'_>,

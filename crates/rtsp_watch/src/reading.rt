@@ -1,10 +1,9 @@
 //! What a response says of itself.
 
-ghost use Rattle.std.specs.Prelude.{◌≡◌, take, drop, unwrap_or};
-ghost use Rattle.rtsp_text.specs.Decimal.{digits_number};
+ghost use Rattle.std.specs.Prelude.{◌≤◌};
 
 use memchr::memmem;
-use rtsp_text::{digits_number, hex_number};
+use rtsp_text::hex_number;
 
 // Where the digits of the status begin: behind `RTSP/2.0 `.
 const STATUS: usize = 9;
@@ -12,11 +11,20 @@ const STATUS: usize = 9;
 // The line of a response that names its session, with the end of the line before.
 const SESSION: &[u8] = b"\r\nSession: ";
 
+// What a digit counts.
+fn value_of(digit: u8) -> u16
+    ensures { result ≤ 255 }
+{
+    u16::from(digit.wrapping_sub(b'0'))
+}
+
 /// The status of a response, 0 where there is none.
-pub(crate) fn status_of(response: &[u8]) -> u64 {
+pub(crate) fn status_of(response: &[u8]) -> u16 {
     match response.get(STATUS..STATUS + 3) {
-        Some(digits) => digits_number(digits).unwrap_or(0),
-        None => 0,
+        Some([hundreds, tens, ones]) => {
+            100 * value_of(*hundreds) + 10 * value_of(*tens) + value_of(*ones)
+        }
+        _ => 0,
     }
 }
 

@@ -26,7 +26,7 @@ fn tell<T: Witness>(witness: &T, request: &Request, response: &[u8]) {
     witness.answered(&Told {
         method: request.method.as_bytes(),
         uri: request.uri.as_bytes(),
-        status: u16::try_from(status_of(response)).unwrap_or(0),
+        status: status_of(response),
         response,
     });
 }
