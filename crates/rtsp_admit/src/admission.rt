@@ -92,21 +92,22 @@ fn complete<R: Wait, B: Binder>(
     }
 }
 
-// Makes an admission, and at a refusal takes back what was made of it.
-fn attempt<R: Wait, B: Binder>(
+/// Makes an admission as `admit` does; its steps put their records into the receipt, in place of what it
+/// has. What `admit` promises besides its run follows from the run, by the laws.
+pub fn admit_into<R: Wait, B: Binder>(
     rt: &R,
     seat: &mut BookSeat,
     lock: &BookLock,
     binder: &mut B,
     ask: &Ask,
+    made: &mut Receipt,
 ) -> Result<Admitted, Refusal>
     requires own { IsSeatOf seat.old lock.now }
     requires wish { HasWish ask.now.wanted }
     ensures same { SameSeat seat.old seat.new }
     ensures run { Admits B.calls ask.now result (state_of seat.old binder.old) (state_of seat.new binder.new) }
 {
-    let mut made = Receipt::new();
-    match complete(rt, seat, lock, binder, ask, &mut made) {
+    match complete(rt, seat, lock, binder, ask, made) {
         Ok(address) => Ok(Admitted {
             session: ask.session,
             admission: ask.admission,
@@ -115,7 +116,7 @@ fn attempt<R: Wait, B: Binder>(
         }),
         Err(failure) => {
             let chain = failure.chain(ask);
-            let _ = seat.act_into(rt, lock, &Step::Unwind { chain }, &mut made);
+            let _ = seat.act_into(rt, lock, &Step::Unwind { chain }, made);
             release(binder, ask.admission, failure.bound_address());
             Err(failure.refusal())
         }
@@ -161,7 +162,7 @@ pub fn admit<R: Wait, B: Binder>(
     law_faults_counted::<B>(ask);
     law_admitted_keeps_drawn::<B>(ask);
     law_admitted_keeps_all::<B>(ask);
-    match attempt(rt, seat, lock, binder, ask) {
+    match admit_into(rt, seat, lock, binder, ask, &mut Receipt::new()) {
         Ok(granted) => {
             law_admitted_address::<B>(ask);
             Ok(granted)

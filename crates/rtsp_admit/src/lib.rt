@@ -22,7 +22,7 @@ mod ports;
 mod steps;
 mod udp_ports;
 
-pub use admission::admit;
+pub use admission::{admit, admit_into};
 pub use binder::{BindFault, Binder, unbind_freed};
 pub use laws::{
     law_acts_use_drawn, law_admitted_address, law_admitted_grows, law_admitted_keeps_all,

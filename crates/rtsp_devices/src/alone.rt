@@ -9,7 +9,7 @@ use crate::no_plays::NoPlays;
 use crate::no_shares::NoShares;
 use crate::port_set::PortSet;
 use crate::standing_clock::StandingClock;
-use rtsp_book::Kept;
+use rtsp_book::{Kept, Receipt};
 use rtsp_content::Table;
 use rtsp_engine::{Asker, ByteIn, ByteOut, Desk, ServeEnd, law_owns_all, law_served_grows};
 use rtsp_lanes::whole_of;
@@ -55,6 +55,7 @@ pub fn serve_alone<R: Wait, I: ByteIn, O: ByteOut>(
     let Ok(conn) = seat.draw(rt, &lock) else {
         return Err(AllocError);
     };
+    let mut made = Receipt::new();
     let mut words = CountedWords::new();
     let mut clock = StandingClock;
     let mut plays = NoPlays;
@@ -63,6 +64,7 @@ pub fn serve_alone<R: Wait, I: ByteIn, O: ByteOut>(
         rt,
         seat: &mut seat,
         lock: &lock,
+        made: &mut made,
         binder: &mut binder,
         words: &mut words,
         clock: &mut clock,

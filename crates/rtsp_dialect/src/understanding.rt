@@ -8,6 +8,7 @@ ghost use Rattle.rtsp_traits.specs.Devices.{devices};
 ghost use Rattle.rtsp_dialect.specs.Understanding.{TakesPiece, FaultsPiece, serves, gathered};
 
 use crate::visits::push;
+use rtsp_book::Receipt;
 use rtsp_content::{Players, Table};
 use rtsp_engine::{Asker, Binder, Clock, Connection, Desk, Plays, Shares, Words};
 use rtsp_grammar::MessageFault;
@@ -45,6 +46,7 @@ pub fn push_lent<'a, R: Wait, B: Binder, W: Words, C: Clock, P: Plays, S: Shares
     alloc: Global,
     seat: &'a mut BookSeat,
     lock: &'a BookLock,
+    made: &'a mut Receipt,
     binder: &'a mut B,
     words: &'a mut W,
     clock: &'a mut C,
@@ -70,6 +72,7 @@ pub fn push_lent<'a, R: Wait, B: Binder, W: Words, C: Clock, P: Plays, S: Shares
         rt,
         seat,
         lock,
+        made,
         binder,
         words,
         clock,

@@ -17,7 +17,7 @@ ghost use Rattle.rtsp_engine.specs.Writing.{WritesStep, WritesSetup, WritesOutco
 
 use crate::desk::Desk;
 use crate::drawing::{GivenWords, Lacking, Numbers, Spent, draw_numbers, draw_words, opens};
-use rtsp_admit::{Binder, admit, unbind_freed};
+use rtsp_admit::{Binder, admit_into, unbind_freed};
 use rtsp_book::{Admitted, Receipt, Refusal, Step};
 use rtsp_lock::{BookLock, BookSeat};
 use rtsp_record::Phase;
@@ -97,8 +97,7 @@ fn act_step<R: Wait, B: Binder>(
     }
 }
 
-// Notes a play, acts the step, writes what came of it, and settles the play. It stands apart, so
-// that what is answered at once doesn't pay for the room of the records.
+// Notes a play, acts the step, writes what came of it, and settles the play.
 #[inline(never)]
 fn conduct_step<R: Wait, B: Binder, W: Words, C: Clock, P: Plays, S: Shares>(
     alloc: Global,
@@ -115,18 +114,17 @@ fn conduct_step<R: Wait, B: Binder, W: Words, C: Clock, P: Plays, S: Shares>(
 {
     plan.make_room(room)?;
     note(alloc, desk.plays, &plan.step, plan.start.cseq, uri)?;
-    let mut made = Receipt::new();
     match act_step(
         desk.rt,
         desk.seat,
         desk.lock,
         desk.binder,
         &plan.step,
-        &mut made,
+        desk.made,
     ) {
         Ok(()) => {
-            plan.answer(room, Ok(&made));
-            settle(desk.plays, &plan.step, moved(&made));
+            plan.answer(room, Ok(desk.made));
+            settle(desk.plays, &plan.step, moved(desk.made));
         }
         Err(refusal) => {
             plan.answer(room, Err(refusal));
@@ -170,7 +168,7 @@ fn admit_drawn<R: Wait, B: Binder, W: Words, C: Clock, P: Plays, S: Shares>(
             let ask = plan.ask(drawn_with(desk.asker.conn, given, numbers));
             SetUp::Tried(
                 numbers,
-                admit(desk.rt, desk.seat, desk.lock, desk.binder, &ask),
+                admit_into(desk.rt, desk.seat, desk.lock, desk.binder, &ask, desk.made),
             )
         }
         Err(at) => SetUp::NoNumber(at),

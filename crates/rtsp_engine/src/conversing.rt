@@ -58,7 +58,7 @@ fn respond_found<R: Wait, B: Binder, W: Words, C: Clock, P: Plays, S: Shares>(
 {
     let asker = desk.asker;
     match renew(
-        desk.rt, desk.seat, desk.lock, desk.table, asker, &request, moment, found,
+        desk.rt, desk.seat, desk.lock, desk.table, asker, &request, moment, found, desk.made,
     ) {
         Ok(()) => respond_renewed(alloc, desk, uri, request, moment, found.as_ref(), room),
         Err(reply) => reply_with(&reply, room),

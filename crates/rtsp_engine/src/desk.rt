@@ -2,6 +2,7 @@
 
 ghost use Rattle.rtsp_lock.specs.Calls.{IsSeatOf};
 
+use rtsp_book::Receipt;
 use rtsp_content::Table;
 use rtsp_lock::{BookLock, BookSeat};
 
@@ -12,14 +13,16 @@ pub struct Asker {
     pub peer: u32,
 }
 
-/// The parts that are lent to a connection: its seat of the lock, the binder of its ports, the
-/// source of its words, the clock, who learns of its plays, who counts the sessions of each address,
-/// the content, and who asks.
+/// The parts that are lent to a connection: its seat of the lock, the receipt that its steps fill,
+/// the binder of its ports, the source of its words, the clock, who learns of its plays, who counts
+/// the sessions of each address, the content, and who asks. A receipt is 3.7 kB, so it goes from one
+/// request to the next, and is made for none.
 #[derive(Drop)]
 pub struct Desk<'a, R, B, W, C, P, S> {
     pub rt: &'a R,
     pub seat: &'a mut BookSeat,
     pub lock: &'a BookLock,
+    pub made: &'a mut Receipt,
     pub binder: &'a mut B,
     pub words: &'a mut W,
     pub clock: &'a mut C,

@@ -42,8 +42,6 @@ pub(crate) fn look<R: Wait>(
 }
 
 // Renews the session that was found to this moment, and looks it up again where that was recorded.
-// It stands apart, so that a request that renews nothing doesn't pay for the room of the records.
-#[inline(never)]
 fn renew_until<R: Wait>(
     rt: &R,
     seat: &mut BookSeat,
@@ -52,6 +50,7 @@ fn renew_until<R: Wait>(
     request: &ParsedRequest<'_>,
     until: u64,
     found: &mut Option<SessionView>,
+    made: &mut Receipt,
 ) -> Result<(), Reply>
     requires own { IsSeatOf seat.old lock.now }
     requires lives { IsSome found.old }
@@ -67,8 +66,7 @@ fn renew_until<R: Wait>(
         session: view.session(),
         until,
     };
-    let mut made = Receipt::new();
-    match seat.act_into(rt, lock, &touch, &mut made) {
+    match seat.act_into(rt, lock, &touch, made) {
         Ok(()) => {
             if made.records().is_empty() {
                 return Ok(());
@@ -91,6 +89,7 @@ pub(crate) fn renew<R: Wait>(
     request: &ParsedRequest<'_>,
     moment: u64,
     found: &mut Option<SessionView>,
+    made: &mut Receipt,
 ) -> Result<(), Reply>
     requires { IsSeatOf seat.old lock.now }
     ensures same { SameSeat seat.old seat.new }
@@ -101,7 +100,7 @@ pub(crate) fn renew<R: Wait>(
         return Ok(());
     };
     match renewal(request, table, view, moment) {
-        Some(until) => renew_until(rt, seat, lock, asker.conn, request, until, found),
+        Some(until) => renew_until(rt, seat, lock, asker.conn, request, until, found, made),
         None => Ok(()),
     }
 }

@@ -8,6 +8,7 @@ ghost use Rattle.rtsp_dialect.specs.Understanding.{TakesPiece, FaultsPiece, gath
 
 use crate::understanding::push_understood;
 use crate::witness::Witness;
+use rtsp_book::Receipt;
 use rtsp_content::Table;
 use rtsp_engine::{Asker, Binder, Clock, Connection, Desk, Plays, Shares, Words};
 use rtsp_grammar::MessageFault;
@@ -23,6 +24,7 @@ pub fn push_lent<'a, R: Wait, B: Binder, W: Words, C: Clock, P: Plays, S: Shares
     alloc: Global,
     seat: &'a mut BookSeat,
     lock: &'a BookLock,
+    made: &'a mut Receipt,
     binder: &'a mut B,
     words: &'a mut W,
     clock: &'a mut C,
@@ -49,6 +51,7 @@ pub fn push_lent<'a, R: Wait, B: Binder, W: Words, C: Clock, P: Plays, S: Shares
         rt,
         seat,
         lock,
+        made,
         binder,
         words,
         clock,

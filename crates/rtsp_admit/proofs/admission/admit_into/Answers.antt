@@ -7,7 +7,7 @@ use Rattle.rtsp_book.specs.declared.steps.Step.TheVariants as step
 use Rattle.rtsp_lock.specs.Calls.{seat_view, Acted}
 use Rattle.rtsp_admit.specs.Binder.{Released}
 use Rattle.rtsp_admit.specs.Runs.{state_of}
-use Rattle.rtsp_admit.proofs.admission.attempt.Goals as goal
+use Rattle.rtsp_admit.proofs.admission.admit_into.Goals as goal
 
 pub returns-in-Err-clause-run : goal.returns-in-Err-clause-run
 returns-in-Err-clause-run g c = record {
