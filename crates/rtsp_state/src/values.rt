@@ -79,13 +79,11 @@ pub fn joined_in<'a>(
 ) -> Result<Option<CowSlice<'a, u8>>, AllocError>
     ensures { IfOk result (λ o. option_map (λ v. cow_slice_items v) o ≡ joined_in name.now headers.now) }
 {
-    let Some(first) = headers.nth_value(name, 0) else {
-        return Ok(None);
-    };
-    if headers.count_of(name) == 1 {
-        return Ok(Some(CowSlice::Borrowed(first)));
+    match headers.only_value(name) {
+        Ok(None) => Ok(None),
+        Ok(Some(value)) => Ok(Some(CowSlice::Borrowed(value))),
+        Err(Repeated) => Ok(Some(CowSlice::Owned(several_joined(alloc, headers, name)?))),
     }
-    Ok(Some(CowSlice::Owned(several_joined(alloc, headers, name)?)))
 }
 
 /// The number of a CSeq header.
