@@ -2,6 +2,7 @@ pub mod ReadLemmas
 pub mod PortLemmas
 pub mod PlainUriLemmas
 pub mod ListLemmas
+pub mod BareLemmas
 pub mod IdLemmas
 pub mod PickLemmas
 pub mod ParameterLemmas

@@ -7,7 +7,6 @@ pub mod Lines
 pub mod Info
 pub mod Response
 pub mod Values
-pub mod MediaBase
 pub mod PlainUri
 pub mod ParsedRequest
 pub mod OrderOfRefusals

@@ -2,50 +2,27 @@
 
 ghost use Rattle.std.specs.Prelude.{◌≡◌, ◌++◌, IfOk};
 ghost use Rattle.rtsp_state.specs.Values.{bare_text, with_slash};
-ghost use Rattle.rtsp_state.specs.MediaBase.{written_text};
 
 use rtsp_grammar::Text;
 use std::alloc::{AllocError, Global};
 use std::marker::Model;
 use url::{Position, Url};
 
-// The URI as it is kept: as its parser gave it, or the text of one that needs no parser.
-#[derive(Drop)]
-enum Written {
-    Parsed(Url),
-    Plain(Text),
-}
-
-impl Written {
-    // The URI without query and fragment.
-    fn bare(&self) -> &[u8]
-        ensures { result.now ≡ written_text self.now }
-    {
-        match self {
-            Written::Parsed(url) => {
-                let bare = url.slice(Position::BeforeScheme, Position::AfterPath);
-                bare.as_bytes()
-            }
-            Written::Plain(text) => text.as_bytes(),
-        }
-    }
-}
-
 /// The URI of media as it is written, without query and fragment and with one slash at its end: the
 /// names of tracks are joined to it. A contract sees its bytes.
 #[derive(Drop)]
 pub struct MediaBase {
-    written: Written,
+    // Without query and fragment; it may lack the slash.
+    bare: Text,
 }
 
 impl Model for MediaBase {
     ghost use Rattle.std.specs.Prelude.{List, ℕ};
     ghost use Rattle.rtsp_state.specs.Values.{with_slash};
-    ghost use Rattle.rtsp_state.specs.MediaBase.{written_text};
 
     ghost Value = { List ℕ };
 
-    ghost view = { λ b. with_slash (written_text b.written) };
+    ghost view = { λ b. with_slash b.bare };
 }
 
 impl MediaBase {
@@ -53,8 +30,11 @@ impl MediaBase {
     pub(crate) fn new(url: Url) -> MediaBase
         ensures { result ≡ with_slash (bare_text url) }
     {
+        let len = url.slice(Position::BeforeScheme, Position::AfterPath).len();
+        let mut bytes = String::from(url).into_bytes();
+        bytes.truncate(len);
         MediaBase {
-            written: Written::Parsed(url),
+            bare: Text::from_vec(bytes),
         }
     }
 
@@ -62,9 +42,8 @@ impl MediaBase {
     pub(crate) fn plain(alloc: Global, text: &[u8]) -> Result<MediaBase, AllocError>
         ensures { IfOk result (λ base. base ≡ with_slash text.now) }
     {
-        let text = Text::from_slice(alloc, text)?;
         Ok(MediaBase {
-            written: Written::Plain(text),
+            bare: Text::from_slice(alloc, text)?,
         })
     }
 
@@ -73,7 +52,7 @@ impl MediaBase {
     pub fn parts(&self) -> (&[u8], &'static [u8])
         ensures { result.0.now ++ result.1.now ≡ self.now }
     {
-        let bare = self.written.bare();
+        let bare = self.bare.as_bytes();
         let slash: &'static [u8] = match bare {
             [.., b'/'] => b"",
             _ => b"/",
