@@ -1,4 +1,4 @@
-use Rattle.std.proofs.Common.{[], ◌∷◌, ◌++◌, refl}
+use Rattle.std.proofs.Common.{[], ◌∷◌, refl}
 use Rattle.rtsp_grammar.specs.Writing.{header_text, headers_text}
 use Rattle.rtsp_state.specs.declared.status.Status.TheVariants as statuses
 use Rattle.rtsp_state.specs.FixedText.{status_line}
