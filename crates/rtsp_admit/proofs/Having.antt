@@ -47,7 +47,7 @@ granted_ports : (kind : UdpPorts) (p a n : ℕ) (y : Thing) → is_granted a (po
 granted_ports udp.Pair p a n y = refl
 granted_ports udp.Port p a n y = refl
 
-released_ports : {B : Type 0} (calls : Calls B) (kind : UdpPorts) (p a : ℕ) (b c : B) → Released calls a (Some (ports_from kind p)) b c → Unbound calls a (ports_from kind p) b c
+pub released_ports : {B : Type 0} (calls : Calls B) (kind : UdpPorts) (p a : ℕ) (b c : B) → Released calls a (Some (ports_from kind p)) b c → Unbound calls a (ports_from kind p) b c
 released_ports calls udp.Pair p a b c h = h
 released_ports calls udp.Port p a b c h = h
 

@@ -1,9 +1,14 @@
 -- What the calls of a binder do.
-use Rattle.std.specs.Prelude.{◌≡◌, ℕ, ◌+◌, ◌-◌, ◌^◌, min, List, [], ◌∷◌, ◌++◌, map, Option, Some}
+use Rattle.std.specs.Prelude.{◌≡◌, ℕ, ◌+◌, ◌-◌, ◌^◌, min, List, [], ◌∷◌, ◌++◌, map, filter_map, Option, Some}
 use Rattle.rtsp_record.specs.declared.changes.Record.{Record}
 use Rattle.rtsp_record.specs.declared.holdings.Thing.{Thing}
 use Rattle.rtsp_record.specs.declared.holdings.Thing.TheVariants.{Pair, Port}
-use Rattle.rtsp_book.specs.Receipts.{freed_pairs, freed_ports}
+use Rattle.rtsp_sessions.specs.declared.udp_ports.UdpPorts as book
+use Rattle.rtsp_sessions.specs.declared.udp_ports.UdpPorts.TheVariants as variants
+use Rattle.rtsp_book.specs.Receipts.{freed_as, freed_pairs, freed_ports}
+use Rattle.rtsp_admit.specs.declared.udp_ports.UdpPorts.{UdpPorts}
+use Rattle.rtsp_admit.specs.declared.udp_ports.UdpPorts.TheVariants as udp
+use Rattle.rtsp_admit.specs.Steps.{ports_from}
 
 -- a binder before and after a bind that succeeds, a bind that fails and an unbind, by admission and by the ports; and how many binds have failed
 pub record Calls (B : Type 0) : Type 1 where
@@ -23,6 +28,15 @@ as_pairs xs = map (λ x. (x.0, Pair x.1)) xs
 -- single ports as things, each under its admission
 abbrev pub as_ports : List (ℕ × ℕ) → List (ℕ × Thing)
 as_ports xs = map (λ x. (x.0, Port x.1)) xs
+
+-- the same ports in the words of the book
+abbrev pub booked : UdpPorts → book.UdpPorts
+booked udp.Pair = variants.Pair
+booked udp.Port = variants.Port
+
+-- what records freed of one kind of ports, each under its admission
+abbrev pub freed_of : UdpPorts → List Record → List (ℕ × Thing)
+freed_of kind made = map (λ x. (x.0, ports_from kind x.1)) (filter_map (freed_as (booked kind)) made)
 
 -- what records freed of ports, each under its admission: the pairs, and then the single ports
 abbrev pub freed_addresses : List Record → List (ℕ × Thing)

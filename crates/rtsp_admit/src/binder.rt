@@ -2,12 +2,12 @@
 
 ghost use Rattle.std.specs.Prelude.{◌≡◌, ℕ, OnOk, OnErr};
 ghost use Rattle.rtsp_record.specs.declared.holdings.Thing.TheVariants.{Pair, Port};
-ghost use Rattle.rtsp_sessions.specs.declared.udp_ports.UdpPorts.TheVariants as udp;
-ghost use Rattle.rtsp_book.specs.Receipts.{freed_as, freed_pairs, freed_ports};
-ghost use Rattle.rtsp_admit.specs.Binder.{Calls, Bound, Failed, Unbound, UnboundAll, Released, as_pairs, as_ports, freed_addresses};
+ghost use Rattle.rtsp_book.specs.Receipts.{freed_as};
+ghost use Rattle.rtsp_admit.specs.Binder.{Calls, Bound, Failed, Unbound, UnboundAll, Released, booked, freed_of, freed_addresses};
 
+use crate::udp_ports::UdpPorts;
 use rtsp_book::Receipt;
-use rtsp_record::{Holding, Record, Thing};
+use rtsp_record::{Record, Thing};
 use thiserror::Error;
 
 /// Ports that can't be bound.
@@ -42,56 +42,28 @@ pub trait Binder {
         ensures { Unbound calls admission (Port port) self.old self.new };
 }
 
-// The pair of ports that a record frees, with its admission.
-fn freed_pair(change: &Record) -> Option<(u64, u16)>
-    ensures { result ≡ freed_as udp.Pair change.now }
+// The ports of this kind that a record frees, by the first of them, with their admission.
+fn freed(kind: UdpPorts, change: &Record) -> Option<(u64, u16)>
+    ensures { result ≡ freed_as (booked kind) change.now }
 {
-    match change {
-        Record::Free(
-            Holding {
-                admission,
-                thing: Thing::Pair(pair),
-                ..
-            },
-        ) => Some((*admission, *pair)),
-        _ => None,
-    }
-}
-
-// The single port that a record frees, with its admission.
-fn freed_port(change: &Record) -> Option<(u64, u16)>
-    ensures { result ≡ freed_as udp.Port change.now }
-{
-    match change {
-        Record::Free(
-            Holding {
-                admission,
-                thing: Thing::Port(port),
-                ..
-            },
-        ) => Some((*admission, *port)),
-        _ => None,
-    }
-}
-
-// Unbinds the pairs that these records freed, in this order.
-fn unbind_pairs<B: Binder>(binder: &mut B, changes: &[Record])
-    ensures { UnboundAll B.calls (as_pairs (freed_pairs changes.now)) binder.old binder.new }
-{
-    for change in changes {
-        if let Some((admission, pair)) = freed_pair(change) {
-            binder.unbind(admission, pair);
+    let Record::Free(holding) = change else {
+        return None;
+    };
+    match (kind, holding.thing) {
+        (UdpPorts::Pair, Thing::Pair(first)) | (UdpPorts::Port, Thing::Port(first)) => {
+            Some((holding.admission, first))
         }
+        _ => None,
     }
 }
 
-// Unbinds the single ports that these records freed, in this order.
-fn unbind_ports<B: Binder>(binder: &mut B, changes: &[Record])
-    ensures { UnboundAll B.calls (as_ports (freed_ports changes.now)) binder.old binder.new }
+// Unbinds the ports of this kind that these records freed, in this order.
+fn unbind_all<B: Binder>(binder: &mut B, kind: UdpPorts, changes: &[Record])
+    ensures { UnboundAll B.calls (freed_of kind changes.now) binder.old binder.new }
 {
     for change in changes {
-        if let Some((admission, port)) = freed_port(change) {
-            binder.unbind_port(admission, port);
+        if let Some((admission, first)) = freed(kind, change) {
+            release(binder, admission, Some(kind.thing(first)));
         }
     }
 }
@@ -102,8 +74,8 @@ pub fn unbind_freed<B: Binder>(binder: &mut B, made: &Receipt)
     ensures { UnboundAll B.calls (freed_addresses made.now) binder.old binder.new }
 {
     let changes = made.records();
-    unbind_pairs(binder, changes);
-    unbind_ports(binder, changes);
+    unbind_all(binder, UdpPorts::Pair, changes);
+    unbind_all(binder, UdpPorts::Port, changes);
 }
 
 // Unbinds an address, where there is one and it is ports.

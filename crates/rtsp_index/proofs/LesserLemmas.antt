@@ -97,7 +97,3 @@ module _ (places : ℕ) (ms : List ℕ) (ok : AreLessers places ms) where
 
   pub first_there : 0 < places → (p : ℕ) × (p < places) × (get_or ms (places + p) 0 ≡ get_or ms 1 0)
   first_there some = one_of (2 * places) 1 (omega arith) (omega arith) (omega (arith, some))
-
--- the lesser of two greatest moments is one of them
-pub all_greatest : (places x : ℕ) (ms : List ℕ) → length ms ≡ 2 * places → ((i : ℕ) → i < 2 * places → get_or ms i 0 ≡ x) → AreLessers places ms
-all_greatest places x ms long each = record { long = long; lesser = λ i from lt. omega (arith, each i (omega (arith, lt)), each (2 * i) (omega (arith, lt)), each (2 * i + 1) (omega (arith, lt))) }

@@ -227,13 +227,6 @@ dated_without rows more m next k dated up places others j w at =
           (omega (arith, was.0, places), others j apart ∙ was.1)
     ]
 
--- the same rows, with more places
-pub dated_wider : (rows more : Slab (ℕ × Session)) (m next : Moments) → AreDated rows m → ((k : ℕ) → row_in more k ≡ row_in rows k) → m.places ≤ next.places
-    → ((p : ℕ) → p < m.places → moment_at next p ≡ moment_at m p) → AreDated more next
-dated_wider rows more m next dated same wide kept j w at =
-    let was = dated j w (sym (same j) ∙ at) in
-    (omega (arith, was.0, wide), kept j was.0 ∙ was.1)
-
 -- the expiry of a living session stands at a place
 date_of : (es : List (ℕ × ℕ)) (rows : Slab (ℕ × Session)) (m : Moments) (s : ℕ) (f : Session) → AreDated rows m → get (gathered rows es) s ≡ Some f → (k : ℕ) × (k < m.places) × (moment_at m k ≡ f.expires)
 date_of es rows m s f dated at =

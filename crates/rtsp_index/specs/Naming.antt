@@ -1,15 +1,18 @@
 -- What sessions are found by.
-use Rattle.std.specs.Prelude.{◌≡◌, ℕ, Bool, ◌&&◌, nat_eq, option_map, option_and_then, Option, Some}
+use Rattle.std.specs.Prelude.{◌≡◌, ℕ, Bool, ◌&&◌, nat_eq, option_and_then, Option, Some}
 use Rattle.std.specs.FinMap.{get}
-use Rattle.rtsp_record.specs.Books.{Book}
+use Rattle.rtsp_record.specs.Books.{Session, Book}
 
--- the id of a living session
-abbrev pub id_at : Book → ℕ → Option ℕ
-id_at b s = option_map (λ f. f.id) (get b s)
+-- what a session is found by: its id, and its startup number with the connection
+abbrev pub id_of : Session → Option ℕ
+id_of f = Some f.id
 
--- the startup number of a living session with its connection
-abbrev pub startup_at : Book → ℕ → Option (ℕ × ℕ)
-startup_at b s = option_and_then (λ f. f.binding) (get b s)
+abbrev pub startup_of : Session → Option (ℕ × ℕ)
+startup_of f = f.binding
+
+-- the name of a living session
+abbrev pub name_at : {K : Type 0} → (Session → Option K) → Book → ℕ → Option K
+name_at of b s = option_and_then of (get b s)
 
 -- two startup numbers with their connections are equal
 abbrev pub same_startup : ℕ × ℕ → ℕ × ℕ → Bool

@@ -2,7 +2,7 @@
 use Rattle.std.proofs.Common.{◌≡◌, ◌≢◌, ℕ, zero, suc, ◌+◌, ◌-◌, ◌*◌, ◌/◌, ◌%◌, ◌^◌, ◌<◌, ◌≤◌, List, length, replicate, get_or, set, bit_and, w64, true, false, cond, not, nat_eq, refl, sym, ap, ◌∙◌, inl, inr, arith, get_or-set_same, get_or-set_other}
 use Rattle.std.specs.Int.{bit_at, trailing_zeros}
 use Rattle.std.proofs.lemmas.Nat.{and_le_l}
-use Rattle.std.proofs.lemmas.Nat.Bits.{bit_at-zero, bit_at-lt, bit_at_and, bit_at_mask_inside, bit_at_mask_below, bit_at-trailing_zeros, ones_shl, shr_and_one, same_from_bits_below}
+use Rattle.std.proofs.lemmas.Nat.Bits.{bit_at-zero, bit_at-lt, bit_at_and, bit_at_mask_inside, bit_at_mask_below, bit_at-trailing_zeros, ones_shl, same_from_bits_below}
 use Rattle.std.proofs.lemmas.Bool.Decides.{nat_tests}
 use Rattle.std.proofs.lemmas.Bool.{cases_eq, cases_lt}
 use Rattle.std.proofs.lemmas.List.{get_or_past, get_or_default}
@@ -118,12 +118,6 @@ is_one n h = grind (arith, nat_tests)
 
 not_one : (n : ℕ) → n < 2 → nat_eq n 1 ≡ false → n ≡ 0
 not_one n lt h = grind (arith, nat_tests)
-
-pub shows_one : (n i : ℕ) → nat_eq (bit_and (n / 2 ^ i) 1) 1 ≡ true → bit_at n i ≡ 1
-shows_one n i h = sym (shr_and_one n i) ∙ is_one _ h
-
-pub shows_none : (n i : ℕ) → nat_eq (bit_and (n / 2 ^ i) 1) 1 ≡ false → bit_at n i ≡ 0
-shows_none n i h = sym (shr_and_one n i) ∙ not_one _ (omega (arith, shr_and_one n i, bit_at-lt n i)) h
 
 -- a word of no bits is 0
 pub no_bits : (n : ℕ) → n < 2 ^ 64 → ((i : ℕ) → 0 ≤ i → i < 64 → bit_at n i ≡ 0) → n ≡ 0

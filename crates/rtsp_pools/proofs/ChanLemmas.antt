@@ -6,10 +6,11 @@ use Rattle.std.proofs.lemmas.Nat.Bits.{bit_at-lt, bit_at_not, bit_at_ones, bit_a
 use Rattle.rtsp_pools.specs.declared.chan_pool.ChanPool.{ChanPool}
 use Rattle.rtsp_record.specs.Sums.{one_if}
 use Rattle.rtsp_record.specs.Choices.{count_of, least_chan_by}
+use Rattle.rtsp_record.proofs.Sound.{at_most_one}
 use Rattle.rtsp_pools.specs.Pools.{held_bits, is_free_channel, is_free_chan}
 use Rattle.rtsp_pools.proofs.LeastLemmas.{chan_found, chan_missing, count_end}
 
-twice : (t : Bool) → (t && t) ≡ t
+pub twice : (t : Bool) → (t && t) ≡ t
 twice true = refl
 twice false = refl
 
@@ -75,8 +76,4 @@ counted_one takes count n more t was is now =
     let at : 0 + 2 * n ≡ 2 * n = omega arith in
     let last : one_if (takes (0 + 2 * n)) ≡ one_if t = ap one_if (ap takes at ∙ is) in
     let more_is : more ≡ count_of 2 takes 0 (suc n) = omega (arith, now, was.1, last, count_end 2 takes 0 n) in
-    (omega (arith, was.0, now, one_small t), more_is ∙ ap (count_of 2 takes 0) next)
-  where
-    one_small : (t : Bool) → one_if t ≤ 1
-    one_small true = omega arith
-    one_small false = omega arith
+    (omega (arith, was.0, now, at_most_one t), more_is ∙ ap (count_of 2 takes 0) next)

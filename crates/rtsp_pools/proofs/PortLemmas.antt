@@ -7,6 +7,7 @@ use Rattle.rtsp_record.specs.Rules.{InWhole}
 use Rattle.rtsp_pools.specs.declared.pair_pool.PairPool.{PairPool}
 use Rattle.rtsp_pools.specs.Bits.{has, IsPut, ArePairsOf}
 use Rattle.rtsp_pools.specs.Pools.{is_free_port, is_free_pair}
+use Rattle.rtsp_pools.proofs.ChanLemmas.{twice}
 
 -- a port of the whole is a bit, and so is a pair
 pub port_at : (pool : PairPool) (i : ℕ) → is_free_port pool (pool.whole.first_port + i) ≡ has pool.ports.words.items i
@@ -89,10 +90,6 @@ module _ {old mid new : List ℕ} (k : ℕ) {t : Bool} (one : IsPut (2 * k) t ol
   pair_paired pair =
       let first : has new (2 * k) ≡ t = two.others (2 * k) (λ e. absurd (omega (arith, e))) ∙ one.here in
       pairs_kept k pair old new (λ i apart. two.others i (λ e. apart (omega (arith, e))) ∙ one.others i (λ e. apart (omega (arith, e)))) (sym ((λ u. first u && two.here u) ∙ twice t))
-    where
-      twice : (u : Bool) → (u && u) ≡ u
-      twice true = refl
-      twice false = refl
 
   pub pair_put : (first p q : ℕ) → p ≡ first + 2 * k → first ≤ q → has new (q - first) ≡ cond (q == p || q == p + 1) t (has old (q - first))
   pair_put first p q at from =

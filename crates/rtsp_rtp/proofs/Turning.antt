@@ -1,5 +1,5 @@
 -- What a turn comes to.
-use Rattle.std.proofs.Common.{◌≡◌, ℕ, ◌-◌, ◌*◌, ◌≤◌, List, [], ◌∷◌, length, drop, take, refl, ap, ◌∙◌, subst, arith, length-drop, ⊎_elim, Result, Ok, Err}
+use Rattle.std.proofs.Common.{◌≡◌, ℕ, ◌+◌, ◌-◌, ◌*◌, ◌≤◌, List, [], ◌∷◌, length, drop, take, refl, ap, ◌∙◌, subst, arith, length-drop, ⊎_elim, Result, Ok, Err}
 use Rattle.std.specs.Prelude.{OnErr}
 use Rattle.std.proofs.lemmas.Option.{slice_get_within}
 use Rattle.std.proofs.Math.Seq.{take-length}
@@ -9,7 +9,8 @@ use Rattle.rtsp_record.specs.Moments.{due}
 use Rattle.rtsp_rtp.specs.declared.source.Source.{Source}
 use Rattle.rtsp_rtp.specs.Sinks.{Calls, raised}
 use Rattle.rtsp_rtp.specs.Pacing.{Pacing, IsOfPlay, IsPacing, schedule, units_in, packets_in}
-use Rattle.rtsp_rtp.specs.Turns.{PacketFailed, AllSent, SendsAll, SendsSome, Went, Failing}
+use Rattle.rtsp_rtp.specs.Turns.{unsent_at, PacketFailed, AllSent, SendsAll, SendsSome, Went, Failing}
+use Rattle.rtsp_rtp.proofs.Dues.{due_most}
 use Rattle.rtsp_rtp.proofs.Scheduling.{schedule-length}
 
 -- what holds at every failure
@@ -17,8 +18,7 @@ pub on_err : {T E P : Type 0} (r : Result T E) → P → OnErr r P
 on_err (Ok x) p = tt
 on_err (Err e) p = p
 
--- a pacer goes on with more packets sent, no more than there are
-pub going_on : (p : Pacing) (done : ℕ) → IsPacing p → done ≤ packets_in p → IsPacing (record p { done = done })
+going_on : (p : Pacing) (done : ℕ) → IsPacing p → done ≤ packets_in p → IsPacing (record p { done = done })
 going_on p done is within = record { playing = is.playing; unit = is.unit; unit_most = is.unit_most; few = is.few; short = is.short; sent = within }
 
 module _ {S : Type 0} (calls : Calls S) where
@@ -42,18 +42,23 @@ module _ {S : Type 0} (calls : Calls S) where
       record { sent = subst (λ (l : List (ℕ × Source)). AllSent calls phase l s u) (ap (λ (n : ℕ). take n left) all ∙ take-length left) sent; done = omega (arith, begun, all) }
 
   -- no more is sent than there is
-  pub all_within : (phase : Phase) (xs : List Source) (units before after : ℕ) (s u : S) → units ≤ units_in phase → before ≤ units_in phase * length xs
-      → SendsAll calls phase (drop before (schedule xs 0 units)) before after s u → after ≤ units_in phase * length xs
-  all_within phase xs units before after s u most was all =
-      let rows : units * length xs ≤ units_in phase * length xs = mul-le units (length xs) (units_in phase) (length xs) most (omega arith) in
-      omega (arith, rows, was, all.done, length-drop before (schedule xs 0 units), schedule-length xs 0 units)
+  within : (p : Pacing) (moment sent after : ℕ) → IsPacing p → after ≡ p.done + sent → sent ≤ length (unsent_at p moment) → after ≤ packets_in p
+  within p moment sent after is told most =
+      let units = due p.phase p.unit_ms moment in
+      let rows : units * length p.sources ≤ packets_in p = mul-le units (length p.sources) (units_in p.phase) (length p.sources) (due_most p.phase p.unit_ms moment) (omega arith) in
+      omega (arith, rows, is.sent, told, most, length-drop p.done (schedule p.sources 0 units), schedule-length p.sources 0 units)
 
-  pub some_within : (phase : Phase) (xs : List Source) (units before after : ℕ) (s u : S) → units ≤ units_in phase → before ≤ units_in phase * length xs
-      → SendsSome calls phase (drop before (schedule xs 0 units)) before after s u → after ≤ units_in phase * length xs
-  some_within phase xs units before after s u most was some =
-      let rows : units * length xs ≤ units_in phase * length xs = mul-le units (length xs) (units_in phase) (length xs) most (omega arith) in
-      let within = slice_get_within (drop before (schedule xs 0 units)) some.count some.next some.is_next in
-      omega (arith, rows, was, within, some.done, length-drop before (schedule xs 0 units), schedule-length xs 0 units)
+  pub all_within : (p : Pacing) (moment after : ℕ) (s u : S) → IsPacing p → SendsAll calls p.phase (unsent_at p moment) p.done after s u → after ≤ packets_in p
+  all_within p moment after s u is all = within p moment (length (unsent_at p moment)) after is all.done (omega arith)
+
+  -- a pacer goes on with more packets sent
+  pub all_on : (p : Pacing) (moment after : ℕ) (s u : S) → IsPacing p → SendsAll calls p.phase (unsent_at p moment) p.done after s u → IsPacing (record p { done = after })
+  all_on p moment after s u is all = going_on p after is (all_within p moment after s u is all)
+
+  pub some_on : (p : Pacing) (moment after : ℕ) (s u : S) → IsPacing p → SendsSome calls p.phase (unsent_at p moment) p.done after s u → IsPacing (record p { done = after })
+  some_on p moment after s u is some =
+      let there = slice_get_within (unsent_at p moment) some.count some.next some.is_next in
+      going_on p after is (within p moment some.count after is some.done (omega (arith, there)))
 
   -- a turn from what was sent in it
   pub went : (p old : Pacing) (session : ℕ) (phase : Phase) (moment units done : ℕ) (s u : S) → p ≡ old → IsOfPlay old session phase → units ≡ due p.phase p.unit_ms moment

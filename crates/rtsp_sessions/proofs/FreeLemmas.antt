@@ -32,9 +32,6 @@ pair_in w p le even = (
   λ h. let at = h.2 in lt-ltb _ _ (omega (arith, at, h.1)),
 )
 
-pub odd_pair : (w : Whole) (p : ℕ) → w.first_port ≤ p → (p - w.first_port) % 2 ≡ 1 → InWhole w (Pair p) → ⊥
-odd_pair w p le odd h = let at = h.2 in absurd (omega (arith, at, odd))
-
 pub free_pair : (w : Whole) (b : Book) (p : ℕ) (r : Bool) → InWhole w (Pair p) → r ≡ is_pair_free b p → (IsTrue r → IsFree w b (Pair p)) × (IsFree w b (Pair p) → IsTrue r)
 free_pair w b p r inside is = (
   λ h. pair_is_free w b p inside (sym is ∙ h),

@@ -1,12 +1,11 @@
 -- The chosen pair is the least: no free pair of the whole that is not below `from` is less, and where none is chosen there is none. So is the chosen port.
 use Rattle.std.proofs.Common.{◌≡◌, ℕ, ◌+◌, ◌*◌, ◌<◌, ◌≤◌, zero, suc, Bool, true, false, cond, refl, sym, ◌∙◌, ap, subst, arith}
 use Rattle.std.specs.Prelude.{Option, Some, None}
-use Rattle.std.proofs.Math.Nat.{one-mul}
 use Rattle.std.proofs.lemmas.Bool.Decides.{nat_tests}
 use Rattle.rtsp_record.specs.declared.holdings.Whole.{Whole}
 use Rattle.rtsp_record.specs.declared.phases.Phase.TheVariants.{Playing}
 use Rattle.rtsp_record.specs.Books.{Book}
-use Rattle.rtsp_record.specs.Choices.{from_on, is_port_free, is_pair_free, least_of, least_pair_by, least_pair, least_port_by, least_port}
+use Rattle.rtsp_record.specs.Choices.{from_on, is_pair_free, least_of, least_pair_by, least_pair}
 use Rattle.rtsp_record.proofs.Choices.{at_first, from_next}
 use Rattle.rtsp_record.specs.Moments.{due}
 
@@ -34,14 +33,6 @@ least_at step takes p (suc n) (suc k) lt h =
 pub least_is : (w : Whole) (b : Book) (from i : ℕ) → i < w.pairs → from ≤ w.first_port + 2 * i → is_pair_free b (w.first_port + 2 * i) ≡ true → AtMost (least_pair w b from) (w.first_port + 2 * i)
 unfolding least_pair_by
 least_is w b from i lt le free = least_at 2 (from_on from (is_pair_free b)) w.first_port w.pairs i lt (grind (arith, nat_tests))
-
-pub least_port_is : (w : Whole) (b : Book) (from i : ℕ) → i < 2 * w.pairs → from ≤ w.first_port + i → is_port_free b (w.first_port + i) ≡ true → AtMost (least_port w b from) (w.first_port + i)
-unfolding least_port_by
-least_port_is w b from i lt le free =
-    let at : w.first_port + 1 * i ≡ w.first_port + i = omega (arith, one-mul i) in
-    let takes = from_on from (is_port_free b) in
-    let is : takes (w.first_port + i) ≡ true = grind (arith, nat_tests) in
-    subst (AtMost (least_port w b from)) at (least_at 1 takes w.first_port (2 * w.pairs) i lt (ap takes at ∙ is))
 
 -- how far a play of 500 units of 20 milliseconds is
 due_first : due (Playing 0 500 0 0) 20 0 ≡ 1

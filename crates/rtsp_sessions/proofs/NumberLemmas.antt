@@ -214,9 +214,6 @@ above_put a k f (e ∷ es) h =
       | false ↦ above_put a k f es h
     ])
 
-not_above : (a : Option ℕ) (k q : ℕ) → is_above a q ≡ false → k < q → is_above a k ≡ false
-not_above a k q h lt = elim (is_above a k) as (λ t. is_above a k ≡ t → t ≡ false) [ true ↦ λ on. sym (above_more a k q on lt) ∙ h | false ↦ λ _. refl ] refl
-
 -- one that isn't above
 pub below_put : (a : Option ℕ) (k : ℕ) (f : Session) (es : List (ℕ × Session)) → is_above a k ≡ false → numbers_above a (put nat_cmp k f es) ≡ numbers_above a es
 below_put a k f [] h = above-skip a (k, f) [] h
@@ -245,12 +242,6 @@ first_more a k n found new es i e sorted lt is number on before put =
     ∙ ap (λ m. take k (inserted m (numbers_above a (drop (suc i) es)))) number
     ∙ ap (take k) (above_first a e.0 (drop (suc i) es) below ∙ sym (above-cons a e (drop (suc i) es) (ap (is_above a) (sym number) ∙ on)))
     ∙ sym (ap (λ (l : List (ℕ × Session)). take k (numbers_above a l)) split)
-
-pub first_skipped : (a : Option ℕ) (k n : ℕ) (found : List ℕ) (es : List (ℕ × Session)) (i : ℕ) (e : ℕ × Session) → i < length es → get_or es i e ≡ e → n ≡ e.0 → is_above a n ≡ false
-    → found ≡ take k (numbers_above a (drop (suc i) es)) → found ≡ take k (numbers_above a (drop i es))
-first_skipped a k n found es i e lt is number off before =
-    let split : drop i es ≡ e ∷ drop (suc i) es = drop-cons es i e lt ∙ ap (λ (x : ℕ × Session). x ∷ drop (suc i) es) is in
-    before ∙ ap (take k) (sym (above-skip a e (drop (suc i) es) (ap (is_above a) (sym number) ∙ off))) ∙ sym (ap (λ (l : List (ℕ × Session)). take k (numbers_above a l)) split)
 
 pub sorted_drop : (es : List (ℕ × Session)) (i : ℕ) → T (is_sorted nat_cmp es) → T (is_sorted nat_cmp (drop i es))
 sorted_drop es zero h = h

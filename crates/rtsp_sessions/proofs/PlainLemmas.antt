@@ -7,7 +7,7 @@ use Rattle.std.specs.Ordering.{nat_cmp}
 use Rattle.std.specs.FinMap.{get, entries, empty, empty_of_len, len-entries, len-empty}
 use Rattle.rtsp_record.specs.Tables.{Table}
 use Rattle.rtsp_record.specs.declared.holdings.Admission.{Admission}
-use Rattle.rtsp_record.specs.Books.{Session, opening, opened, under}
+use Rattle.rtsp_record.specs.Books.{Session, under}
 use Rattle.rtsp_record.specs.Sums.{one_if, is_holding, others_holding}
 use Rattle.rtsp_record.proofs.Sound.{holding-others}
 use Rattle.rtsp_sessions.specs.Lookups.{session_at}
@@ -21,9 +21,6 @@ none_empty t h = empty_of_len t (len-entries t ∙ h)
 
 pub empty_none : {X : Type 0} (t : Table X) → t ≡ empty → length (entries t) ≡ 0
 empty_none {X} t h = ap (λ (t : Table X). length (entries t)) h ∙ sym (len-entries (empty {K = ℕ} {X = X} {R = nat_cmp})) ∙ len-empty nat_cmp X
-
-pub same_opened : (f : Session) (id c e : ℕ) → f.id ≡ id → f.conn ≡ c → f.expires ≡ e → f.phase ≡ opening → f.binding ≡ None → f.admissions ≡ empty → f ≡ opened id c e
-same_opened f id c e one two three four five six = λ t. record { id = one t; conn = two t; expires = three t; phase = four t; binding = five t; admissions = six t }
 
 -- What a change of the list of rows makes of the table, where the list was read through a slice.
 module _ {X : Type 0} where

@@ -8,7 +8,6 @@ use Rattle.rtsp_text.specs.Options.{◌>>=◌}
 use Rattle.rtsp_text.specs.SplitOnce.{split_once}
 use Rattle.rtsp_text.specs.Decimal.{SpellsNumber, number_of}
 use Rattle.rtsp_transport.specs.Address.{Place, Places, SpellsPlace, SpellsPlaces, SpellsQuoted, after, alone, whole, quoted_of, quoted_pair, quoted_whole, port_in, port_of, place_of, quoted_place_of, places_of}
-use Rattle.rtsp_text.proofs.ByteLemmas.{eqb_same}
 use Rattle.rtsp_text.proofs.SplitLemmas.{split_parts, split_found}
 use Rattle.rtsp_text.proofs.FindsLemmas.{chain_found, sound_at}
 use Rattle.rtsp_text.proofs.DecimalLemmas.{numbers}
@@ -19,9 +18,6 @@ after_found byte (b ∷ bytes) rest e = go (eqb b byte) refl e where
   go : (x : Bool) → eqb b byte ≡ x → cond x (Some bytes) None ≡ Some rest → b ∷ bytes ≡ byte ∷ rest
   go true q h = let same = eqb-true b byte q in cc
   go false q h = absurd cc
-
-pub after_some : (byte : ℕ) (rest : List ℕ) → after byte (byte ∷ rest) ≡ Some rest
-after_some byte rest = rw (eqb_same byte) refl
 
 abbrev Quotes : List ℕ → List ℕ → List ℕ → Type 0
 Quotes text inner rest = (text ≡ 34 ∷ inner ++ 34 ∷ rest) × (list_all (is_other 34) inner ≡ true)

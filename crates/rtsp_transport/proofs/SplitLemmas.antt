@@ -4,7 +4,7 @@ use Rattle.std.specs.Prelude.{not, ◌&&◌}
 use Rattle.std.specs.Borrow.{Bor}
 use Rattle.std.proofs.lemmas.Bool.{ne_eqb}
 use Rattle.std.proofs.lemmas.List.{append-nil, drop_more, drop_all, take_more, get_or-drop, length-drop, map-append}
-use Rattle.rtsp_transport.specs.Split.{is_closed, onto_first, split}
+use Rattle.rtsp_transport.specs.Split.{onto_first, split}
 use Rattle.rtsp_text.specs.Slices.{texts}
 
 pub onto_onto : (xs : List ℕ) (b : ℕ) (parts : List (List ℕ)) → onto_first xs (onto_first (b ∷ []) parts) ≡ onto_first (xs ++ b ∷ []) parts
@@ -90,11 +90,6 @@ pub texts_push : (old new : List (Bor (List ℕ))) (last : Bor (List ℕ)) (piec
 texts_push old new last piece n e = ap texts n ∙ map-append (λ (s : Bor (List ℕ)). s.now) old (last ∷ []) ∙ ap (λ (p : List ℕ). texts old ++ p ∷ []) e
 
 -- ---- quotes
-
-pub closed_more : (text : List ℕ) (i : ℕ) (inside next : Bool) (total : Bool) → i < length text → next ≡ cond (eqb (get_or text i 0) 34) (not inside) inside
-    → is_closed inside (drop i text) ≡ total → is_closed next (drop (i + 1) text) ≡ total
-closed_more text i inside next total lt n so_far =
-    ap (λ (x : Bool). is_closed x (drop (i + 1) text)) n ∙ ap (is_closed inside) (sym (drop_more text i 0 lt)) ∙ so_far
 
 -- ---- the branches of the loop, by their equations
 

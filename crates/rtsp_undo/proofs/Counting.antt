@@ -6,6 +6,7 @@ use Rattle.rtsp_record.specs.declared.holdings.Whole.{Whole}
 use Rattle.rtsp_record.specs.Sums.{one_if}
 use Rattle.rtsp_record.specs.Choices.{least_of, count_of, from_on, least_pair_by}
 use Rattle.rtsp_record.proofs.Choices.{least_found, pair_found}
+use Rattle.rtsp_record.proofs.Sound.{at_most_one}
 use Rattle.rtsp_undo.proofs.Pools.{count_same}
 
 -- from a number on, and before it
@@ -18,11 +19,7 @@ off_before from q takes lt = ap (λ t. t && takes q) (lt-leb from q lt)
 pub count_few : (step : ℕ) (takes : ℕ → Bool) (p n : ℕ) → count_of step takes p n ≤ n
 unfolding count_of
 count_few step takes p zero = omega arith
-count_few step takes p (suc n) = omega (arith, at_most (takes p), count_few step takes (p + step) n)
-  where
-    at_most : (t : Bool) → one_if t ≤ 1
-    at_most true = omega arith
-    at_most false = omega arith
+count_few step takes p (suc n) = omega (arith, at_most_one (takes p), count_few step takes (p + step) n)
 
 -- after the least one there is one less
 next_of : (takes : ℕ → Bool) (from p n l : ℕ) → least_of 2 (from_on from takes) p n ≡ Some l → count_of 2 (from_on from takes) p n ≡ 1 + count_of 2 (from_on (l + 1) takes) p n

@@ -1,7 +1,7 @@
 use Rattle.std.proofs.Common.{List, subst}
 use Rattle.rtsp_record.specs.declared.changes.Record.{Record}
-use Rattle.rtsp_book.specs.Receipts.{freed_pairs, freed_ports}
-use Rattle.rtsp_admit.specs.Binder.{UnboundAll, as_pairs, as_ports}
+use Rattle.rtsp_admit.specs.declared.udp_ports.UdpPorts.TheVariants as udp
+use Rattle.rtsp_admit.specs.Binder.{UnboundAll, freed_of}
 use Rattle.rtsp_admit.proofs.Having.{unbound_then}
 use Rattle.rtsp_admit.proofs.binder.unbind_freed.Goals as goal
 
@@ -11,8 +11,8 @@ returns g c =
     let made = c.args.made.now in
     let is = c.records-changes.ensures.value in
     let b = c.args.binder.now in
-    let d = c.unbind_pairs.new.binder in
-    let e = c.unbind_ports.new.binder in
-    let pairs = subst (λ (rs : List Record). UnboundAll calls (as_pairs (freed_pairs rs)) b d) is c.unbind_pairs.ensures in
-    let ports = subst (λ (rs : List Record). UnboundAll calls (as_ports (freed_ports rs)) d e) is c.unbind_ports.ensures in
-    unbound_then calls (as_pairs (freed_pairs made)) (as_ports (freed_ports made)) b d e pairs ports
+    let d = c.unbind_all.new.binder in
+    let e = c.unbind_all-2.new.binder in
+    let pairs = subst (λ (rs : List Record). UnboundAll calls (freed_of udp.Pair rs) b d) is c.unbind_all.ensures in
+    let ports = subst (λ (rs : List Record). UnboundAll calls (freed_of udp.Port rs) d e) is c.unbind_all-2.ensures in
+    unbound_then calls (freed_of udp.Pair made) (freed_of udp.Port made) b d e pairs ports

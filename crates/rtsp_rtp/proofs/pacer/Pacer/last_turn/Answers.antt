@@ -1,22 +1,16 @@
 use Rattle.std.proofs.Common.{◌<◌, ◌^◌, ℕ, sym, subst}
-use Rattle.rtsp_record.specs.Moments.{due}
 use Rattle.rtsp_rtp.specs.Pacing.{Pacing, units_in}
 use Rattle.rtsp_rtp.specs.Turns.{unsent_at, SendsAll, SendsSome}
 use Rattle.rtsp_rtp.specs.Progress.{pacing_of}
 use Rattle.rtsp_rtp.specs.PacerView.{pacing_view}
-use Rattle.rtsp_rtp.proofs.Dues.{due_most}
-use Rattle.rtsp_rtp.proofs.Turning.{all_count, some_count, all_within, some_within, going_on}
+use Rattle.rtsp_rtp.proofs.Turning.{all_count, some_count, all_on, some_on}
 use Rattle.rtsp_rtp.proofs.Departing.{completed, continued, interrupted}
 use Rattle.rtsp_rtp.proofs.pacer.Pacer.last_turn.Goals as goal
 
 pub invariant_of-self : goal.invariant_of-self
 invariant_of-self g c =
-    let p = pacing_view c.self.inside in
-    let q = pacing_of c.self.inside.play c.send_due.new.at in
-    let is = c.self.invariant.pacing in
-    let until = c.min-until.result in
     record {
-      pacing = going_on p q.done is (some_within g.S.Sink.calls p.phase p.sources (due p.phase p.unit_ms until) p.done q.done c.args.sink.now c.send_due.new.sink (due_most p.phase p.unit_ms until) is.sent c.in-Err.ensures.err);
+      pacing = some_on g.S.Sink.calls (pacing_view c.self.inside) c.min-until.result (pacing_of c.self.inside.play c.send_due.new.at).done _ _ c.self.invariant.pacing c.in-Err.ensures.err;
       placed = c.in-Err.ensures.placed;
     }
 
@@ -36,12 +30,8 @@ returns-in-Err-clause-counted g c =
 
 pub invariant_of-self-then-moment-left : goal.invariant_of-self-then-moment-left
 invariant_of-self-then-moment-left g c =
-    let p = pacing_view c.self.inside in
-    let q = pacing_of c.self.inside.play c.send_due.new.at in
-    let is = c.self.invariant.pacing in
-    let until = c.min-until.result in
     record {
-      pacing = going_on p q.done is (all_within g.S.Sink.calls p.phase p.sources (due p.phase p.unit_ms until) p.done q.done c.args.sink.now c.send_due.new.sink (due_most p.phase p.unit_ms until) is.sent c.in_default-send_due.ensures.ok);
+      pacing = all_on g.S.Sink.calls (pacing_view c.self.inside) c.min-until.result (pacing_of c.self.inside.play c.send_due.new.at).done _ _ c.self.invariant.pacing c.in_default-send_due.ensures.ok;
       placed = c.in_default-send_due.ensures.placed;
     }
 
@@ -61,12 +51,8 @@ returns-then-moment-left-clause-counted g c =
 
 pub invariant_of-self-2 : goal.invariant_of-self-2
 invariant_of-self-2 g c =
-    let p = pacing_view c.self.inside in
-    let q = pacing_of c.self.inside.play c.send_due.new.at in
-    let is = c.self.invariant.pacing in
-    let until = c.min-until.result in
     record {
-      pacing = going_on p q.done is (all_within g.S.Sink.calls p.phase p.sources (due p.phase p.unit_ms until) p.done q.done c.args.sink.now c.send_due.new.sink (due_most p.phase p.unit_ms until) is.sent c.in_default-send_due.ensures.ok);
+      pacing = all_on g.S.Sink.calls (pacing_view c.self.inside) c.min-until.result (pacing_of c.self.inside.play c.send_due.new.at).done _ _ c.self.invariant.pacing c.in_default-send_due.ensures.ok;
       placed = c.in_default-send_due.ensures.placed;
     }
 
