@@ -20,7 +20,7 @@ pub enum Version {
 
 impl Version {
     /// The version that a text is. Only another than 2.0 takes memory.
-    #[inline]
+    #[inline(always)]
     #[tactic(auto, unfolding(crate::specs::Reading::version_of))]
     pub(crate) fn from_slice(alloc: Global, text: &[u8]) -> Result<Version, AllocError>
         ensures { IfOk result (λ version. version ≡ version_of text.now) }
@@ -43,7 +43,7 @@ impl Version {
 }
 
 /// Whether this is the protocol's name, a slash, and two numbers with a dot between them.
-#[inline]
+#[inline(always)]
 pub fn is_version(text: &[u8]) -> bool
     ensures { result ≡ is_version text.now }
 {
@@ -51,6 +51,7 @@ pub fn is_version(text: &[u8]) -> bool
 }
 
 // The same, where it isn't the version that nearly all have.
+#[cold]
 fn is_any_version(text: &[u8]) -> bool
     ensures { result ≡ is_version text.now }
 {
@@ -63,7 +64,7 @@ fn is_any_version(text: &[u8]) -> bool
     }
 }
 
-#[inline]
+#[inline(always)]
 fn is_version_2_0(text: &[u8]) -> bool
     ensures { result ≡ is_version_2_0 text.now }
 {
@@ -71,6 +72,7 @@ fn is_version_2_0(text: &[u8]) -> bool
 }
 
 // The same, where there may be leading zeros.
+#[cold]
 fn has_numbers_2_0(text: &[u8]) -> bool
     ensures { result ≡ is_version_2_0 text.now }
 {
