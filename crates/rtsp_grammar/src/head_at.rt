@@ -1,6 +1,6 @@
 //! Finding a head: its first line, its header lines, and the empty line that ends them.
 
-ghost use Rattle.std.specs.Prelude.{◌≡◌};
+ghost use Rattle.std.specs.Prelude.{◌≡◌, ◌∷◌, IfSome, IfNone};
 ghost use Rattle.rtsp_grammar.specs.HeadAt.{IsHeaderLinesAt, IsHeadAt};
 ghost use Rattle.rtsp_grammar.specs.Item.{BeginsBlank};
 
@@ -40,6 +40,17 @@ enum HeaderLinesAt<'a> {
     Open,
 }
 
+// What follows the empty line at the front.
+fn after_empty_line(bytes: &[u8]) -> Option<&[u8]>
+    ensures some { IfSome result (λ rest. bytes.now ≡ 13 ∷ 10 ∷ rest.now) }
+    ensures none { IfNone result (¬ BeginsBlank bytes.now) }
+{
+    match bytes {
+        [b'\r', b'\n', rest @ ..] => Some(rest),
+        _ => None,
+    }
+}
+
 // The header lines at the front, up to the first empty line.
 fn header_lines_at(bytes: &[u8]) -> HeaderLinesAt<'_>
     ensures { IsHeaderLinesAt bytes.now result }
@@ -47,16 +58,16 @@ fn header_lines_at(bytes: &[u8]) -> HeaderLinesAt<'_>
     let mut count = 0;
     let mut left = bytes;
     'lines: loop {
+        if let Some(rest) = after_empty_line(left) {
+            let headers = &bytes[..bytes.len() - left.len()];
+            return HeaderLinesAt::Ended {
+                headers,
+                count,
+                rest,
+            };
+        }
         match line_at(left) {
             Line::Ended { line, rest } => {
-                if line.is_empty() {
-                    let headers = &bytes[..bytes.len() - left.len()];
-                    return HeaderLinesAt::Ended {
-                        headers,
-                        count,
-                        rest,
-                    };
-                }
                 if !begins_blank(line) {
                     count += 1;
                 }

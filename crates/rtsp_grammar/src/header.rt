@@ -177,10 +177,10 @@ impl HeadersBuilder {
     ) -> Result<HeadersBuilder, AllocError>
         ensures { IfOk result (λ d. (d.headers ≡ []) × (lines ≤ d.lines) × (bytes ≤ d.bytes)) }
     {
-        let mut headers = HeadersBuilder::new(alloc);
-        headers.places.reserve(lines)?;
-        headers.bytes.reserve(bytes)?;
-        Ok(headers)
+        Ok(HeadersBuilder {
+            bytes: Vec::with_capacity(alloc, bytes)?,
+            places: Vec::with_capacity(alloc, lines)?,
+        })
     }
 
     /// Adds a header at the end, or nothing. It takes no memory where there is room.

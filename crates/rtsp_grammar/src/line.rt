@@ -23,7 +23,8 @@ pub enum Line<'a> {
     Open { line: &'a [u8] },
 }
 
-// How many bytes there are before the first CR or LF.
+// How many bytes there are before the first CR or LF. Apart, so that one number is handed on.
+#[inline(never)]
 fn plain_len(bytes: &[u8]) -> usize
     ensures { IsSpan is_line_byte bytes.now result }
 {
@@ -31,6 +32,7 @@ fn plain_len(bytes: &[u8]) -> usize
 }
 
 /// The line at the front.
+#[inline]
 pub fn line_at(bytes: &[u8]) -> Line<'_>
     ensures { IsLineAt bytes.now result }
 {

@@ -20,6 +20,7 @@ pub enum Version {
 
 impl Version {
     /// The version that a text is. Only another than 2.0 takes memory.
+    #[inline(always)]
     #[tactic(auto, unfolding(crate::specs::Reading::version_of))]
     pub(crate) fn from_slice(alloc: Global, text: &[u8]) -> Result<Version, AllocError>
         ensures { IfOk result (λ version. version ≡ version_of text.now) }
@@ -42,7 +43,16 @@ impl Version {
 }
 
 /// Whether this is the protocol's name, a slash, and two numbers with a dot between them.
+#[inline(always)]
 pub fn is_version(text: &[u8]) -> bool
+    ensures { result ≡ is_version text.now }
+{
+    is_word(text, b"RTSP/2.0") || is_any_version(text)
+}
+
+// The same, where it isn't the version that nearly all have.
+#[cold]
+fn is_any_version(text: &[u8]) -> bool
     ensures { result ≡ is_version text.now }
 {
     let [b'R', b'T', b'S', b'P', b'/', numbers @ ..] = text else {
@@ -54,13 +64,19 @@ pub fn is_version(text: &[u8]) -> bool
     }
 }
 
+#[inline(always)]
 fn is_version_2_0(text: &[u8]) -> bool
     ensures { result ≡ is_version_2_0 text.now }
 {
-    if is_word(text, b"RTSP/2.0") {
-        return true;
-    }
-    if !is_version(text) {
+    is_word(text, b"RTSP/2.0") || has_numbers_2_0(text)
+}
+
+// The same, where there may be leading zeros.
+#[cold]
+fn has_numbers_2_0(text: &[u8]) -> bool
+    ensures { result ≡ is_version_2_0 text.now }
+{
+    if !is_any_version(text) {
         return false;
     }
     match split_once(&text[5..], b'.') {

@@ -27,10 +27,13 @@ impl Model for Text {
 }
 
 impl Text {
-    /// A copy of the bytes.
+    /// A copy of the bytes. An empty one takes no memory.
     pub fn from_slice(alloc: Global, bytes: &[u8]) -> Result<Text, AllocError>
         ensures { IfOk result (λ t. t ≡ bytes.now) }
     {
+        if bytes.is_empty() {
+            return Ok(Text::fixed(b""));
+        }
         Ok(Text {
             bytes: Bytes::Owned(Vec::from_slice(alloc, bytes)?),
         })
