@@ -30,6 +30,22 @@ IsSeatOf s l = s.seat.table_id ≡ l.table.shared.table_id
 abbrev pub SameSeat : BookSeat → BookSeat → Type 0
 SameSeat s t = (t.seat.table_id ≡ s.seat.table_id) × (t.seat.id ≡ s.seat.id)
 
+-- it knows as much of itself: whether its lock has other seats, and whether it keeps entries
+abbrev pub KnowsSame : BookSeat → BookSeat → Type 0
+KnowsSame s t = (t.is_shared ≡ s.is_shared) × (t.keeps_entries ≡ s.keeps_entries)
+
+-- it knows that its lock has other seats, and keeps entries where that one does
+abbrev pub IsSharedAs : BookSeat → BookSeat → Type 0
+IsSharedAs s t = (t.is_shared ≡ true) × (t.keeps_entries ≡ s.keeps_entries)
+
+-- it keeps entries from here on
+abbrev pub KeepsEntries : BookSeat → BookSeat → Type 0
+KeepsEntries s t = (t.is_shared ≡ s.is_shared) × (t.keeps_entries ≡ true)
+
+-- its lock has no other seat, and it may shorten the journal
+abbrev pub IsNewSeat : BookSeat → Type 0
+IsNewSeat s = (s.is_shared ≡ false) × (s.keeps_entries ≡ false)
+
 -- a journal that a call found, in a round: legal, within its limit, no earlier than what the seat had seen; of the seat's own entries it has
 -- all but what was forgotten, or restated by a checkpoint
 pub record Found (v : View) (j : List Entry) (r : ℕ) : Type 0 where

@@ -1,5 +1,5 @@
 -- Numbers with commas.
-use Rattle.std.proofs.Common.{◌≡◌, ℕ, zero, suc, ◌+◌, ◌-◌, ◌<◌, ◌≤◌, ◌/◌, ◌%◌, List, ◌++◌, codes, decimal, refl, arith, ap, sub-one}
+use Rattle.std.proofs.Common.{◌≡◌, ℕ, zero, suc, ◌-◌, ◌<◌, ◌≤◌, ◌/◌, ◌%◌, ◌++◌, codes, decimal, refl, arith, sub-one}
 use Rattle.std.proofs.lemmas.Bool.Decides.{nat_tests}
 use Rattle.rtsp_text.specs.Decimal.{three_digits}
 use Rattle.rtsp_metrics.specs.Page.{groups}

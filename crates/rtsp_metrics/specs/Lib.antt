@@ -1,3 +1,4 @@
+pub mod Kinds
 pub mod Families
 pub mod Figures
 pub mod FigureLines

@@ -2,11 +2,9 @@
 use Rattle.std.specs.Prelude.{ℕ, zero, suc, ◌+◌, ◌/◌, ◌%◌, nat_lt, List, [], ◌∷◌, ◌++◌, codes, decimal, if◌then◌else◌}
 use Rattle.std.specs.List.{concat}
 use Rattle.rtsp_text.specs.Decimal.{three_digits}
-use Rattle.rtsp_metrics.specs.declared.snapshot.BookFigures.{BookFigures}
 use Rattle.rtsp_metrics.specs.declared.snapshot.ByMethod.{ByMethod}
 use Rattle.rtsp_metrics.specs.declared.snapshot.ByOutcome.{ByOutcome}
 use Rattle.rtsp_metrics.specs.declared.snapshot.Counts.{Counts}
-use Rattle.rtsp_metrics.specs.declared.snapshot.Held.{Held}
 use Rattle.rtsp_metrics.specs.declared.snapshot.Lateness.{Lateness}
 use Rattle.rtsp_metrics.specs.declared.snapshot.Refusals.{Refusals}
 use Rattle.rtsp_metrics.specs.declared.snapshot.Snapshot.{Snapshot}

@@ -1,5 +1,8 @@
 //! What requests and answers are counted by.
 
+ghost use Rattle.std.specs.Prelude.{◌≡◌, ◌↔◌, IsTrue};
+ghost use Rattle.rtsp_metrics.specs.Kinds.{IsMethodOf, IsOutcomeOf, IsRefusalOf};
+
 /// The method of a request, as the figures name it.
 #[derive(Clone, Copy, PartialEq, Eq)]
 pub enum Method {
@@ -35,31 +38,51 @@ pub enum Refusal {
     Other,
 }
 
-// The names of the methods that are counted by themselves.
-const NAMES: [(&[u8], Method); 8] = [
-    (b"OPTIONS", Method::Options),
-    (b"DESCRIBE", Method::Describe),
-    (b"SETUP", Method::Setup),
-    (b"PLAY", Method::Play),
-    (b"PAUSE", Method::Pause),
-    (b"TEARDOWN", Method::Teardown),
-    (b"GET_PARAMETER", Method::GetParameter),
-    (b"SET_PARAMETER", Method::SetParameter),
-];
+// Whether a text is this word.
+fn is_word(text: &[u8], word: &[u8]) -> bool
+    ensures { IsTrue result ↔ (text.now ≡ word.now) }
+{
+    text == word
+}
 
 impl Method {
     /// The method of this name; any other name is `Other`.
-    pub fn of(name: &[u8]) -> Method {
-        NAMES
-            .iter()
-            .find(|known| known.0 == name)
-            .map_or(Method::Other, |known| known.1)
+    pub fn of(name: &[u8]) -> Method
+        ensures { IsMethodOf name.now result }
+    {
+        if is_word(name, b"OPTIONS") {
+            return Method::Options;
+        }
+        if is_word(name, b"DESCRIBE") {
+            return Method::Describe;
+        }
+        if is_word(name, b"SETUP") {
+            return Method::Setup;
+        }
+        if is_word(name, b"PLAY") {
+            return Method::Play;
+        }
+        if is_word(name, b"PAUSE") {
+            return Method::Pause;
+        }
+        if is_word(name, b"TEARDOWN") {
+            return Method::Teardown;
+        }
+        if is_word(name, b"GET_PARAMETER") {
+            return Method::GetParameter;
+        }
+        if is_word(name, b"SET_PARAMETER") {
+            return Method::SetParameter;
+        }
+        Method::Other
     }
 }
 
 impl Outcome {
     /// Of this status. One below 300 is a success, one from 500 on an error of the server.
-    pub fn of(status: u16) -> Outcome {
+    pub fn of(status: u16) -> Outcome
+        ensures { IsOutcomeOf status result }
+    {
         match status {
             0..=299 => Outcome::Success,
             300..=399 => Outcome::Redirection,
@@ -71,7 +94,9 @@ impl Outcome {
 
 impl Refusal {
     /// Of this status. None below 400.
-    pub fn of(status: u16) -> Option<Refusal> {
+    pub fn of(status: u16) -> Option<Refusal>
+        ensures { IsRefusalOf status result }
+    {
         match status {
             0..=399 => None,
             404 => Some(Refusal::Path),
