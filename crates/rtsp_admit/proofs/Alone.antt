@@ -14,7 +14,6 @@ use Rattle.rtsp_lock.specs.Calls.{Acted}
 use Rattle.rtsp_lock.proofs.Entries.{only_by}
 use Rattle.rtsp_admit.specs.Binder.{Calls}
 use Rattle.rtsp_admit.specs.Refused.{is_use_of}
-use Rattle.rtsp_admit.specs.Runs.{State, Admits}
 use Rattle.rtsp_admit.specs.Numbers.{admission_of, OwnsAll, OwnsAllLasts, AdmissionsKeepAll, RefusalsLeaveNothingAlone}
 use Rattle.rtsp_admit.proofs.Drawing.{acts_use_drawn, looks_use_drawn}
 use Rattle.rtsp_admit.proofs.Keeping.{admissions_keep}

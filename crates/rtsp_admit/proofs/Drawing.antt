@@ -7,8 +7,6 @@ use Rattle.std.proofs.lemmas.List.Elements.{filter-append}
 use Rattle.std.specs.FinMap.{get, entries}
 use mathlib.Core.List.{IsPrefix}
 use Rattle.rtsp_record.specs.declared.holdings.Admission.{Admission}
-use Rattle.rtsp_record.specs.declared.holdings.Thing.{Thing}
-use Rattle.rtsp_record.specs.declared.holdings.Thing.TheVariants.{Rate}
 use Rattle.rtsp_record.specs.declared.holdings.Whole.{Whole}
 use Rattle.rtsp_record.specs.declared.phases.Phase.{Phase}
 use Rattle.rtsp_record.specs.declared.phases.Phase.TheVariants.{Ready, Playing, Ended}
@@ -18,7 +16,7 @@ use Rattle.rtsp_record.specs.declared.changes.Record.{Record}
 use Rattle.rtsp_record.specs.declared.changes.Record.TheVariants as change
 use Rattle.rtsp_record.specs.Books.{Session, Book, book_of}
 use Rattle.rtsp_record.specs.Moments.{point, sent_with_due}
-use Rattle.rtsp_record.specs.Records.{holds, adds, moves, touches}
+use Rattle.rtsp_record.specs.Records.{adds, moves, touches}
 use Rattle.rtsp_book.specs.declared.asks.Ask.{Ask}
 use Rattle.rtsp_book.specs.declared.refusals.Refusal.{Refusal}
 use Rattle.rtsp_sessions.specs.declared.startups.Startup.{Startup}
