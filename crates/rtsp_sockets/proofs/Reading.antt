@@ -1,6 +1,6 @@
 -- What is read of a file's front.
 use Rattle.std.proofs.Common.{◌≡◌, ◌≤◌, ℕ, ◌+◌, ◌-◌, ◌*◌, List, Option, Some, Result, Ok, Err, ◌∙◌, ap, subst, sym, take, drop, take-take, length, arith}
-use Rattle.std.specs.Prelude.{slice_range, slice_get, None, IfSome, OnOk}
+use Rattle.std.specs.Prelude.{slice_range, slice_get, None, IfSome, IfNone, OnOk, unwrap_or}
 use Rattle.std.specs.Global.{Vec}
 use Rattle.std.proofs.lemmas.List.{drop-take}
 use Rattle.rtsp_sockets.specs.declared.media.Place.{Place}
@@ -36,3 +36,16 @@ found_stand text (Err e) files places presentation track unit octets place file 
 pub found_place : (places : List (Vec Place)) (presentation track : ℕ) (tracks : Vec Place) (r : Option Place) → slice_get places presentation ≡ Some tracks → slice_get tracks.items track ≡ r → IfSome r (IsPlaceOf places presentation track)
 found_place places presentation track tracks (Some place) here there = record { tracks = tracks; of_presentation = here; of_track = there }
 found_place places presentation track tracks None here there = tt
+
+-- two places of one track are the same
+same_place : (places : List (Vec Place)) (presentation track : ℕ) (tracks : Vec Place) (r : Option Place) (place : Place) → slice_get places presentation ≡ Some tracks → slice_get tracks.items track ≡ r
+    → IsPlaceOf places presentation track place → r ≡ Some place
+same_place places presentation track tracks r place here there is =
+    let tracks_is : is.tracks ≡ tracks = ap (λ (o : Option (Vec Place)). unwrap_or o tracks) (sym is.of_presentation ∙ here) in
+    sym there ∙ ap (λ (t : Vec Place). slice_get t.items track) (sym tracks_is) ∙ is.of_track
+
+-- a track without a place has none
+pub no_place : (places : List (Vec Place)) (presentation track : ℕ) (tracks : Vec Place) (r : Option Place) → slice_get places presentation ≡ Some tracks → slice_get tracks.items track ≡ r
+    → IfNone r ((place : Place) → ¬ IsPlaceOf places presentation track place)
+no_place places presentation track tracks (Some place) here there = tt
+no_place places presentation track tracks None here there = λ place is. subst (λ (o : Option Place). IfSome o (λ _. ⊥)) (same_place places presentation track tracks None place here there is) tt

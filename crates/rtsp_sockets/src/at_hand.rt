@@ -1,7 +1,7 @@
 //! Which units can be had at once, and what is read so that the next ones can.
 
-ghost use Rattle.std.specs.Prelude.{◌≤◌, IfOk, IsTrue, vec_len};
-ghost use Rattle.rtsp_sockets.specs.Media.{IsInMemory};
+ghost use Rattle.std.specs.Prelude.{◌≡◌, ◌≤◌, IfOk, IsTrue, vec_len, if◌then◌else◌};
+ghost use Rattle.rtsp_sockets.specs.Media.{IsInMemory, are_held};
 
 use crate::chunks::chunks_of;
 use crate::media::MediaOf;
@@ -55,12 +55,20 @@ impl<F: ReadAt> MediaOf<F> {
         }
     }
 
+    // Whether all files are held in memory.
+    fn are_held(&self) -> bool
+        ensures { result ≡ are_held (λ file. file.held) self.now.files.items }
+    {
+        self.files.iter().all(|file| file.held.is_some())
+    }
+
     /// What the threads that read ahead begin with: none where all files are held in memory.
     pub fn readers(&self, alloc: Global) -> Result<Vec<Reader>, AllocError>
-        ensures { IfOk result (λ r. vec_len r ≤ READERS) }
+        ensures few { IfOk result (λ r. vec_len r ≤ READERS) }
+        ensures count { IfOk result (λ r. vec_len r ≡ (if are_held (λ file. file.held) self.now.files.items then 0 else READERS)) }
     {
         let mut readers = Vec::new(alloc);
-        if self.files.iter().all(|file| file.held.is_some()) {
+        if self.are_held() {
             return Ok(readers);
         }
         for _count in 0..READERS {

@@ -1,6 +1,6 @@
 //! Room that all connections share, and what one of them has of it.
 
-ghost use Rattle.std.specs.Prelude.{◌≡◌, ◌≤◌, min, max, IfSome};
+ghost use Rattle.std.specs.Prelude.{◌≡◌, ◌≤◌, min, max, IfSome, IsTrue};
 ghost use Rattle.std.specs.Bool.{OnTrue, OnFalse};
 
 use std::alloc::{AllocError, Global};
@@ -94,6 +94,7 @@ impl Loan {
     pub fn cover(&mut self, bytes: usize) -> bool
         ensures covered { OnTrue result (self.new ≡ max self.old bytes) }
         ensures refused { OnFalse result (self.new ≡ self.old) }
+        ensures enough { bytes ≤ self.old → IsTrue result }
     {
         if bytes <= self.bytes {
             return true;

@@ -1,7 +1,8 @@
 //! The files of the tracks.
 
-ghost use Rattle.std.specs.Prelude.{◌≡◌, IfSome, OnOk, option_copied, slice_get};
-ghost use Rattle.rtsp_sockets.specs.Media.{IsPlaceOf, StandInFile};
+ghost use Rattle.std.specs.Prelude.{◌≡◌, length, IfSome, IfNone, IsOk, OnOk, option_copied, slice_get};
+ghost use Rattle.rtsp_sockets.specs.declared.media.Place.{Place};
+ghost use Rattle.rtsp_sockets.specs.Media.{IsPlaceOf, StandInFile, IsUnitHeld};
 
 use crate::media_file::MediaFile;
 use crate::read_at::ReadAt;
@@ -152,7 +153,8 @@ impl<F: ReadAt> MediaOf<F> {
     }
 
     pub(crate) fn place(&self, presentation: usize, track: u16) -> Option<Place>
-        ensures { IfSome result (IsPlaceOf self.now.places.items presentation track) }
+        ensures some { IfSome result (IsPlaceOf self.now.places.items presentation track) }
+        ensures none { IfNone result ((place : Place) → ¬ IsPlaceOf self.now.places.items presentation track place) }
     {
         match self.places_of(presentation) {
             Some(places) => place_of(places, usize::from(track)),
@@ -175,7 +177,8 @@ impl<F: ReadAt> MediaOf<F> {
         unit: u32,
         out: &mut [u8],
     ) -> Result<(), MediaFault>
-        ensures { OnOk result (StandInFile (λ file. F.text file.file) self.now.files.items self.now.places.items presentation track unit out.new) }
+        ensures ok { OnOk result (StandInFile (λ file. F.text file.file) self.now.files.items self.now.places.items presentation track unit out.new) }
+        ensures held { IsUnitHeld (λ file. file.held) self.now.files.items self.now.places.items presentation track unit (length out.old) → IsOk result }
     {
         let Some(place) = self.place(presentation, track) else {
             return Err(MediaFault::Unreadable);
