@@ -42,7 +42,6 @@ enum Stage {
 }
 
 /// A connection of a lane.
-#[derive(Drop)]
 pub(crate) struct Client {
     handle: BookHandle,
     asker: Asker,
@@ -74,6 +73,19 @@ fn host_of(stream: &TcpStream) -> Ipv4Addr {
     }
 }
 
+// Where answers are put, and what else is put for the player.
+fn open_outlet<R>(service: &Service<'_, R>, stream: TcpStream) -> Option<Arc<Outlet>> {
+    let loan = Loan::of(&service.shared.lent.frames)?;
+    Arc::new(service.alloc, Outlet::new(service.alloc, stream, loan)).ok()
+}
+
+// Tells that there was no memory for a message, where that was its fault.
+fn tell_fault<R: Wait + rt::Clock>(service: &Service<'_, R>, fault: MessageFault) {
+    if matches!(&fault, MessageFault::OutOfMemory) {
+        service.shared.log.event(service.rt, LogEvent::OutOfMemory);
+    }
+}
+
 impl Client {
     /// A connection that was accepted. There is none where memory, or the numbers, are used up.
     pub(crate) fn open<R: Wait>(
@@ -82,22 +94,21 @@ impl Client {
         stream: TcpStream,
         peer: u32,
     ) -> Option<Client> {
-        stream.set_nodelay(true).ok()?;
-        if !prepare(stream.as_raw_fd()) {
+        if stream.set_nodelay(true).is_err() || !prepare(stream.as_raw_fd()) {
             return None;
         }
         let host = host_of(&stream);
+        let outlet = open_outlet(service, stream)?;
+        let unread = UnreadLoan::of(&service.shared.lent.unread)?;
         let mut handle = lane.split(service.rt)?;
         let conn = handle.draw(service.rt)?;
-        let loan = Loan::of(&service.shared.lent.frames)?;
-        let outlet = Arc::new(service.alloc, Outlet::new(service.alloc, stream, loan)).ok()?;
         Some(Client {
             handle,
             asker: Asker { conn, peer },
             host,
             outlet,
             input: Connection::new(service.alloc),
-            unread: UnreadLoan::of(&service.shared.lent.unread)?,
+            unread,
             stage: Stage::Open,
             is_readable: false,
             is_writable: false,
@@ -157,19 +168,9 @@ impl Client {
         if !self.is_readable || self.stage != Stage::Open {
             return Visit::Done;
         }
-        let Read {
-            end,
-            is_kept,
-            heard,
-        } = self.read(service, tools, lane);
-        self.hear(service, tools, heard);
-        if end == VisitEnd::Fault(MessageFault::OutOfMemory) {
-            service.shared.log.event(service.rt, LogEvent::OutOfMemory);
-        }
-        if end == VisitEnd::WriteFault || matches!(&end, VisitEnd::Fault(_)) {
-            self.drop_rest(tools);
-        }
-        self.end_visit(service, end, is_kept)
+        let read = self.read(service, tools, lane);
+        self.hear(service, tools, read.heard);
+        self.end_visit(service, tools, read)
     }
 
     // Writes what waits. Whether the connection goes on.
@@ -178,10 +179,16 @@ impl Client {
         let Some(left) = self.outlet.flush(service.rt, service.now) else {
             return false;
         };
-        if self.stage == Stage::Paused && left <= PAUSE {
-            self.stage = Stage::Open;
+        match self.stage {
+            Stage::Open => true,
+            Stage::Paused => {
+                if left <= PAUSE {
+                    self.stage = Stage::Open;
+                }
+                true
+            }
+            Stage::Draining => left > 0,
         }
-        self.stage != Stage::Draining || left > 0
     }
 
     // Reads what is there, has it answered, and puts the answers into the outlet.
@@ -259,18 +266,35 @@ impl Client {
     }
 
     // Does what follows from how a visit ended.
-    fn end_visit<R: Wait>(
+    fn end_visit<R: Wait + rt::Clock>(
         &mut self,
         service: &Service<'_, R>,
-        end: VisitEnd,
-        is_kept: bool,
+        tools: &mut Tools,
+        read: Read,
     ) -> Visit {
-        match end {
-            VisitEnd::ReadFault | VisitEnd::WriteFault => return Visit::Ended,
-            VisitEnd::Closed | VisitEnd::Fault(_) => return self.drain(service),
-            VisitEnd::Waits => self.is_readable = false,
-            VisitEnd::More => {}
+        match read.end {
+            VisitEnd::More => self.go_on(service, read.is_kept, Visit::More),
+            VisitEnd::Waits => {
+                self.is_readable = false;
+                self.go_on(service, read.is_kept, Visit::Done)
+            }
+            VisitEnd::Closed => self.drain(service),
+            VisitEnd::Fault(fault) => {
+                tell_fault(service, fault);
+                self.drop_rest(tools);
+                self.drain(service)
+            }
+            VisitEnd::WriteFault => {
+                self.drop_rest(tools);
+                Visit::Ended
+            }
+            VisitEnd::ReadFault => Visit::Ended,
         }
+    }
+
+    // The connection goes on with what is left to be done, unless it holds more of a message than it
+    // may; while too much waits to be written it isn't read.
+    fn go_on<R: Wait>(&mut self, service: &Service<'_, R>, is_kept: bool, left: Visit) -> Visit {
         let (unread, memory) = (self.input.len(), self.input.capacity());
         if !self.unread.covers(unread, memory) {
             service.shared.counters.turned_away();
@@ -280,10 +304,7 @@ impl Client {
             self.stage = Stage::Paused;
             return Visit::Done;
         }
-        match end {
-            VisitEnd::More => Visit::More,
-            _ => Visit::Done,
-        }
+        left
     }
 
     // The connection is read no more, and ends once what waits is written.
@@ -333,19 +354,36 @@ impl Client {
     }
 
     /// Takes leave of the connection, and of its sessions.
-    pub(crate) fn end<R: Wait + Net>(self, rt: &R, shared: &Shared) {
-        let Client {
-            mut handle,
-            asker,
-            outlet,
-            ..
-        } = self;
-        outlet.close(rt);
-        shared.outlets.remove(rt, asker.conn);
+    pub(crate) fn end<R: Wait + Net>(mut self, rt: &R, shared: &Shared) {
+        let Asker { conn, peer } = self.asker;
+        self.outlet.close(rt);
+        shared.outlets.remove(rt, conn);
         let mut binder = shared.unbinder(rt);
-        if take_leave(rt, &mut handle, &mut binder, asker.conn) {
+        if take_leave(rt, &mut self.handle, &mut binder, conn) {
             shared.note_end();
         }
-        shared.gate.leave(rt, asker.peer);
+        shared.gate.leave(rt, peer);
+    }
+}
+
+// Written out, as that of `Shared` is.
+impl Drop for Client {
+    fn drop(self) {
+        let Self {
+            handle: _handle,
+            asker: _,
+            host: _,
+            outlet: _outlet,
+            input: _input,
+            unread: _unread,
+            stage: _,
+            is_readable: _,
+            is_writable: _,
+            is_ending: _,
+            is_queued: _,
+            is_over: _,
+            activity: _,
+            hearing: _,
+        } = self;
     }
 }

@@ -2,7 +2,8 @@
 //! sessions whose time is over.
 //!
 //! `server` starts all of them and joins them, with what `opening` gives, and `threads` is what each
-//! does. `socket_lane` is a lane of sockets, `client` a connection of it, and `visiting` reads it:
+//! does. `socket_lane` is a lane of sockets, `roster` has its connections, `client` is one of them, and
+//! `visiting` reads it:
 //! `answering` is what is done with its input by a thread's handle of the book, `writing` and `hearing`
 //! with its output and its RTCP; `unread` is what it holds of a message that isn't whole, and `lane_lines`
 //! what a lane holds of the log. `sweeper` and `stopping` are the threads that end sessions and the server.
@@ -17,6 +18,7 @@ mod figures;
 mod hearing;
 mod lane_lines;
 mod opening;
+mod roster;
 mod server;
 mod service;
 mod shared;

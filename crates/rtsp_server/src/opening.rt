@@ -3,14 +3,15 @@
 use crate::fault::ServerFault;
 use crate::shared::Shared;
 use crate::socket_lane::SocketLane;
+use crate::threads::OnePacer;
 use mio::net::TcpListener;
 use rtsp_content::{Operation, Table};
 use rtsp_lanes::{BookHandle, open_book, whole_of};
 use rtsp_pacing::PacerPlays;
 use rtsp_sockets::{Media, Reader};
 use rtsp_status::{PEERS, StatusServer};
-use rtsp_threads::{CONNECTIONS, ScribeBell, connections_for, descriptor_limit};
-use std::alloc::{AllocError, Global};
+use rtsp_threads::{CONNECTIONS, connections_for, descriptor_limit};
+use std::alloc::Global;
 use std::fs::File;
 use std::net::{Net, SocketAddr, SocketAddrV4};
 use std::os::fd::AsRawFd;
@@ -25,20 +26,22 @@ use std::{io, net, rt, thread};
 pub(crate) struct Sending {
     pub(crate) media: Media,
     pub(crate) readers: Vec<Reader>,
-    pub(crate) pacers: Vec<PacerPlays>,
+    pub(crate) pacers: Vec<OnePacer>,
 }
 
 impl Sending {
-    // For half as many pacers as the machine has cores, but at least one.
-    pub(crate) fn open<R: Threads + Files<File = File>>(
+    // For half as many pacers as the machine has cores, but at least one. Each has a handle of the book
+    // that is split off this one.
+    fn open<R: Threads + Wait + Files<File = File>>(
         rt: &R,
         alloc: Global,
         table: &Table,
+        handle: &mut BookHandle,
     ) -> Result<Sending, ServerFault> {
         let media = Media::open(rt, alloc, table)?;
         let readers = media.readers(alloc)?;
         let count = (cores(rt) / 2).max(1);
-        let pacers = open_pacers(alloc, count, table.server().sessions)?;
+        let pacers = open_pacers(rt, alloc, handle, count, table.server().sessions)?;
         Ok(Sending {
             media,
             readers,
@@ -54,6 +57,75 @@ pub(crate) struct Listening {
     pub(crate) lanes: Vec<SocketLane>,
     pub(crate) address: SocketAddr,
     pub(crate) connections: u64,
+}
+
+// What a server has open, once it listens.
+#[derive(Drop)]
+pub(crate) struct Opened {
+    pub(crate) status: Option<StatusServer>,
+    pub(crate) handles: Handles,
+    pub(crate) sending: Sending,
+    pub(crate) listening: Listening,
+}
+
+impl Opened {
+    // All of a server of this configuration, which listens on this address for so many connections, or
+    // any number.
+    pub(crate) fn open<R: Threads + Wait + Net + rt::Clock + RandomSource + Files<File = File>>(
+        rt: &R,
+        alloc: Global,
+        table: &Table,
+        operation: &Operation,
+        address: SocketAddr,
+        connections: Option<u64>,
+    ) -> Result<Opened, ServerFault> {
+        let status = open_status(rt, alloc, operation)?;
+        let mut handle = open_journal(alloc, table, operation)?;
+        let sending = Sending::open(rt, alloc, table, &mut handle)?;
+        let opening = Opening {
+            table,
+            operation,
+            pacers: sending.pacers.len(),
+        };
+        let listening = opening.listen(rt, alloc, address, connections)?;
+        match Handles::split(rt, handle) {
+            Some(handles) => Ok(Opened {
+                status,
+                handles,
+                sending,
+                listening,
+            }),
+            None => Err(ServerFault::NoThread),
+        }
+    }
+}
+
+// The handles of the book of all threads but the pacers.
+#[derive(Drop)]
+pub(crate) struct Handles {
+    pub(crate) lanes: BookHandle,
+    pub(crate) sweeper: BookHandle,
+    // That of the thread that starts the others.
+    pub(crate) own: BookHandle,
+    // That by which the figures are shown, and the last one.
+    pub(crate) shown: BookHandle,
+    pub(crate) last: BookHandle,
+}
+
+impl Handles {
+    fn split<R: Wait>(rt: &R, mut lanes: BookHandle) -> Option<Handles> {
+        let sweeper = lanes.split(rt)?;
+        let own = lanes.split(rt)?;
+        let shown = lanes.split(rt)?;
+        let last = lanes.split(rt)?;
+        Some(Handles {
+            lanes,
+            sweeper,
+            own,
+            shown,
+            last,
+        })
+    }
 }
 
 // What a server is opened for.
@@ -73,14 +145,24 @@ impl Opening<'_> {
         alloc: Global,
         address: SocketAddr,
         connections: Option<u64>,
-        scribe: Option<ScribeBell>,
     ) -> Result<Listening, ServerFault> {
         let listener = net::TcpListener::from(TcpListener::bind(rt, address)?);
+        self.stand(rt, alloc, &listener, connections)
+    }
+
+    // The lanes of this listener, and what they share.
+    fn stand<R: Wait + Net + rt::Clock + Files<File = File>>(
+        self,
+        rt: &R,
+        alloc: Global,
+        listener: &net::TcpListener,
+        connections: Option<u64>,
+    ) -> Result<Listening, ServerFault> {
         let address = listener.local_addr()?;
-        let shared = self.share(rt, alloc, listener.try_clone()?, connections, scribe)?;
+        let shared = self.share(rt, alloc, listener, connections)?;
         let workers = usize::from(self.table.server().workers);
-        let lanes = open_lanes(rt, alloc, &shared, &listener, workers)?;
-        let connections = connections_of(self.table, self.operation, &listener)?;
+        let lanes = open_lanes(rt, alloc, &shared, listener, workers)?;
+        let connections = connections_of(self.table, self.operation, listener)?;
         if connections == 0 {
             return Err(ServerFault::DeviceFailed);
         }
@@ -98,21 +180,11 @@ impl Opening<'_> {
         self,
         rt: &R,
         alloc: Global,
-        listener: net::TcpListener,
+        listener: &net::TcpListener,
         connections: Option<u64>,
-        scribe: Option<ScribeBell>,
     ) -> Result<Arc<Shared>, ServerFault> {
-        let listener = TcpListener::from_std(listener);
-        let shared = Shared::open(
-            rt,
-            alloc,
-            self.table,
-            listener,
-            connections,
-            self.pacers,
-            scribe,
-            self.operation.access_log(),
-        )?;
+        let listener = TcpListener::from_std(listener.try_clone()?);
+        let shared = Shared::open(rt, alloc, self, listener, connections)?;
         match Arc::new(alloc, shared) {
             Ok(shared) => Ok(shared),
             Err(_) => Err(ServerFault::OutOfMemory),
@@ -120,18 +192,17 @@ impl Opening<'_> {
     }
 }
 
-// The book, whose entries are kept where they are written to files, by a thread with this bell.
-pub(crate) fn open_journal(
+// The book, whose entries are kept where they are written to files.
+fn open_journal(
     alloc: Global,
     table: &Table,
     operation: &Operation,
-) -> Result<(BookHandle, Option<ScribeBell>), ServerFault> {
+) -> Result<BookHandle, ServerFault> {
     let mut handle = open_book(alloc, &whole_of(table))?;
-    if operation.journal().is_none() {
-        return Ok((handle, None));
+    if operation.journal().is_some() {
+        handle.keep_entries();
     }
-    handle.keep_entries();
-    Ok((handle, Some(ScribeBell::new())))
+    Ok(handle)
 }
 
 // How many threads the machine runs at once.
@@ -143,7 +214,7 @@ fn cores<R: Threads>(rt: &R) -> usize {
 }
 
 // What shows the figures, where an address is named for it.
-pub(crate) fn open_status<R: Net + rt::Clock + RandomSource>(
+fn open_status<R: Net + rt::Clock + RandomSource>(
     rt: &R,
     alloc: Global,
     operation: &Operation,
@@ -175,11 +246,39 @@ fn open_lanes<R: Wait + Net + Files<File = File>>(
     Ok(lanes)
 }
 
-// The plays of so many pacers. Any of them may come to have those of all sessions.
-fn open_pacers(alloc: Global, count: usize, sessions: u16) -> Result<Vec<PacerPlays>, AllocError> {
+// A pacer of this number. It may come to have the plays of all sessions.
+fn open_pacer<R: Wait>(
+    rt: &R,
+    alloc: Global,
+    handle: &mut BookHandle,
+    number: usize,
+    sessions: u16,
+) -> Result<OnePacer, ServerFault> {
+    let plays = PacerPlays::open(alloc, usize::from(sessions))?;
+    match handle.split(rt) {
+        Some(handle) => Ok(OnePacer {
+            number,
+            plays,
+            handle,
+        }),
+        None => Err(ServerFault::NoThread),
+    }
+}
+
+// So many pacers.
+fn open_pacers<R: Wait>(
+    rt: &R,
+    alloc: Global,
+    handle: &mut BookHandle,
+    count: usize,
+    sessions: u16,
+) -> Result<Vec<OnePacer>, ServerFault> {
     let mut pacers = Vec::new(alloc);
-    for _ in 0..count {
-        pacers.push(PacerPlays::open(alloc, usize::from(sessions))?)?;
+    for number in 0..count {
+        let pacer = open_pacer(rt, alloc, handle, number, sessions)?;
+        if pacers.push(pacer).is_err() {
+            return Err(ServerFault::OutOfMemory);
+        }
     }
     Ok(pacers)
 }

@@ -5,11 +5,11 @@ ghost use Rattle.std.specs.FinMap.{empty};
 ghost use Rattle.rtsp_record.specs.Books.{book_of};
 
 use crate::fault::ServerFault;
-use crate::opening::{Listening, Opening, Sending, open_journal, open_status};
+use crate::opening::{Handles, Listening, Opened, Sending};
 use crate::threads::{Beside, Parts, Start};
 use rtsp_book::Kept;
 use rtsp_content::{Operation, Table};
-use rtsp_lanes::PoolEnd;
+use rtsp_lanes::{BookHandle, PoolEnd};
 use rtsp_lock::LockBook;
 use rtsp_status::StatusServer;
 use rtsp_threads::{OwnStatus, Scribe, close_book, end_expired};
@@ -37,16 +37,67 @@ pub trait Announce: Drop {
     fn announce(&mut self, address: SocketAddr) -> bool;
 }
 
+// What writes the journal to files, where that is wanted.
+fn open_scribe<R: Files<File = File>>(
+    rt: &R,
+    alloc: Global,
+    operation: &Operation,
+) -> Result<Option<Scribe>, ServerFault> {
+    match operation.journal() {
+        Some(files) => Ok(Some(Scribe::open(rt, alloc, files)?)),
+        None => Ok(None),
+    }
+}
+
+impl Parts {
+    // Ends all sessions once all threads but this are joined, and writes the rest of the journal. The
+    // book, where the others have let go of it.
+    fn close<R: Wait + Net + Files<File = File> + Eprint>(
+        &self,
+        rt: &R,
+        mut last: BookHandle,
+        mut scribe: Option<Scribe>,
+    ) -> Option<Kept<LockBook>>
+        ensures { IfSome result (λ k. book_of k.journal ≡ empty) }
+    {
+        let mut binder = self.shared.unbinder(rt);
+        end_expired(rt, &mut last, &mut binder, u64::MAX);
+        if let Some(scribe) = &mut scribe {
+            scribe.end(rt, &mut last);
+        }
+        close_book(rt, last, &mut binder)
+    }
+}
+
 /// A server that listens, and whose threads don't run yet.
-#[derive(Drop)]
 pub struct Server {
     alloc: Global,
     parts: Parts,
     start: Start,
+    // The handles of the book by which the figures are shown, and by which the book is given up.
+    shown: BookHandle,
+    last: BookHandle,
     operation: Operation,
     status: Option<StatusServer>,
     address: SocketAddr,
     connections: u64,
+}
+
+// Written out, as that of `Shared` is.
+impl Drop for Server {
+    fn drop(self) {
+        let Self {
+            alloc: _,
+            parts: _parts,
+            start: _start,
+            shown: _shown,
+            last: _last,
+            operation: _operation,
+            status: _status,
+            address: _,
+            connections: _,
+        } = self;
+    }
 }
 
 impl Server {
@@ -63,26 +114,30 @@ impl Server {
         address: SocketAddr,
         connections: Option<u64>,
     ) -> Result<Server, ServerFault> {
-        let status = open_status(rt, alloc, &operation)?;
-        let (handle, scribe) = open_journal(alloc, &table, &operation)?;
-        let sending = Sending::open(rt, alloc, &table)?;
-        let pacers = sending.pacers.len();
-        let open = Opening {
-            table: &table,
-            operation: &operation,
-            pacers,
-        };
-        let Listening {
-            shared,
-            lanes,
-            address,
-            connections,
-        } = open.listen(rt, alloc, address, connections, scribe)?;
+        let Opened {
+            status,
+            handles,
+            sending,
+            listening,
+        } = Opened::open(rt, alloc, &table, &operation, address, connections)?;
         let Sending {
             media,
             readers,
             pacers,
         } = sending;
+        let Listening {
+            shared,
+            lanes,
+            address,
+            connections,
+        } = listening;
+        let Handles {
+            lanes: handle,
+            sweeper,
+            own,
+            shown,
+            last,
+        } = handles;
         Ok(Server {
             alloc,
             parts: Parts {
@@ -92,10 +147,14 @@ impl Server {
             },
             start: Start {
                 handle,
+                sweeper,
+                own,
                 lanes,
                 pacers,
                 readers,
             },
+            shown,
+            last,
             operation,
             status,
             address,
@@ -140,37 +199,31 @@ impl Server {
     >(self, rt: &R, announcer: A, errors: E) -> Result<ServerEnd, ServerFault>
         ensures { IfOk result (λ end. IfSome end.book (λ k. book_of k.journal ≡ empty)) }
     {
-        let Server {
+        let scribe = open_scribe(rt, self.alloc, &self.operation)?;
+        let Self {
             alloc,
             parts,
-            mut start,
-            operation,
+            start,
+            shown,
+            last,
+            operation: _operation,
             status,
             address,
-            ..
+            connections: _,
         } = self;
-        let scribe = match operation.journal() {
-            Some(files) => Some(Scribe::open(rt, alloc, files)?),
-            None => None,
-        };
-        let own = &mut start.handle;
-        let (Some(mut last), Some(shown)) = (own.split(rt), own.split(rt)) else {
-            return Err(ServerFault::NoThread);
-        };
         let beside = Beside {
             signals: OwnStatus::open(rt).ok(),
             errors,
             status,
             handle: shown,
         };
-        let (mut scribe, ended) = parts.run(rt, alloc, start, beside, announcer, address, scribe);
-        let pool = ended?;
-        let mut binder = parts.shared.unbinder(rt);
-        end_expired(rt, &mut last, &mut binder, u64::MAX);
-        if let Some(scribe) = &mut scribe {
-            scribe.end(rt, &mut last);
+        let (scribe, ended) = parts.run(rt, alloc, start, beside, announcer, address, scribe);
+        match ended {
+            Ok(pool) => Ok(ServerEnd {
+                pool,
+                book: parts.close(rt, last, scribe),
+            }),
+            Err(fault) => Err(fault),
         }
-        let book = close_book(rt, last, &mut binder);
-        Ok(ServerEnd { pool, book })
     }
 }

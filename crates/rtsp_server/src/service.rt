@@ -7,7 +7,7 @@ use rtsp_metrics::AnswerCounters;
 use std::alloc::Global;
 
 /// What a turn of a lane is made with: the server's parts, and the moment of the turn.
-#[derive(Clone, Copy)]
+#[derive(Drop)]
 pub(crate) struct Service<'a, R> {
     pub(crate) rt: &'a R,
     pub(crate) alloc: Global,

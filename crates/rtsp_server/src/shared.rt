@@ -1,10 +1,11 @@
 //! What the threads of a server share.
 
+use crate::opening::Opening;
 use crate::unread::HELD_IN_ALL;
 use crossbeam_utils::CachePadded;
 use mio::Waker;
 use mio::net::TcpListener;
-use rtsp_content::{Server, Table};
+use rtsp_content::{Operation, Server, Table};
 use rtsp_lanes::BookHandle;
 use rtsp_log::{BATCH_LINES, Event, Log};
 use rtsp_metrics::{AnswerCounters, Counters, Counts};
@@ -41,7 +42,6 @@ impl Lent {
 }
 
 /// What the threads of a server share beside the book.
-#[derive(Drop)]
 pub(crate) struct Shared {
     pub(crate) listener: TcpListener,
     pub(crate) gate: Gate,
@@ -76,6 +76,33 @@ pub(crate) struct Shared {
     standing: AtomicU64,
 }
 
+// Written out, so that whoever lets go of it makes one call, and not one for each of its parts.
+impl Drop for Shared {
+    fn drop(self) {
+        let Self {
+            listener: _listener,
+            gate: _gate,
+            session_shares: _session_shares,
+            outlets: _outlets,
+            lent: _lent,
+            ports: _ports,
+            bells: _bells,
+            stop_bell: _stop_bell,
+            scribe: _scribe,
+            halt: _halt,
+            counters: _counters,
+            log: _log,
+            begun: _,
+            watermark: _watermark,
+            has_ended: _has_ended,
+            wakers: _wakers,
+            answers: _answers,
+            stop_by: _stop_by,
+            standing: _standing,
+        } = self;
+    }
+}
+
 // What addresses have of the sessions, where each has at most so many. There is room for all that live
 // and for one more of each lane, and for as many that don't live any more: so it is seldom that these
 // have to be looked for.
@@ -88,41 +115,58 @@ fn session_shares(alloc: Global, numbers: Server) -> Result<Option<Mutex<ShareTa
     Ok(Some(Mutex::new(shares)))
 }
 
+// The log, in which lines of requests wait in batches.
+fn open_log(alloc: Global, logs_access: bool) -> Result<Log, AllocError> {
+    let room = if logs_access {
+        LOG_LINES / BATCH_LINES
+    } else {
+        FEW_LINES
+    };
+    Log::new(alloc, room, logs_access)
+}
+
+// The bell of the thread that writes the journal to files, where one does.
+fn scribe_bell(operation: &Operation) -> Option<ScribeBell> {
+    if operation.journal().is_some() {
+        Some(ScribeBell::new())
+    } else {
+        None
+    }
+}
+
 impl Shared {
-    /// What the threads of a server of this configuration share, which serves so many connections of
-    /// this listener, or any number, has so many pacers, and may have one that writes the journal.
+    /// What the threads of this server share, which serves so many connections of this listener, or any
+    /// number.
     pub(crate) fn open<R: rt::Clock>(
         rt: &R,
         alloc: Global,
-        table: &Table,
+        of: Opening<'_>,
         listener: TcpListener,
         connections: Option<u64>,
-        pacers: usize,
-        scribe: Option<ScribeBell>,
-        logs_access: bool,
     ) -> io::Result<Shared> {
-        let numbers = table.server();
-        // Lines of requests wait in batches.
-        let room = if logs_access {
-            LOG_LINES / BATCH_LINES
-        } else {
-            FEW_LINES
-        };
+        let numbers = of.table.server();
+        let begun = Instant::now(rt)?;
         let watermark = Watermark::new(alloc, usize::from(numbers.workers))?;
+        let lent = Lent::open(alloc)?;
+        let ports = PortTable::open(alloc, numbers.first_port, numbers.pairs)?;
+        let bells = Bells::new(alloc, of.pacers, numbers.sessions)?;
+        let gate = Gate::new(alloc, connections, numbers.connections_per_address)?;
+        let session_shares = session_shares(alloc, numbers)?;
+        let log = open_log(alloc, of.operation.access_log())?;
         Ok(Shared {
             listener,
-            gate: Gate::new(alloc, connections, numbers.connections_per_address)?,
-            session_shares: session_shares(alloc, numbers)?,
+            gate,
+            session_shares,
             outlets: Outlets::new(alloc),
-            lent: Lent::open(alloc)?,
-            ports: PortTable::open(alloc, numbers.first_port, numbers.pairs)?,
-            bells: Bells::new(alloc, pacers, numbers.sessions)?,
+            lent,
+            ports,
+            bells,
             stop_bell: StopBell::new(),
-            scribe,
+            scribe: scribe_bell(of.operation),
             halt: Halt::new(),
             counters: Counters::new(),
-            log: Log::new(alloc, room, logs_access)?,
-            begun: Instant::now(rt)?,
+            log,
+            begun,
             watermark: Mutex::new(watermark),
             has_ended: AtomicBool::new(false),
             wakers: Mutex::new(Vec::new(alloc)),

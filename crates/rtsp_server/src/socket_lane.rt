@@ -2,6 +2,7 @@
 
 use crate::client::{Client, Visit};
 use crate::lane_lines::LaneLines;
+use crate::roster::Roster;
 use crate::service::Service;
 use crate::shared::Shared;
 use crate::tools::Tools;
@@ -14,9 +15,7 @@ use rtsp_lanes::{BookHandle, Lane, LaneTurn};
 use rtsp_log::Event;
 use rtsp_metrics::AnswerCounters;
 use rtsp_threads::{ACCEPTS, Accepted, Acceptor, SWEEP_EVERY, TURN_EVERY};
-use slab::Slab;
 use std::alloc::Global;
-use std::collections::VecDeque;
 use std::fs::File;
 use std::net::Net;
 use std::os::fd::AsRawFd;
@@ -45,16 +44,12 @@ pub struct SocketLane {
 }
 
 // The connections of a lane.
-#[derive(Drop)]
 struct Clients {
     // The number of the lane.
     number: usize,
     poll: Poll,
     events: Events<Global>,
-    of: Slab<Client>,
-    // Those to be visited, each once: whoever is taken out of the slab isn't among them. There is
-    // room in it for all.
-    ready: VecDeque<usize>,
+    roster: Roster,
     acceptor: Acceptor,
     tools: Tools,
     // The moment of the last turn, of the last sweep, and that up to which all that had come was
@@ -64,6 +59,24 @@ struct Clients {
     read: u64,
     // How many have ended in this turn.
     ended: u64,
+}
+
+// Written out, as that of `Shared` is.
+impl Drop for Clients {
+    fn drop(self) {
+        let Self {
+            number: _,
+            poll: _poll,
+            events: _events,
+            roster: _roster,
+            acceptor: _acceptor,
+            tools: _tools,
+            now: _,
+            swept: _,
+            read: _,
+            ended: _,
+        } = self;
+    }
 }
 
 impl SocketLane {
@@ -115,8 +128,7 @@ impl Clients {
             number,
             poll,
             events,
-            of: Slab::new(alloc),
-            ready: VecDeque::new(alloc),
+            roster: Roster::new(alloc),
             acceptor,
             tools,
             now: 0,
@@ -126,28 +138,32 @@ impl Clients {
         })
     }
 
-    // Waits for something to do, but no longer than the lines of the log may wait. Whether the system
-    // told all that there was: it tells so many events at once at most.
-    fn wait<R: rt::Clock>(&mut self, rt: &R, lines: &LaneLines) -> bool {
+    // Waits for something to do, but no longer than the lines of the log may wait. The moment up to which
+    // the system has told of all that had come, if it has: it tells so many events at once at most.
+    fn wait<R: rt::Clock>(&mut self, rt: &R, lines: &LaneLines) -> Option<u64> {
         let mut time = 0;
-        if self.ready.is_empty() {
+        if self.roster.ready() == 0 {
             let patience = self.acceptor.patience(self.now);
             time = patience.min(lines.patience(self.now)).min(TURN_EVERY);
         }
         let time = Duration::from_millis(time);
         if self.poll.poll(&mut self.events, Some(time)).is_err() {
             thread::sleep(rt, Duration::from_millis(1));
-            return false;
+            return None;
         }
-        self.events.iter().count() < EVENTS
+        // What had come by now is what this turn is told of, and what earlier ones have left.
+        if self.events.iter().count() < EVENTS {
+            Some(self.now)
+        } else {
+            None
+        }
     }
 
     // Puts those of which the system tells into the queue.
     fn gather(&mut self) {
         let Clients {
             events,
-            of,
-            ready,
+            roster,
             acceptor,
             ..
         } = self;
@@ -155,10 +171,8 @@ impl Clients {
             let token = event.token();
             if token == LISTENER {
                 acceptor.wake();
-            } else if let Some(client) = of.get_mut(token.0)
-                && client.note(event)
-            {
-                let _ = ready.push_back(token.0);
+            } else {
+                roster.note(token.0, event);
             }
         }
     }
@@ -170,13 +184,13 @@ impl Clients {
         service: &Service<'_, R>,
         handle: &mut BookHandle,
     ) -> bool {
-        let before = self.of.len();
+        let before = self.roster.len();
         for _ in 0..ACCEPTS {
             if service.shared.gate.is_shut() {
                 self.acceptor.rest();
             }
             if !self.acceptor.is_ready(service.now) {
-                return self.acceptor.is_done() && self.of.len() == before;
+                return self.acceptor.is_done() && self.roster.len() == before;
             }
             match self.acceptor.accept(&service.shared.listener, service.now) {
                 Accepted::Stream(stream, peer) => self.receive(service, handle, stream, peer),
@@ -225,7 +239,7 @@ impl Clients {
         if outlets.insert(service.rt, conn, outlet).is_err() {
             return false;
         }
-        let is_taken_in = match self.place(client) {
+        let is_taken_in = match self.roster.place(client) {
             Some(key) => self.watch(fd, key),
             None => false,
         };
@@ -233,13 +247,6 @@ impl Clients {
             outlets.remove(service.rt, conn);
         }
         is_taken_in
-    }
-
-    // The key of a connection, which is now in the slab and has room in the queue.
-    fn place(&mut self, client: Client) -> Option<usize> {
-        let more = self.of.len().saturating_sub(self.ready.len());
-        self.ready.reserve(more.saturating_add(1)).ok()?;
-        self.of.insert(client).ok()
     }
 
     // The system tells of the connection from now on. Whether it does.
@@ -250,7 +257,7 @@ impl Clients {
             .register(&mut SourceFd(&fd), Token(key), both)
             .is_ok();
         if !is_watched {
-            drop(self.of.try_remove(key));
+            drop(self.roster.remove(key));
         }
         is_watched
     }
@@ -261,13 +268,13 @@ impl Clients {
         service: &Service<'_, R>,
         handle: &mut BookHandle,
     ) {
-        for _ in 0..self.ready.len() {
-            let Some(key) = self.ready.pop_front() else {
+        for _ in 0..self.roster.ready() {
+            let Some(key) = self.roster.next_ready() else {
                 return;
             };
             match self.visit(service, handle, key) {
                 Visit::Done => {}
-                Visit::More => self.queue(key),
+                Visit::More => self.roster.queue(key),
                 Visit::Ended => self.end(service.rt, service.shared, key),
             }
         }
@@ -279,24 +286,26 @@ impl Clients {
         handle: &mut BookHandle,
         key: usize,
     ) -> Visit {
-        let Clients { of, tools, .. } = self;
-        match of.get_mut(key) {
-            Some(client) => client.visit(service, tools, handle),
+        match self.roster.get_mut(key) {
+            Some(client) => client.visit(service, &mut self.tools, handle),
             None => Visit::Done,
         }
     }
 
-    fn queue(&mut self, key: usize) {
-        if let Some(client) = self.of.get_mut(key)
-            && client.queue()
-        {
-            let _ = self.ready.push_back(key);
-        }
+    // Has a connection answered, which is about to be hung up.
+    fn stop<R: Wait + Net + rt::Clock>(
+        &mut self,
+        service: &Service<'_, R>,
+        handle: &mut BookHandle,
+        key: usize,
+    ) -> Option<Visit> {
+        let client = self.roster.get_mut(key)?;
+        Some(client.stop(service, &mut self.tools, handle))
     }
 
     // Takes leave of a connection.
     fn end<R: Wait + Net>(&mut self, rt: &R, shared: &Shared, key: usize) {
-        if let Some(client) = self.of.try_remove(key) {
+        if let Some(client) = self.roster.remove(key) {
             let fd = client.fd();
             let _ = self.poll.registry().deregister(&mut SourceFd(&fd));
             client.end(rt, shared);
@@ -311,16 +320,13 @@ impl Clients {
         handle: &mut BookHandle,
         by: u64,
     ) {
-        for key in 0..self.of.capacity() {
-            let Clients { of, tools, .. } = &mut *self;
-            let Some(client) = of.get_mut(key) else {
-                continue;
-            };
-            let visited = client.stop(service, tools, handle);
-            if visited == Visit::Ended || by <= service.now {
-                self.end(service.rt, service.shared, key);
-            } else if visited == Visit::More {
-                self.queue(key);
+        for key in 0..self.roster.keys() {
+            match self.stop(service, handle, key) {
+                None => {}
+                Some(Visit::Ended) => self.end(service.rt, service.shared, key),
+                Some(_) if by <= service.now => self.end(service.rt, service.shared, key),
+                Some(Visit::More) => self.roster.queue(key),
+                Some(Visit::Done) => {}
             }
         }
     }
@@ -342,13 +348,49 @@ impl Clients {
         self.swept = service.now;
         self.acceptor.restore();
         let moment = service.shared.swept_until(service.rt, service.now);
-        for key in 0..self.of.capacity() {
-            if let Some(client) = self.of.get_mut(key)
-                && client.sweep(service, moment)
-            {
-                let _ = self.ready.push_back(key);
-            }
+        for key in 0..self.roster.keys() {
+            self.roster.sweep(service, key, moment);
         }
+    }
+
+    // Hands over the lines that have waited for long; all of them where the lane is over.
+    fn end_turn<R: Wait>(&mut self, service: &Service<'_, R>) -> LaneTurn {
+        let (lines, log) = (service.lines, &service.shared.log);
+        lines.hand_over_due(service.rt, log, self.now);
+        let is_over = service.shared.gate.is_shut() && self.roster.len() == 0;
+        if is_over {
+            self.tell_read(service, u64::MAX);
+            lines.hand_over(service.rt, log);
+        }
+        LaneTurn {
+            ended: self.ended,
+            is_over,
+        }
+    }
+
+    // Does what the system has told of, which is all that had come up to the moment `told`, if there is
+    // one.
+    fn serve<R: Wait + Net + rt::Clock>(
+        &mut self,
+        service: &Service<'_, R>,
+        handle: &mut BookHandle,
+        told: Option<u64>,
+    ) -> LaneTurn {
+        self.ended = 0;
+        self.gather();
+        let is_none_new = self.accept_some(service, handle);
+        self.visit_ready(service, handle);
+        if let Some(by) = service.shared.stop_by() {
+            self.hang_up_all(service, handle, by);
+        }
+        if let Some(moment) = told
+            && is_none_new
+            && self.roster.ready() == 0
+        {
+            self.tell_read(service, moment);
+        }
+        self.sweep(service);
+        self.end_turn(service)
     }
 
     // One turn, in which all parts are lent for as long as it takes.
@@ -362,9 +404,7 @@ impl Clients {
         lines: &'a LaneLines,
         handle: &mut BookHandle,
     ) -> LaneTurn {
-        // What had come by now is what this turn is told of, and what earlier ones have left.
-        let begun = self.now;
-        let is_all_told = self.wait(rt, lines);
+        let told = self.wait(rt, lines);
         self.now = self.now.max(shared.now(rt));
         let service = Service {
             rt,
@@ -375,27 +415,7 @@ impl Clients {
             lines,
             now: self.now,
         };
-        self.ended = 0;
-        self.gather();
-        let is_none_new = self.accept_some(&service, handle);
-        self.visit_ready(&service, handle);
-        if let Some(by) = shared.stop_by() {
-            self.hang_up_all(&service, handle, by);
-        }
-        if is_all_told && is_none_new && self.ready.is_empty() {
-            self.tell_read(&service, begun);
-        }
-        self.sweep(&service);
-        lines.hand_over_due(rt, &shared.log, self.now);
-        let is_over = shared.gate.is_shut() && self.of.is_empty();
-        if is_over {
-            self.tell_read(&service, u64::MAX);
-            lines.hand_over(rt, &shared.log);
-        }
-        LaneTurn {
-            ended: self.ended,
-            is_over,
-        }
+        self.serve(&service, handle, told)
     }
 }
 

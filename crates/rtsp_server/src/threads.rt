@@ -28,22 +28,47 @@ use std::time::Duration;
 use std::{net, rt, thread};
 
 // What all threads of a server are lent.
-#[derive(Drop)]
 pub(crate) struct Parts {
     pub(crate) table: Table,
     pub(crate) media: Media,
     pub(crate) shared: Arc<Shared>,
 }
 
+// Written out, as that of `Shared` is.
+impl Drop for Parts {
+    fn drop(self) {
+        let Self {
+            table: _table,
+            media: _media,
+            shared: _shared,
+        } = self;
+    }
+}
+
 // What the threads that serve begin with.
-#[derive(Drop)]
 pub(crate) struct Start {
+    // The handles of the book that the lanes, the sweeper, and the thread that starts them have.
     pub(crate) handle: BookHandle,
+    pub(crate) sweeper: BookHandle,
+    pub(crate) own: BookHandle,
     pub(crate) lanes: Vec<SocketLane>,
-    // The plays of each pacer, which has none yet.
-    pub(crate) pacers: Vec<PacerPlays>,
+    pub(crate) pacers: Vec<OnePacer>,
     // Those that read ahead, where that is wanted.
     pub(crate) readers: Vec<Reader>,
+}
+
+// Written out, as that of `Shared` is.
+impl Drop for Start {
+    fn drop(self) {
+        let Self {
+            handle: _handle,
+            sweeper: _sweeper,
+            own: _own,
+            lanes: _lanes,
+            pacers: _pacers,
+            readers: _readers,
+        } = self;
+    }
 }
 
 // What those beside them begin with, for whoever runs the server: where signals are seen, where the
@@ -56,11 +81,12 @@ pub(crate) struct Beside<E> {
     pub(crate) handle: BookHandle,
 }
 
-// A pacer: which of them it is, and its plays.
+// A pacer: which of them it is, its plays, of which there are none yet, and its handle of the book.
 #[derive(Drop)]
-struct OnePacer {
-    number: usize,
-    plays: PacerPlays,
+pub(crate) struct OnePacer {
+    pub(crate) number: usize,
+    pub(crate) plays: PacerPlays,
+    pub(crate) handle: BookHandle,
 }
 
 // Lends all parts to a pacer for as long as it runs.
@@ -92,15 +118,13 @@ fn pace_lent<'a, R: Wait + rt::Clock>(
 
 impl Parts {
     // The body of a pacer's thread.
-    fn pace<R: Wait + rt::Clock>(
-        &self,
-        rt: &R,
-        alloc: Global,
-        pacer: OnePacer,
-        handle: BookHandle,
-    ) {
+    fn pace<R: Wait + rt::Clock>(&self, rt: &R, alloc: Global, pacer: OnePacer) {
+        let OnePacer {
+            number,
+            plays,
+            handle,
+        } = pacer;
         let BookHandle { lock, seat } = handle;
-        let OnePacer { number, plays } = pacer;
         if let Some(bell) = self.shared.bells.as_slice().get(number) {
             pace_lent(
                 rt,
@@ -208,71 +232,6 @@ impl Parts {
         (scribe, has_told)
     }
 
-    // Runs the threads that serve, until the lanes are over. What writes the journal is given back.
-    fn serve<
-        A: Announce,
-        R: Threads
-            + Wait
-            + Net<Listener = net::TcpListener, Stream = net::TcpStream>
-            + rt::Clock
-            + Files<File = File>
-            + Eprint
-            + Sync,
-    >(
-        &self,
-        rt: &R,
-        alloc: Global,
-        start: Start,
-        announcer: A,
-        address: SocketAddr,
-        scribe: Option<Scribe>,
-    ) -> (Option<Scribe>, Result<PoolEnd, ServerFault>) {
-        thread::scope(thread::scope_env(), rt, move |scope| {
-            let Start {
-                handle: mut own,
-                lanes,
-                pacers,
-                readers,
-            } = start;
-            let mut missing = 0u64;
-            for (number, plays) in pacers.into_iter().enumerate() {
-                let Some(theirs) = own.split(rt) else {
-                    missing = missing.saturating_add(1);
-                    continue;
-                };
-                let pacer = OnePacer { number, plays };
-                let spawned = scope.spawn(move || self.pace(rt, alloc, pacer, theirs));
-                if spawned.is_err() {
-                    missing = missing.saturating_add(1);
-                }
-            }
-            for reader in readers {
-                if scope.spawn(move || self.read_ahead(rt, reader)).is_err() {
-                    missing = missing.saturating_add(1);
-                }
-            }
-            let (Some(theirs), Some(ours)) = (own.split(rt), own.split(rt)) else {
-                self.stop_for_want_of_threads(rt);
-                return (scribe, Err(ServerFault::NoThread));
-            };
-            if scope.spawn(move || self.sweep(rt, theirs)).is_err() || missing > 0 {
-                self.stop_for_want_of_threads(rt);
-                return (scribe, Err(ServerFault::NoThread));
-            }
-            let Ok(pool) = scope.spawn(move || self.run_lanes(rt, alloc, own, lanes)) else {
-                self.stop_for_want_of_threads(rt);
-                return (scribe, Err(ServerFault::NoThread));
-            };
-            let (scribe, has_told) = self.attend(rt, announcer, address, scribe, ours);
-            let ended = pool.join(rt);
-            if has_told {
-                (scribe, ended)
-            } else {
-                (scribe, Err(ServerFault::DeviceFailed))
-            }
-        })
-    }
-
     // Runs all threads, until the lanes are over. What writes the journal is given back.
     pub(crate) fn run<
         A: Announce,
@@ -311,7 +270,7 @@ impl Parts {
                 self.shared.log.close();
                 return (scribe, Err(ServerFault::NoThread));
             }
-            let served = self.serve(rt, alloc, start, announcer, address, scribe);
+            let served = start.serve(self, rt, alloc, announcer, address, scribe);
             self.shared.log.event(rt, Event::Stopped);
             self.shared.log.close();
             served
@@ -341,5 +300,64 @@ impl Parts {
         } else {
             Err(ServerFault::NoThread)
         }
+    }
+}
+
+impl Start {
+    // Runs the threads that serve, until the lanes are over. What writes the journal is given back.
+    fn serve<
+        A: Announce,
+        R: Threads
+            + Wait
+            + Net<Listener = net::TcpListener, Stream = net::TcpStream>
+            + rt::Clock
+            + Files<File = File>
+            + Eprint
+            + Sync,
+    >(
+        self,
+        parts: &Parts,
+        rt: &R,
+        alloc: Global,
+        announcer: A,
+        address: SocketAddr,
+        scribe: Option<Scribe>,
+    ) -> (Option<Scribe>, Result<PoolEnd, ServerFault>) {
+        let Self {
+            handle,
+            sweeper,
+            own,
+            lanes,
+            pacers,
+            readers,
+        } = self;
+        thread::scope(thread::scope_env(), rt, move |scope| {
+            let mut missing = 0u64;
+            for pacer in pacers {
+                if scope.spawn(move || parts.pace(rt, alloc, pacer)).is_err() {
+                    missing = missing.saturating_add(1);
+                }
+            }
+            for reader in readers {
+                if scope.spawn(move || parts.read_ahead(rt, reader)).is_err() {
+                    missing = missing.saturating_add(1);
+                }
+            }
+            if scope.spawn(move || parts.sweep(rt, sweeper)).is_err() || missing > 0 {
+                parts.stop_for_want_of_threads(rt);
+                return (scribe, Err(ServerFault::NoThread));
+            }
+            let Ok(pool) = scope.spawn(move || parts.run_lanes(rt, alloc, handle, lanes)) else {
+                parts.stop_for_want_of_threads(rt);
+                return (scribe, Err(ServerFault::NoThread));
+            };
+            let (scribe, has_told) = parts.attend(rt, announcer, address, scribe, own);
+            let ended = pool.join(rt);
+            if has_told {
+                (scribe, ended)
+            } else {
+                (scribe, Err(ServerFault::DeviceFailed))
+            }
+        })
     }
 }

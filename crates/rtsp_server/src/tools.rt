@@ -10,7 +10,6 @@ use std::io;
 use std::rt::Files;
 
 /// What a lane answers with, for one connection after another.
-#[derive(Drop)]
 pub(crate) struct Tools {
     pub(crate) words: RandomWords,
     /// The plays that were begun and whose answers aren't written yet.
@@ -19,6 +18,18 @@ pub(crate) struct Tools {
     pub(crate) room: Room,
     /// What was read last.
     pub(crate) piece: Vec<u8>,
+}
+
+// Written out, as that of `Shared` is.
+impl Drop for Tools {
+    fn drop(self) {
+        let Self {
+            words: _words,
+            plays: _plays,
+            room: _room,
+            piece: _piece,
+        } = self;
+    }
 }
 
 impl Tools {

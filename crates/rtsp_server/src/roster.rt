@@ -1,0 +1,92 @@
+//! The connections of a lane.
+
+use crate::client::Client;
+use crate::service::Service;
+use mio::event::Event;
+use slab::Slab;
+use std::alloc::Global;
+use std::collections::VecDeque;
+use std::sync::Wait;
+
+/// The connections of a lane, and which of them are to be visited.
+#[derive(Drop)]
+pub(crate) struct Roster {
+    of: Slab<Client>,
+    // Those to be visited, each once: whoever is taken out of the slab isn't among them. There is
+    // room in it for all.
+    ready: VecDeque<usize>,
+}
+
+impl Roster {
+    /// No connection yet.
+    pub(crate) fn new(alloc: Global) -> Roster {
+        Roster {
+            of: Slab::new(alloc),
+            ready: VecDeque::new(alloc),
+        }
+    }
+
+    /// How many connections there are.
+    pub(crate) fn len(&self) -> usize {
+        self.of.len()
+    }
+
+    /// Above the key of each connection.
+    pub(crate) fn keys(&self) -> usize {
+        self.of.capacity()
+    }
+
+    /// How many are to be visited.
+    pub(crate) fn ready(&self) -> usize {
+        self.ready.len()
+    }
+
+    pub(crate) fn get_mut(&mut self, key: usize) -> Option<&mut Client> {
+        self.of.get_mut(key)
+    }
+
+    /// The key of a connection, which is now among them and has room in the queue.
+    pub(crate) fn place(&mut self, client: Client) -> Option<usize> {
+        let more = self.of.len().saturating_sub(self.ready.len());
+        self.ready.reserve(more.saturating_add(1)).ok()?;
+        self.of.insert(client).ok()
+    }
+
+    /// A connection that leaves, and isn't in the queue.
+    pub(crate) fn remove(&mut self, key: usize) -> Option<Client> {
+        self.of.try_remove(key)
+    }
+
+    /// The connection that is to be visited next, which leaves the queue.
+    pub(crate) fn next_ready(&mut self) -> Option<usize> {
+        self.ready.pop_front()
+    }
+
+    /// The connection is to be visited: it takes this note of it.
+    pub(crate) fn queue(&mut self, key: usize) {
+        if let Some(client) = self.of.get_mut(key)
+            && client.queue()
+        {
+            let _ = self.ready.push_back(key);
+        }
+    }
+
+    /// Closes the connection where it is stalled, and puts it into the queue where it is silent or late,
+    /// or bytes wait for its player.
+    pub(crate) fn sweep<R: Wait>(&mut self, service: &Service<'_, R>, key: usize, moment: u64) {
+        if let Some(client) = self.of.get_mut(key)
+            && client.sweep(service, moment)
+        {
+            let _ = self.ready.push_back(key);
+        }
+    }
+
+    /// Puts the connection into the queue of which the system tells.
+    pub(crate) fn note(&mut self, key: usize, event: &Event) {
+        if let Some(client) = self.of.get_mut(key)
+            && client.note(event)
+        {
+            let _ = self.ready.push_back(key);
+        }
+    }
+}
