@@ -9,6 +9,7 @@ ghost use Rattle.rtsp_dialect.specs.Understanding.{AnswersUnderstood, GivesUpUnd
 use crate::figures::AnswerCounter;
 use crate::lane_lines::LaneLines;
 use crate::shared::Shared;
+use rtsp_book::Receipt;
 use rtsp_content::Table;
 use rtsp_engine::{Asker, Binder, Clock, Connection, PieceAnswerer, Plays, Shares, Words};
 use rtsp_grammar::MessageFault;
@@ -42,6 +43,7 @@ pub(crate) struct Front<'a, R> {
     /// The address of the host that the player connected to.
     pub(crate) host: Ipv4Addr,
     pub(crate) outlet: &'a Arc<Outlet>,
+    pub(crate) made: &'a mut Receipt,
     pub(crate) words: &'a mut RandomWords,
     pub(crate) plays: &'a mut NotedPlays,
     pub(crate) activity: &'a mut Activity,
@@ -61,6 +63,7 @@ fn answer_piece<R: Wait + Net + rt::Clock, W: Words, P: Plays>(
     lane: &mut BookHandle,
     asker: Asker,
     host: Ipv4Addr,
+    made: &mut Receipt,
     words: &mut W,
     plays: &mut P,
     input: &mut Connection,
@@ -99,6 +102,7 @@ fn answer_piece<R: Wait + Net + rt::Clock, W: Words, P: Plays>(
         alloc,
         &mut handle.seat,
         &handle.lock,
+        made,
         &mut binder,
         words,
         &mut clock,
@@ -150,6 +154,7 @@ impl<R: Wait + Net + rt::Clock> PieceAnswerer for Front<'_, R> {
             self.lane,
             self.asker,
             self.host,
+            self.made,
             self.words,
             self.plays,
             input,

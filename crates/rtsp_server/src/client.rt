@@ -199,6 +199,7 @@ impl Client {
         lane: &mut BookHandle,
     ) -> Read {
         let Tools {
+            made,
             words,
             plays,
             room,
@@ -227,6 +228,7 @@ impl Client {
             *asker,
             *host,
             outlet,
+            made,
             words,
             plays,
             activity,

@@ -1,5 +1,6 @@
 //! What a lane answers with.
 
+use rtsp_book::Receipt;
 use rtsp_pacing::NotedPlays;
 use rtsp_sockets::RandomWords;
 use rtsp_state::Room;
@@ -11,6 +12,8 @@ use std::rt::Files;
 
 /// What a lane answers with, for one connection after another.
 pub(crate) struct Tools {
+    /// What the step made that was last.
+    pub(crate) made: Receipt,
     pub(crate) words: RandomWords,
     /// The plays that were begun and whose answers aren't written yet.
     pub(crate) plays: NotedPlays,
@@ -24,6 +27,7 @@ pub(crate) struct Tools {
 impl Drop for Tools {
     fn drop(self) {
         let Self {
+            made: _made,
             words: _words,
             plays: _plays,
             room: _room,
@@ -37,6 +41,7 @@ impl Tools {
         let piece = Vec::from_elem(alloc, 0, PIECE)?;
         let words = RandomWords::open(rt)?;
         Ok(Tools {
+            made: Receipt::new(),
             words,
             plays: NotedPlays::new(alloc),
             room: Room::new(alloc),

@@ -4,6 +4,7 @@ use crate::answering::Front;
 use crate::lane_lines::LaneLines;
 use crate::shared::Shared;
 use crate::writing::AnswerWriter;
+use rtsp_book::Receipt;
 use rtsp_content::Table;
 use rtsp_engine::{Asker, Connection, PieceReader, VisitEnd, visit};
 use rtsp_lanes::BookHandle;
@@ -41,6 +42,7 @@ pub(crate) fn visit_lent<'a, R: Wait + Net + rt::Clock>(
     asker: Asker,
     host: Ipv4Addr,
     outlet: &'a Arc<Outlet>,
+    made: &'a mut Receipt,
     words: &'a mut RandomWords,
     plays: &'a mut NotedPlays,
     activity: &'a mut Activity,
@@ -61,6 +63,7 @@ pub(crate) fn visit_lent<'a, R: Wait + Net + rt::Clock>(
         asker,
         host,
         outlet,
+        made,
         words,
         plays,
         activity,
