@@ -4,7 +4,18 @@
 use crate::seats::converse_at_lock;
 use crate::world::SMALL;
 use rtsp_record::Whole;
-use std::test::Fail;
+
+#[test]
+fn admissions_bind_their_ports(rt: HostRuntime) {
+    converse_at_lock(&rt, &WIDE, PAIR_PASSED_OVER);
+    converse_at_lock(&rt, &WIDE, PORT_PASSED_OVER);
+    converse_at_lock(&rt, &WIDE, NO_PAIR);
+    converse_at_lock(&rt, &WIDE, NO_PORT);
+    converse_at_lock(&rt, &WIDE, PORTS_AND_PAIR);
+    converse_at_lock(&rt, &WIDE, REPLACED);
+    converse_at_lock(&rt, &WIDE, FREED);
+    converse_at_lock(&rt, &WIDE, ENDS_MEANWHILE);
+}
 
 // Two pairs of ports, and bandwidth for five streams.
 const WIDE: Whole = Whole {
@@ -12,11 +23,7 @@ const WIDE: Whole = Whole {
     ..SMALL
 };
 
-#[test]
-fn a_pair_that_cannot_be_bound_is_passed_over(rt: HostRuntime) -> Result<(), Fail> {
-    converse_at_lock(&rt, &WIDE, PAIR_PASSED_OVER)
-}
-
+// A pair that cannot be bound is passed over.
 const PAIR_PASSED_OVER: &str = "> admit-pair 2 3 5002
 bind pair 3 5000
 bind pair 3 5002
@@ -31,11 +38,7 @@ admitted pair 5002
 0 add 2 3 0 0 00000003 0 0 7f000001 8000 8001
 ";
 
-#[test]
-fn a_port_that_cannot_be_bound_is_passed_over(rt: HostRuntime) -> Result<(), Fail> {
-    converse_at_lock(&rt, &WIDE, PORT_PASSED_OVER)
-}
-
+// A port that cannot be bound is passed over.
 const PORT_PASSED_OVER: &str = "> admit-port 2 3 5001
 bind port 3 5000
 bind port 3 5001
@@ -50,11 +53,7 @@ admitted port 5001
 0 add 2 3 0 0 00000003 0 0 7f000001 8000 8001
 ";
 
-#[test]
-fn no_pair_can_be_bound(rt: HostRuntime) -> Result<(), Fail> {
-    converse_at_lock(&rt, &WIDE, NO_PAIR)
-}
-
+// No pair can be bound.
 const NO_PAIR: &str = "> admit-pair 2 3 65535
 bind pair 3 5000
 bind pair 3 5002
@@ -74,11 +73,7 @@ rate 0 400000
 pairs 0 2
 ";
 
-#[test]
-fn no_port_can_be_bound(rt: HostRuntime) -> Result<(), Fail> {
-    converse_at_lock(&rt, &WIDE, NO_PORT)
-}
-
+// No port can be bound.
 const NO_PORT: &str = "> admit-port 2 3 65535
 bind port 3 5000
 bind port 3 5001
@@ -93,11 +88,7 @@ rate 0 400000
 pairs 0 2
 ";
 
-#[test]
-fn a_port_takes_its_pair_from_others(rt: HostRuntime) -> Result<(), Fail> {
-    converse_at_lock(&rt, &WIDE, PORTS_AND_PAIR)
-}
-
+// A port takes its pair from others.
 const PORTS_AND_PAIR: &str = "> admit-port 2 3
 bind port 3 5000
 admitted port 5000
@@ -128,11 +119,7 @@ pairs 1 0
 ports 2 0
 ";
 
-#[test]
-fn the_ports_of_a_replaced_stream_are_unbound(rt: HostRuntime) -> Result<(), Fail> {
-    converse_at_lock(&rt, &WIDE, REPLACED)
-}
-
+// The ports of a replaced stream are unbound.
 // First a port, and then a pair.
 const REPLACED: &str = "> admit-port 2 3
 bind port 3 5000
@@ -156,11 +143,7 @@ rate 80000 320000
 pairs 0 2
 ";
 
-#[test]
-fn what_a_step_frees_is_unbound(rt: HostRuntime) -> Result<(), Fail> {
-    converse_at_lock(&rt, &WIDE, FREED)
-}
-
+// What a step frees is unbound.
 const FREED: &str = "> admit-port 2 3
 bind port 3 5000
 admitted port 5000
@@ -182,11 +165,7 @@ unbind port 3 5000
 > finish
 ";
 
-#[test]
-fn a_session_ends_while_its_admission_binds(rt: HostRuntime) -> Result<(), Fail> {
-    converse_at_lock(&rt, &WIDE, ENDS_MEANWHILE)
-}
-
+// A session ends while its admission binds.
 const ENDS_MEANWHILE: &str = "> admit-pair 2 3
 bind pair 3 5000
 admitted pair 5000

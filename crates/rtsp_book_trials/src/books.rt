@@ -3,13 +3,20 @@
 use crate::kept_books::{converse, converse_after};
 use crate::world::{SMALL, WITH_STREAM};
 use rtsp_record::Whole;
-use std::test::Fail;
 
 #[test]
-fn sessions_are_renewed_and_expire(rt: HostRuntime) -> Result<(), Fail> {
-    converse(&rt, &SMALL, RENEWALS)
+fn steps_record_what_they_change(rt: HostRuntime) {
+    converse(&rt, &SMALL, RENEWALS);
+    converse_after(&rt, &SMALL, WITH_STREAM, ENDED);
+    converse_after(&rt, &SMALL, WITH_STREAM, REPLACED);
+    converse_after(&rt, &NARROW, WITH_STREAM, NO_ROOM);
+    converse(&rt, &SMALL, TWO_ACTORS);
+    converse_after(&rt, &EXACTLY, WITH_STREAM, FULL);
+    converse_after(&rt, &SMALL, WITH_STREAM, PLAYS);
+    converse(&rt, &SMALL, HANGUP);
 }
 
+// Sessions are renewed and expire.
 const RENEWALS: &str = "> open 2 1 1 60000
 open 2 00000000000000000000000000000001 1 60000
 > expire 59999
@@ -36,11 +43,7 @@ rate 0 160000
 pairs 0 2
 ";
 
-#[test]
-fn a_session_ends_under_another_admission(rt: HostRuntime) -> Result<(), Fail> {
-    converse_after(&rt, &SMALL, WITH_STREAM, ENDED)
-}
-
+// A session ends under another admission.
 const ENDED: &str = "> rate 2 9
 hold 2 9 rate 80000
 > expire 60000
@@ -59,11 +62,7 @@ rate 0 160000
 pairs 0 2
 ";
 
-#[test]
-fn a_stream_takes_the_place_of_one_of_its_track(rt: HostRuntime) -> Result<(), Fail> {
-    converse_after(&rt, &SMALL, WITH_STREAM, REPLACED)
-}
-
+// A stream takes the place of one of its track.
 const REPLACED: &str = "> rate 2 4
 hold 2 4 rate 80000
 > first-channels 2 4 1
@@ -89,11 +88,7 @@ const NARROW: Whole = Whole {
     ..SMALL
 };
 
-#[test]
-fn an_old_stream_stays_where_the_uplink_has_no_room(rt: HostRuntime) -> Result<(), Fail> {
-    converse_after(&rt, &NARROW, WITH_STREAM, NO_ROOM)
-}
-
+// An old stream stays where the uplink has no room.
 const NO_ROOM: &str = "> rate 2 4
 NoBandwidth
 > book
@@ -105,11 +100,7 @@ rate 80000 0
 pairs 1 1
 ";
 
-#[test]
-fn two_sessions_share_one_journal(rt: HostRuntime) -> Result<(), Fail> {
-    converse(&rt, &SMALL, TWO_ACTORS)
-}
-
+// Two sessions share one journal.
 const TWO_ACTORS: &str = "> as 1
 > open 10 10 1 60000
 open 10 0000000000000000000000000000000a 1 60000
@@ -163,11 +154,7 @@ const EXACTLY: Whole = Whole {
     ..SMALL
 };
 
-#[test]
-fn a_full_journal_refuses_growing_steps_alone(rt: HostRuntime) -> Result<(), Fail> {
-    converse_after(&rt, &EXACTLY, WITH_STREAM, FULL)
-}
-
+// A full journal refuses growing steps alone.
 const FULL: &str = "> rate 2 4
 JournalFull
 > end 2
@@ -200,12 +187,8 @@ nothing
 entries 0 owed 0 rounds 0 next 4
 ";
 
+// A play goes on where it was paused.
 // One unit is due at once, and one more each 20 ms; the last of the 500 after 9,980 ms.
-#[test]
-fn a_play_goes_on_where_it_was_paused(rt: HostRuntime) -> Result<(), Fail> {
-    converse_after(&rt, &SMALL, WITH_STREAM, PLAYS)
-}
-
 const PLAYS: &str = "> play 2 0
 move 2 ready:0:0 playing:0:0:500:0
 > pause 2 19
@@ -243,11 +226,7 @@ close 2 00000000000000000000000000000001 1 60000
 freed 3 pair 5000
 ";
 
-#[test]
-fn a_connection_takes_its_startup_numbers_with_it(rt: HostRuntime) -> Result<(), Fail> {
-    converse(&rt, &SMALL, HANGUP)
-}
-
+// A connection takes its startup numbers with it.
 const HANGUP: &str = "> open 2 1 1 60000
 open 2 00000000000000000000000000000001 1 60000
 > rate 2 3

@@ -4,13 +4,19 @@
 use crate::kept_books::{converse, converse_after};
 use crate::world::{SMALL, WITH_STREAM};
 use rtsp_record::Whole;
-use std::test::Fail;
 
 #[test]
-fn a_settled_session_is_restated(rt: HostRuntime) -> Result<(), Fail> {
-    converse_after(&rt, &SMALL, WITH_STREAM, RESTATED)
+fn checkpoints_restate_what_lives(rt: HostRuntime) {
+    converse_after(&rt, &SMALL, WITH_STREAM, RESTATED);
+    converse_after(&rt, &SMALL, MIXED, UNDER_WAY);
+    converse(&rt, &SMALL, ALL_UNDER_WAY);
+    converse_after(&rt, &SHORT, WITH_STREAM, ROOM_AGAIN);
+    converse(&rt, &SMALL, PHASES);
+    converse_after(&rt, &SMALL, LAST_ACTOR, NUMBERS_SPENT);
+    converse_after(&rt, &WIDE, WITH_STREAM, RELIEF);
 }
 
+// A settled session is restated.
 const RESTATED: &str = "> touch 2 70000
 touch 2 60000 70000
 > touch 2 80000
@@ -70,11 +76,7 @@ const MIXED: &str = "0 open 2 00000000000000000000000000000001 1 60000
 0 open 8 00000000000000000000000000000007 1 60000
 ";
 
-#[test]
-fn a_setup_under_way_keeps_its_entries(rt: HostRuntime) -> Result<(), Fail> {
-    converse_after(&rt, &SMALL, MIXED, UNDER_WAY)
-}
-
+// A setup under way keeps its entries.
 // Once the SETUP is settled its session is restated too. The journal left can be replayed, and leads back to the empty
 // book.
 const UNDER_WAY: &str = "> checkpoint
@@ -117,11 +119,7 @@ rate 0 160000
 pairs 0 2
 ";
 
-#[test]
-fn all_setups_are_under_way(rt: HostRuntime) -> Result<(), Fail> {
-    converse(&rt, &SMALL, ALL_UNDER_WAY)
-}
-
+// All setups are under way.
 const ALL_UNDER_WAY: &str = "> open 2 1 1 60000
 open 2 00000000000000000000000000000001 1 60000
 > rate 2 3
@@ -143,11 +141,7 @@ const SHORT: Whole = Whole {
     ..SMALL
 };
 
-#[test]
-fn a_full_journal_has_room_again(rt: HostRuntime) -> Result<(), Fail> {
-    converse_after(&rt, &SHORT, WITH_STREAM, ROOM_AGAIN)
-}
-
+// A full journal has room again.
 const ROOM_AGAIN: &str = "> touch 2 70000
 touch 2 60000 70000
 > touch 2 80000
@@ -161,11 +155,7 @@ entries 4 owed 4 rounds 1 next 5
 touch 2 70000 80000
 ";
 
-#[test]
-fn the_phase_and_the_binding_are_restated(rt: HostRuntime) -> Result<(), Fail> {
-    converse(&rt, &SMALL, PHASES)
-}
-
+// The phase and the binding are restated.
 const PHASES: &str = "> open 2 1 1 60000
 open 2 00000000000000000000000000000001 1 60000
 > rate 2 3
@@ -210,15 +200,11 @@ entries 12 owed 0 rounds 3 next 4
 ";
 
 // The greatest number is reached by the actor of an entry, as in a journal that was read.
-#[test]
-fn at_the_greatest_number_nothing_is_done(rt: HostRuntime) -> Result<(), Fail> {
-    converse_after(&rt, &SMALL, LAST_ACTOR, NUMBERS_SPENT)
-}
-
 const LAST_ACTOR: &str = "18446744073709551615 open 2 00000000000000000000000000000001 1 60000
 0 touch 2 60000 70000
 ";
 
+// At the greatest number nothing is done.
 const NUMBERS_SPENT: &str = "> checkpoint
 > draw
 NumbersSpent
@@ -232,11 +218,7 @@ const WIDE: Whole = Whole {
     ..SMALL
 };
 
-#[test]
-fn a_checkpoint_is_made_where_it_pays(rt: HostRuntime) -> Result<(), Fail> {
-    converse_after(&rt, &WIDE, WITH_STREAM, RELIEF)
-}
-
+// A checkpoint is made where it pays.
 // It pays above twice the four returns that are owed, and a thousand entries.
 const RELIEF: &str = "> renew 2 60001 1004
 renewed 1004

@@ -3,15 +3,16 @@
 use crate::seats::converse_at_lock;
 use crate::world::SMALL;
 use rtsp_record::Whole;
-use std::test::Fail;
 
 #[test]
-fn a_checkpoint_stands_between_each_two_steps_that_are_granted(
-    rt: HostRuntime,
-) -> Result<(), Fail> {
-    converse_at_lock(&rt, &SMALL, GRANTED)
+fn checkpoints_fall_between_steps(rt: HostRuntime) {
+    converse_at_lock(&rt, &SMALL, GRANTED);
+    converse_at_lock(&rt, &ONE_PAIR, REFUSED);
+    converse_at_lock(&rt, &SMALL, FALLEN_INTO);
+    converse_at_lock(&rt, &LONG, RELIEF);
 }
 
+// A checkpoint stands between each two steps that are granted.
 // The session is restated while it holds nothing, by the number 2; its admission isn't until it has its stream.
 const GRANTED: &str = "> open 2 1 1 60000
 open 2 00000000000000000000000000000001 1 60000
@@ -44,13 +45,7 @@ entries 4 owed 4 rounds 3 next 5
 // A server with one pair of ports.
 const ONE_PAIR: Whole = Whole { pairs: 1, ..SMALL };
 
-#[test]
-fn a_checkpoint_stands_between_each_two_steps_that_are_refused(
-    rt: HostRuntime,
-) -> Result<(), Fail> {
-    converse_at_lock(&rt, &ONE_PAIR, REFUSED)
-}
-
+// A checkpoint stands between each two steps that are refused.
 // Whoever holds under the admission 5 is its own seat, nothing of it is left, and a checkpoint drops it.
 const REFUSED: &str = "> open 2 1 1 60000
 open 2 00000000000000000000000000000001 1 60000
@@ -106,11 +101,7 @@ pairs 1 0
 6 add 2 3 0 0 00000003 0 0 7f000001 8000 8001
 ";
 
-#[test]
-fn checkpoints_fall_into_admissions(rt: HostRuntime) -> Result<(), Fail> {
-    converse_at_lock(&rt, &SMALL, FALLEN_INTO)
-}
-
+// Checkpoints fall into admissions.
 // The session 10 is restated while a pair is bound for session 12, by the number 4.
 const FALLEN_INTO: &str = "> meanwhile-checkpoint
 > admit-pair 10 11 5002
@@ -155,11 +146,7 @@ const LONG: Whole = Whole {
     ..SMALL
 };
 
-#[test]
-fn a_relief_waits_until_it_pays(rt: HostRuntime) -> Result<(), Fail> {
-    converse_at_lock(&rt, &LONG, RELIEF)
-}
-
+// A relief waits until it pays.
 // One living session owes one entry, so two and a thousand may stand.
 const RELIEF: &str = "> open 2 1 1 60000
 open 2 00000000000000000000000000000001 1 60000

@@ -4,7 +4,12 @@
 use crate::kept_books::{converse, converse_after};
 use crate::world::{SMALL, WITH_STREAM};
 use rtsp_record::Whole;
-use std::test::Fail;
+
+#[test]
+fn ended_sessions_are_forgotten(rt: HostRuntime) {
+    converse_after(&rt, &EXACTLY, WITH_STREAM, FORGOTTEN);
+    converse(&rt, &SMALL, LIVING);
+}
 
 // Room for a session with a stream and what it is owed.
 const EXACTLY: Whole = Whole {
@@ -12,11 +17,7 @@ const EXACTLY: Whole = Whole {
     ..SMALL
 };
 
-#[test]
-fn a_full_journal_is_forgotten(rt: HostRuntime) -> Result<(), Fail> {
-    converse_after(&rt, &EXACTLY, WITH_STREAM, FORGOTTEN)
-}
-
+// A full journal is forgotten.
 // The second round finds no ended session, and isn't counted.
 const FORGOTTEN: &str = "> end 2
 drop 2 3 0 0 00000003 0 0 7f000001 8000 8001
@@ -42,11 +43,7 @@ open 4 00000000000000000000000000000002 1 60000
 nothing
 ";
 
-#[test]
-fn what_lives_is_not_forgotten(rt: HostRuntime) -> Result<(), Fail> {
-    converse(&rt, &SMALL, LIVING)
-}
-
+// What lives is not forgotten.
 // The session 11 ends between two renewals of the session 10.
 const LIVING: &str = "> forget
 > numbers

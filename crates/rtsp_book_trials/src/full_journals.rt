@@ -9,17 +9,20 @@ use rtsp_lock::open;
 use rtsp_record::Whole;
 use std::test::Fail;
 
+#[test]
+fn a_shared_seat_makes_room(rt: HostRuntime) {
+    converse_at_lock(&rt, &SHORT, ROOM_MADE);
+    converse_at_lock(&rt, &SHORT, UNDER_WAY);
+    converse_at_lock(&rt, &EXACTLY, NONE_TO_MAKE);
+}
+
 // Room for a session with a stream, what it is owed, and one entry more.
 const SHORT: Whole = Whole {
     journal: 9,
     ..SMALL
 };
 
-#[test]
-fn a_shared_seat_makes_room_for_its_step(rt: HostRuntime) -> Result<(), Fail> {
-    converse_at_lock(&rt, &SHORT, ROOM_MADE)
-}
-
+// A shared seat makes room for its step.
 // Each renewal but the first finds the journal full; a seat is made for it, and that draws a number, as each checkpoint
 // does.
 const ROOM_MADE: &str = "> open 2 1 1 60000
@@ -44,11 +47,7 @@ renewed 3
 entries 5 owed 4 rounds 3 next 7
 ";
 
-#[test]
-fn a_setup_under_way_keeps_its_entries_in_a_full_journal(rt: HostRuntime) -> Result<(), Fail> {
-    converse_at_lock(&rt, &SHORT, UNDER_WAY)
-}
-
+// A setup under way keeps its entries in a full journal.
 const UNDER_WAY: &str = "> open 2 1 1 60000
 open 2 00000000000000000000000000000001 1 60000
 > rate 2 3
@@ -74,11 +73,7 @@ const EXACTLY: Whole = Whole {
     ..SMALL
 };
 
-#[test]
-fn no_room_is_made_where_there_is_none_to_make(rt: HostRuntime) -> Result<(), Fail> {
-    converse_at_lock(&rt, &EXACTLY, NONE_TO_MAKE)
-}
-
+// No room is made where there is none to make.
 const NONE_TO_MAKE: &str = "> open 2 1 1 60000
 open 2 00000000000000000000000000000001 1 60000
 > rate 2 3

@@ -3,7 +3,15 @@
 use crate::kept_books::{converse, converse_after};
 use crate::world::SMALL;
 use rtsp_record::Whole;
-use std::test::Fail;
+
+#[test]
+fn journals_are_replayed_and_taken_back(rt: HostRuntime) {
+    converse_after(&rt, &JUST, TWO_SESSIONS, REPLAYED);
+    converse_after(&rt, &NARROW, TWO_SESSIONS, "TooLong\n");
+    converse_after(&rt, &SMALL, TWO_SESSIONS, LEFT_OUT);
+    converse_after(&rt, &SMALL, TWO_SESSIONS, TAKEN_BACK);
+    converse(&rt, &SMALL, DRAWN);
+}
 
 // Two sessions side by side, of which the second gives all back and ends.
 const TWO_SESSIONS: &str = "1 open 10 0000000000000000000000000000000a 3 60000
@@ -24,11 +32,13 @@ const JUST: Whole = Whole {
     ..SMALL
 };
 
-#[test]
-fn a_journal_is_replayed(rt: HostRuntime) -> Result<(), Fail> {
-    converse_after(&rt, &JUST, TWO_SESSIONS, REPLAYED)
-}
+// The limit is for entries and returns.
+const NARROW: Whole = Whole {
+    journal: 13,
+    ..SMALL
+};
 
+// A journal is replayed.
 const REPLAYED: &str = "> numbers
 entries 10 owed 4 rounds 0 next 14
 > book
@@ -40,20 +50,7 @@ rate 80000 80000
 pairs 1 1
 ";
 
-#[test]
-fn the_limit_is_for_entries_and_returns(rt: HostRuntime) -> Result<(), Fail> {
-    let narrow = Whole {
-        journal: 13,
-        ..SMALL
-    };
-    converse_after(&rt, &narrow, TWO_SESSIONS, "TooLong\n")
-}
-
-#[test]
-fn without_a_session_or_an_admission_the_others_stay(rt: HostRuntime) -> Result<(), Fail> {
-    converse_after(&rt, &SMALL, TWO_SESSIONS, LEFT_OUT)
-}
-
+// Without a session or an admission the others stay.
 // A stream needs its admission. Who lives isn't left out with those that have ended.
 const LEFT_OUT: &str = "> without-admission 12
 NotAllowed(5)
@@ -99,11 +96,7 @@ rate 0 160000
 pairs 0 2
 ";
 
-#[test]
-fn a_journal_is_taken_back_from_its_end(rt: HostRuntime) -> Result<(), Fail> {
-    converse_after(&rt, &SMALL, TWO_SESSIONS, TAKEN_BACK)
-}
-
+// A journal is taken back from its end.
 const TAKEN_BACK: &str = "> rewind 3
 > numbers
 entries 7 owed 7 rounds 0 next 14
@@ -125,11 +118,7 @@ rate 0 160000
 pairs 0 2
 ";
 
-#[test]
-fn numbers_are_drawn_from_1(rt: HostRuntime) -> Result<(), Fail> {
-    converse(&rt, &SMALL, DRAWN)
-}
-
+// Numbers are drawn from 1.
 const DRAWN: &str = "> draw
 drawn 1
 > draw

@@ -2,13 +2,14 @@
 
 use crate::seats::converse_at_lock;
 use crate::world::SMALL;
-use std::test::Fail;
 
 #[test]
-fn a_seat_acts_and_another_sees(rt: HostRuntime) -> Result<(), Fail> {
-    converse_at_lock(&rt, &SMALL, SEEN)
+fn another_seat_sees_what_one_did(rt: HostRuntime) {
+    converse_at_lock(&rt, &SMALL, SEEN);
+    converse_at_lock(&rt, &SMALL, FORGOTTEN);
 }
 
+// A seat acts and another sees.
 const SEEN: &str = "> draw
 drawn 2
 > open 3 103 1 60000
@@ -28,11 +29,7 @@ nobody
 entries 1 owed 1 rounds 0 next 3
 ";
 
-#[test]
-fn a_seat_forgets_what_another_ended(rt: HostRuntime) -> Result<(), Fail> {
-    converse_at_lock(&rt, &SMALL, FORGOTTEN)
-}
-
+// A seat forgets what another ended.
 const FORGOTTEN: &str = "> open 3 103 1 60000
 open 3 00000000000000000000000000000067 1 60000
 > end 3

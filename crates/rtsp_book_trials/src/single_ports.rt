@@ -2,13 +2,16 @@
 
 use crate::kept_books::{converse, converse_after};
 use crate::world::SMALL;
-use std::test::Fail;
 
 #[test]
-fn a_pair_with_a_held_port_is_not_free(rt: HostRuntime) -> Result<(), Fail> {
-    converse(&rt, &SMALL, PORT_BEFORE_PAIR)
+fn single_ports_are_held(rt: HostRuntime) {
+    converse(&rt, &SMALL, PORT_BEFORE_PAIR);
+    converse(&rt, &SMALL, REFUSED_AND_GIVEN);
+    converse(&rt, &SMALL, TRACKS);
+    converse_after(&rt, &SMALL, TWO_PORTS, PORTS_AGAIN);
 }
 
+// A pair with a held port is not free.
 const PORT_BEFORE_PAIR: &str = "> open 2 1 1 60000
 open 2 00000000000000000000000000000001 1 60000
 > rate 2 3
@@ -52,11 +55,7 @@ rate 80000 80000
 pairs 1 1
 ";
 
-#[test]
-fn ports_are_refused_and_given_back(rt: HostRuntime) -> Result<(), Fail> {
-    converse(&rt, &SMALL, REFUSED_AND_GIVEN)
-}
-
+// Ports are refused and given back.
 const REFUSED_AND_GIVEN: &str = "> port 2 3
 NoSession
 > open 2 1 1 60000
@@ -90,11 +89,7 @@ rate 0 160000
 pairs 1 1
 ";
 
-#[test]
-fn tracks_give_their_ports_back(rt: HostRuntime) -> Result<(), Fail> {
-    converse(&rt, &SMALL, TRACKS)
-}
-
+// Tracks give their ports back.
 const TRACKS: &str = "> open 2 1 1 60000
 open 2 00000000000000000000000000000001 1 60000
 > rate 2 3
@@ -134,17 +129,13 @@ pairs 0 2
 ";
 
 // The pair of the session's other port isn't free either; it is again once both ports are.
-#[test]
-fn a_journal_of_ports_is_read(rt: HostRuntime) -> Result<(), Fail> {
-    converse_after(&rt, &SMALL, TWO_PORTS, PORTS_AGAIN)
-}
-
 const TWO_PORTS: &str = "0 open 2 00000000000000000000000000000001 1 60000
 0 hold 2 3 port 5000
 0 hold 2 4 port 5001
 0 free 2 3 port 5000
 ";
 
+// A journal of ports is read.
 const PORTS_AGAIN: &str = "> journal
 0 open 2 00000000000000000000000000000001 1 60000
 0 hold 2 3 port 5000

@@ -3,7 +3,12 @@
 use crate::seats::converse_at_lock;
 use crate::world::SMALL;
 use rtsp_record::Whole;
-use std::test::Fail;
+
+#[test]
+fn sweeps_end_what_is_due(rt: HostRuntime) {
+    converse_at_lock(&rt, &WIDE, SWEPT);
+    converse_at_lock(&rt, &WIDE, HUNG_UP);
+}
 
 // Three pairs of ports, and bandwidth for five streams.
 const WIDE: Whole = Whole {
@@ -12,11 +17,7 @@ const WIDE: Whole = Whole {
     ..SMALL
 };
 
-#[test]
-fn sessions_end_when_they_are_due(rt: HostRuntime) -> Result<(), Fail> {
-    converse_at_lock(&rt, &WIDE, SWEPT)
-}
-
+// Sessions end when they are due.
 const SWEPT: &str = "> admit-port 2 3 5001
 bind port 3 5000
 bind port 3 5001
@@ -49,11 +50,7 @@ rate 80000 320000
 pairs 1 2
 ";
 
-#[test]
-fn a_connection_takes_its_channels_and_startups_with_it(rt: HostRuntime) -> Result<(), Fail> {
-    converse_at_lock(&rt, &WIDE, HUNG_UP)
-}
-
+// A connection takes its channels and startups with it.
 // The startup number is unbound before the session over channels is closed, which is last.
 const HUNG_UP: &str = "> admit-pair 2 3 0 0 7
 bind pair 3 5000

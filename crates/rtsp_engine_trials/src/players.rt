@@ -4,7 +4,6 @@
 use crate::server::{SERVER, Seen, Server, Watcher, as_sent, converse};
 use std::cell::Cell;
 use std::sync::Wait;
-use std::test::Fail;
 
 const STRICT: &str = "players = \"strict\"";
 
@@ -81,21 +80,21 @@ fn begin<R: AllocGlobal + Wait>(
     lines: &'static str,
     requests: &str,
     answers: &str,
-) -> Result<bool, Fail> {
+) -> Option<bool> {
     let talk = converse(rt, Server { lines, ..SERVER }, None, requests)?;
-    Ok(
-        talk.said
-            .starts_with(as_sent(rt.alloc(), answers)?.as_bytes()),
-    )
+    let answers = as_sent(rt.alloc(), answers).ok()?;
+    Some(talk.said.starts_with(answers.as_bytes()))
 }
 
 #[test]
-fn spoken_requests_are_answered_as_repaired_ones(rt: HostRuntime) -> Result<(), Fail> {
-    assert!(rt; begin(&rt, STRICT, WITHIN, ANSWERED)?);
-    assert!(rt; begin(&rt, GSTREAMER, WITHIN, ANSWERED)?);
-    assert!(rt; begin(&rt, GSTREAMER, SPOKEN, ANSWERED)?);
-    assert!(rt; begin(&rt, STRICT, SPOKEN, REFUSED)?);
-    Ok(())
+fn spoken_requests_are_answered_as_repaired_ones(rt: HostRuntime) {
+    let begun = [
+        begin(&rt, STRICT, WITHIN, ANSWERED),
+        begin(&rt, GSTREAMER, WITHIN, ANSWERED),
+        begin(&rt, GSTREAMER, SPOKEN, ANSWERED),
+        begin(&rt, STRICT, SPOKEN, REFUSED),
+    ];
+    assert!(rt; begun == [Some(true); 4]);
 }
 
 // Lines of a SETUP, and how its answer begins, repaired or not.
@@ -125,20 +124,20 @@ const UNREPAIRED: [(&str, &str); 5] = [
 ];
 
 // Whether the answer to a SETUP with these lines begins so for any players.
-fn begins_alike<R: AllocGlobal + Wait>(rt: &R, lines: &str, answer: &str) -> Result<bool, Fail> {
-    let requests = format!(in rt.alloc(); "SETUP rtsp://h/tone/a RTSP/2.0\nCSeq: 1\n{lines}\n\n")?;
-    Ok(
+fn begins_alike<R: AllocGlobal + Wait>(rt: &R, lines: &str, answer: &str) -> Option<bool> {
+    let requests = format!(in rt.alloc(); "SETUP rtsp://h/tone/a RTSP/2.0\nCSeq: 1\n{lines}\n\n");
+    let requests = requests.ok()?;
+    Some(
         begin(rt, STRICT, requests.as_str(), answer)?
             && begin(rt, GSTREAMER, requests.as_str(), answer)?,
     )
 }
 
 #[test]
-fn what_isn_t_repaired_is_answered_alike(rt: HostRuntime) -> Result<(), Fail> {
+fn what_isn_t_repaired_is_answered_alike(rt: HostRuntime) {
     for (lines, answer) in UNREPAIRED {
-        assert!(rt; begins_alike(&rt, lines, answer)?, "{lines}");
+        assert!(rt; begins_alike(&rt, lines, answer) == Some(true), "{lines}");
     }
-    Ok(())
 }
 
 const WATCHED: &str = "\
@@ -156,24 +155,20 @@ Transport: RTP/AVP;unicast;client_port=40352-40353
 ";
 
 // Whether the answers to that are the same where they are watched, and this is seen.
-fn is_watched<R: AllocGlobal + Wait>(
-    rt: &R,
-    lines: &'static str,
-    seen: Seen,
-) -> Result<bool, Fail> {
+fn is_watched<R: AllocGlobal + Wait>(rt: &R, lines: &'static str, seen: Seen) -> Option<bool> {
     let server = Server { lines, ..SERVER };
     let watcher = Watcher {
         seen: Cell::new((0, 0, None, 0)),
     };
     let watched = converse(rt, server, Some(&watcher), WATCHED)?.said;
     let alone = converse(rt, server, None, WATCHED)?.said;
-    Ok(watched == alone && watcher.seen.get() == seen)
+    Some(watched == alone && watcher.seen.get() == seen)
 }
 
 // The session's first eight digits are zeros.
 #[test]
-fn who_is_watched_is_answered_alike(rt: HostRuntime) -> Result<(), Fail> {
-    assert!(rt; is_watched(&rt, STRICT, (3, 400, None, 5 + 15))?);
-    assert!(rt; is_watched(&rt, GSTREAMER, (3, 200, Some(0), 5 + 15))?);
-    Ok(())
+fn who_is_watched_is_answered_alike(rt: HostRuntime) {
+    let strict = is_watched(&rt, STRICT, (3, 400, None, 5 + 15));
+    let gstreamer = is_watched(&rt, GSTREAMER, (3, 200, Some(0), 5 + 15));
+    assert!(rt; [strict, gstreamer] == [Some(true), Some(true)]);
 }

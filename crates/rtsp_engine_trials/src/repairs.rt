@@ -1,12 +1,9 @@
 //! What requests as players write them are repaired to, and which stay as they are.
 
-use crate::rows::cut;
-use rtsp_dialect::{
-    law_repaired_is_within, law_repairs_to_itself, law_rest_stays, law_says_the_same, repair,
-};
+use crate::rows::{Lines, cut, hold_lines};
+use rtsp_dialect::repair;
 use rtsp_grammar::{Item, MessageFault, read_item, write_request};
 use std::alloc::{AllocError, Global};
-use std::test::Fail;
 
 // A SETUP with these header lines between others.
 fn setup(alloc: Global, lines: &str) -> Result<String, AllocError> {
@@ -71,12 +68,20 @@ Transport: RTP/AVP;unicast;client_port=8000-8001-8002
 Transport: RTP/AVP;unicast;x=\"client_port=8000-8001;client_port=8000-8001\"
 ";
 
-#[test]
-fn what_is_within_the_grammar_or_unclear_stays(rt: HostRuntime) -> Result<(), Fail> {
-    for lines in STAY.lines() {
-        assert!(rt; setup_repaired(rt.alloc(), lines)?.is_empty(), "{lines}");
+struct StayLines;
+
+impl Lines for StayLines {
+    fn holds(alloc: Global, line: &str) -> bool {
+        match setup_repaired(alloc, line) {
+            Ok(out) => out.is_empty(),
+            Err(_) => false,
+        }
     }
-    Ok(())
+}
+
+#[test]
+fn what_is_within_the_grammar_or_unclear_stays(rt: HostRuntime) {
+    hold_lines::<StayLines>(&rt, rt.alloc(), STAY);
 }
 
 // Lines as players write them, and repaired. A sign `&` stands for the end of a line.
@@ -109,20 +114,25 @@ fn are_repaired(alloc: Global, row: &str) -> Result<bool, MessageFault> {
     )
 }
 
-#[test]
-fn what_players_write_is_repaired(rt: HostRuntime) -> Result<(), Fail> {
-    for row in CHANGE.lines() {
-        assert!(rt; are_repaired(rt.alloc(), row)?, "{row}");
+struct ChangeLines;
+
+impl Lines for ChangeLines {
+    fn holds(alloc: Global, line: &str) -> bool {
+        are_repaired(alloc, line) == Ok(true)
     }
-    Ok(())
+}
+
+#[test]
+fn what_players_write_is_repaired(rt: HostRuntime) {
+    hold_lines::<ChangeLines>(&rt, rt.alloc(), CHANGE);
 }
 
 // Requests of other methods and versions.
-const REQUESTS: [&str; 3] = [
-    "PLAY rtsp://h/ RTSP/1.0",
-    "play * RTSP/2.0",
-    "GET_PARAMETER rtsp://h/ RTSP/2.0",
-];
+const REQUESTS: &str = "\
+PLAY rtsp://h/ RTSP/1.0
+play * RTSP/2.0
+GET_PARAMETER rtsp://h/ RTSP/2.0
+";
 
 // Whether the long number in a request that begins so is repaired.
 fn is_repaired_after(alloc: Global, line: &str) -> Result<bool, MessageFault> {
@@ -131,19 +141,15 @@ fn is_repaired_after(alloc: Global, line: &str) -> Result<bool, MessageFault> {
     Ok(repaired(alloc, text.as_str())?.as_slice() == expected.as_bytes())
 }
 
-#[test]
-fn each_method_and_version_stays(rt: HostRuntime) -> Result<(), Fail> {
-    for line in REQUESTS {
-        assert!(rt; is_repaired_after(rt.alloc(), line)?, "{line}");
+struct RequestLines;
+
+impl Lines for RequestLines {
+    fn holds(alloc: Global, line: &str) -> bool {
+        is_repaired_after(alloc, line) == Ok(true)
     }
-    Ok(())
 }
 
-// The laws hold of every request; here they are called.
 #[test]
-fn the_laws_are_called() {
-    law_repairs_to_itself();
-    law_repaired_is_within();
-    law_rest_stays();
-    law_says_the_same();
+fn each_method_and_version_stays(rt: HostRuntime) {
+    hold_lines::<RequestLines>(&rt, rt.alloc(), REQUESTS);
 }

@@ -14,7 +14,6 @@ use rtsp_watch::{Told, Witness};
 use std::alloc::{AllocError, Global};
 use std::cell::Cell;
 use std::sync::Wait;
-use std::test::Fail;
 
 /// Further lines of the configuration, how long the journal may be, and which devices work.
 #[derive(Clone, Copy)]
@@ -190,9 +189,9 @@ pub(crate) fn as_sent(alloc: Global, text: &str) -> Result<String, AllocError> {
     text.replace(alloc, "\n", "\r\n")
 }
 
-fn table_of(alloc: Global, lines: &str) -> Result<Table, Fail> {
-    let text = format!(in alloc; "[server]\n{lines}\n{CONFIGURATION}")?;
-    Ok(Table::read(alloc, text.as_bytes())?)
+fn table_of(alloc: Global, lines: &str) -> Option<Table> {
+    let text = format!(in alloc; "[server]\n{lines}\n{CONFIGURATION}");
+    Table::read(alloc, text.ok()?.as_bytes()).ok()
 }
 
 // The moments to which a journal moves the ends of sessions.
@@ -219,6 +218,35 @@ fn said_in(
     Ok(said)
 }
 
+// What the input of a connection is answered, and what is learned of its plays.
+fn answered<R: AllocGlobal + Wait>(
+    rt: &R,
+    seat: &mut BookSeat,
+    lock: &BookLock,
+    server: Server,
+    table: &Table,
+    watcher: Option<&Watcher>,
+    input: &[u8],
+) -> Option<(Vec<u8>, Noting)>
+    requires { IsSeatOf seat.old lock.now }
+    ensures { SameSeat seat.old seat.new }
+{
+    let mut devices = Devices::of(server);
+    let mut room = Room::new(rt.alloc());
+    let pushed = answer(
+        rt,
+        seat,
+        lock,
+        table,
+        &mut devices,
+        watcher,
+        input,
+        &mut room,
+    );
+    let said = said_in(rt.alloc(), &room, pushed).ok()?;
+    Some((said, devices.plays))
+}
+
 // Has the input of a connection answered by a server of its own.
 fn serve<R: AllocGlobal + Wait>(
     rt: &R,
@@ -226,7 +254,7 @@ fn serve<R: AllocGlobal + Wait>(
     table: &Table,
     watcher: Option<&Watcher>,
     input: &[u8],
-) -> Result<Talk, Fail> {
+) -> Option<Talk> {
     let whole = Whole {
         first_port: 5000,
         pairs: 2,
@@ -234,25 +262,11 @@ fn serve<R: AllocGlobal + Wait>(
         sessions: 4,
         journal: server.journal,
     };
-    let (lock, mut seat) = open(rt.alloc(), &whole)?;
-    let mut devices = Devices::of(server);
-    let mut room = Room::new(rt.alloc());
-    let pushed = answer(
-        rt,
-        &mut seat,
-        &lock,
-        table,
-        &mut devices,
-        watcher,
-        input,
-        &mut room,
-    );
+    let (lock, mut seat) = open(rt.alloc(), &whole).ok()?;
+    let (said, plays) = answered(rt, &mut seat, &lock, server, table, watcher, input)?;
     let kept = seat.finish(rt, lock);
-    Ok(Talk {
-        said: said_in(rt.alloc(), &room, pushed)?,
-        plays: devices.plays,
-        ends: ends_in(rt.alloc(), kept.journal())?,
-    })
+    let ends = ends_in(rt.alloc(), kept.journal()).ok()?;
+    Some(Talk { said, plays, ends })
 }
 
 /// Has the requests of a connection answered by a server of their own.
@@ -261,8 +275,8 @@ pub(crate) fn converse<R: AllocGlobal + Wait>(
     server: Server,
     watcher: Option<&Watcher>,
     requests: &str,
-) -> Result<Talk, Fail> {
+) -> Option<Talk> {
     let table = table_of(rt.alloc(), server.lines)?;
-    let input = as_sent(rt.alloc(), requests)?;
+    let input = as_sent(rt.alloc(), requests).ok()?;
     serve(rt, server, &table, watcher, input.as_bytes())
 }

@@ -1,9 +1,8 @@
 //! What a configuration says, how its media is described, and where that lies.
 
-use crate::rows::cut;
+use crate::rows::{Lines, cut, hold_lines};
 use rtsp_content::*;
 use std::alloc::Global;
-use std::test::Fail;
 
 const TONE_SDP: &str = "\
 v=0\r
@@ -36,26 +35,42 @@ const SERVER: Server = Server {
 };
 
 fn shows_the_presentation(presentation: &Presentation) -> bool {
-    presentation.name() == "tone"
-        && presentation.units() == 500
-        && presentation.unit_ms().ms() == 20
-        && presentation.length_ms() == 10_000
-        && presentation.tracks().len() == 2
+    let numbers = [
+        u64::from(presentation.units()),
+        u64::from(presentation.unit_ms().ms()),
+        presentation.length_ms(),
+        presentation.tracks().len() as u64,
+    ];
+    numbers == [500, 20, 10_000, 2]
+        && presentation.name() == "tone"
         && presentation.track(2).is_none()
         && presentation.sdp() == TONE_SDP.as_bytes()
 }
 
-// Whether there is one presentation, which shows what the example says of it.
+fn has_the_rate(presentation: &Presentation) -> bool {
+    match presentation.track(1) {
+        Some(track) => presentation.rate(track) == 80_000,
+        None => false,
+    }
+}
+
+// Whether the presentation is the only one, and shows what the example says of it.
 fn shows_the_media(table: &Table) -> bool {
-    let Some(presentation) = table.presentation(0) else {
-        return false;
-    };
-    let Some(track) = presentation.track(1) else {
-        return false;
-    };
-    shows_the_presentation(presentation)
-        && presentation.rate(track) == 80_000
-        && table.presentation(1).is_none()
+    match table.presentations() {
+        [presentation] => {
+            shows_the_presentation(presentation)
+                && has_the_rate(presentation)
+                && table.presentation(1).is_none()
+        }
+        _ => false,
+    }
+}
+
+fn is_the_example(alloc: Global) -> bool {
+    match Table::read(alloc, EXAMPLE.as_bytes()) {
+        Ok(table) => table.server() == SERVER && shows_the_media(&table),
+        Err(_) => false,
+    }
 }
 
 // What is found at a path.
@@ -85,16 +100,22 @@ tone     | nothing
          | nothing
 ";
 
-#[test]
-fn reads_the_example(rt: HostRuntime) -> Result<(), Fail> {
-    let table = Table::read(rt.alloc(), EXAMPLE.as_bytes())?;
-    assert!(rt; table.server() == SERVER && table.presentations().len() == 1);
-    assert!(rt; shows_the_media(&table));
-    for row in PATHS.lines() {
-        let (path, expected) = cut(row);
-        assert!(rt; found(&table, path) == expected, "{row}");
+struct PathLines;
+
+impl Lines for PathLines {
+    fn holds(alloc: Global, line: &str) -> bool {
+        let (path, expected) = cut(line);
+        match Table::read(alloc, EXAMPLE.as_bytes()) {
+            Ok(table) => found(&table, path) == expected,
+            Err(_) => false,
+        }
     }
-    Ok(())
+}
+
+#[test]
+fn reads_the_example(rt: HostRuntime) {
+    assert!(rt; is_the_example(rt.alloc()));
+    hold_lines::<PathLines>(&rt, rt.alloc(), PATHS);
 }
 
 // A configuration of stereo sound, whose addresses have shares, whose players are GStreamer and whose
@@ -140,28 +161,39 @@ a=fmtp:96 emphasis=50-15\r
 a=control:s\r
 ";
 
-// Whether the optional keys say what they do above.
+// Whether the optional keys of a track say what they do above, and its presentation is described so.
+fn shows_the_track(presentation: &Presentation) -> bool {
+    match presentation.tracks() {
+        [track] => {
+            track.channels() == Some(2)
+                && track.format_parameters() == Some("emphasis=50-15")
+                && presentation.sdp() == STEREO_SDP.as_bytes()
+        }
+        _ => false,
+    }
+}
+
+// Whether those of the server do, too.
 fn shows_the_optional_keys(table: &Table) -> bool {
     let server = table.server();
-    let Some(presentation) = table.presentation(0) else {
-        return false;
+    let shares = [server.sessions_per_address, server.connections_per_address];
+    let is_shown = match table.presentations() {
+        [presentation] => shows_the_track(presentation),
+        _ => false,
     };
-    let Some(track) = presentation.track(0) else {
-        return false;
-    };
-    server.players == Players::Gstreamer
-        && server.sessions_per_address == Some(2)
-        && server.connections_per_address == Some(8)
-        && track.channels() == Some(2)
-        && track.format_parameters() == Some("emphasis=50-15")
-        && presentation.sdp() == STEREO_SDP.as_bytes()
+    is_shown && shares == [Some(2), Some(8)] && server.players == Players::Gstreamer
+}
+
+fn reads_stereo(alloc: Global) -> bool {
+    match Table::read(alloc, STEREO.as_bytes()) {
+        Ok(table) => shows_the_optional_keys(&table),
+        Err(_) => false,
+    }
 }
 
 #[test]
-fn reads_the_optional_keys(rt: HostRuntime) -> Result<(), Fail> {
-    let table = Table::read(rt.alloc(), STEREO.as_bytes())?;
-    assert!(rt; shows_the_optional_keys(&table));
-    Ok(())
+fn reads_the_optional_keys(rt: HostRuntime) {
+    assert!(rt; reads_stereo(rt.alloc()));
 }
 
 // Where the configuration is, its folder of the media, the file of its track, and where that is.
@@ -177,30 +209,41 @@ etc/rtspd.toml  | films      | /srv/disc.raw | /srv/disc.raw
 ";
 
 // The configuration of stereo sound at this place, with another folder and another file.
-fn placed(alloc: Global, place: &str, folder: &str, file: &str) -> Result<Table, Fail> {
-    let text = STEREO.replacen(alloc, "films", folder, 1)?;
-    let text = text.as_str().replacen(alloc, "disc.raw", file, 1)?;
-    Ok(Table::read_at(alloc, text.as_bytes(), place)?)
+fn placed(alloc: Global, place: &str, folder: &str, file: &str) -> Option<Table> {
+    let text = STEREO.replacen(alloc, "films", folder, 1).ok()?;
+    let text = text.as_str().replacen(alloc, "disc.raw", file, 1).ok()?;
+    Table::read_at(alloc, text.as_bytes(), place).ok()
 }
 
-fn has_its_file_at(table: &Table, path: &str) -> bool {
-    match table.presentations()[0].track(0) {
-        Some(track) => track.file() == path,
+fn has_its_file_at(table: Option<Table>, path: &str) -> bool {
+    match table {
+        Some(table) => match table.presentations()[0].track(0) {
+            Some(track) => track.file() == path,
+            None => false,
+        },
         None => false,
     }
 }
 
-#[test]
-fn finds_the_media(rt: HostRuntime) -> Result<(), Fail> {
-    for row in PLACES.lines() {
-        let (place, values) = cut(row);
+struct PlaceLines;
+
+impl Lines for PlaceLines {
+    fn holds(alloc: Global, line: &str) -> bool {
+        let (place, values) = cut(line);
         let (folder, values) = cut(values);
         let (file, path) = cut(values);
-        let table = placed(rt.alloc(), place, folder, file)?;
-        assert!(rt; has_its_file_at(&table, path), "{row}");
+        has_its_file_at(placed(alloc, place, folder, file), path)
     }
-    // Without a folder the file is taken as it is written.
-    let table = Table::read_at(rt.alloc(), EXAMPLE.as_bytes(), "/etc/rtspd.toml")?;
-    assert!(rt; has_its_file_at(&table, "tone-a.raw"));
-    Ok(())
+}
+
+// Without a folder the file is taken as it is written.
+fn takes_the_file_as_written(alloc: Global) -> bool {
+    let table = Table::read_at(alloc, EXAMPLE.as_bytes(), "/etc/rtspd.toml");
+    has_its_file_at(table.ok(), "tone-a.raw")
+}
+
+#[test]
+fn finds_the_media(rt: HostRuntime) {
+    hold_lines::<PlaceLines>(&rt, rt.alloc(), PLACES);
+    assert!(rt; takes_the_file_as_written(rt.alloc()));
 }

@@ -1,14 +1,11 @@
 //! Values of headers: what is read of them, which transport is picked, and what is written.
 
-use crate::rows::cut;
-use rtsp_text::Text;
+use crate::rows::{Lines, cut, hold_lines};
 use rtsp_transport::{
-    ChannelPair, Granted, Pick, Spec, TextFault, is_known, pick, read_cseq, read_session,
-    read_startup, read_tags, read_transports, session_id, write_session_id, write_ssrc,
-    write_transport,
+    Granted, Pick, TextFault, is_known, pick, read_cseq, read_session, read_startup,
+    read_transports, session_id, write_session_id, write_ssrc, write_transport,
 };
 use std::alloc::{AllocError, Global};
-use std::test::Fail;
 
 const LOCALHOST: u32 = 0x7f00_0001;
 
@@ -33,8 +30,9 @@ fn picked(alloc: Global, text: &str) -> &'static str {
     }
 }
 
-// The first transport of a header that can be served, or why none can: also for RTP and RTCP on one
-// port, and where that isn't one port, or is for something else.
+// The first transport of a header that can be served, or why none can: also where a quoted value has
+// what else parts transports, for RTP and RTCP on one port, and where that isn't one port, or is for
+// something else.
 const PICKED: &str = "\
 any channels     | RTP/AVP/TCP;interleaved=1-2
 channels 2 and 3 | RTP/SAVP;unicast, RTP/AVP/TCP;interleaved=2-3
@@ -43,6 +41,7 @@ channels 2 and 3 | RTP/SAVP;unicast, RTP/AVP/TCP;interleaved=2-3
 prohibited       | RTP/AVP;dest_addr=\"192.0.2.9:8000\"/\"192.0.2.9:8001\"
 unsupported      | RTP/AVP;dest_addr=\"[x]:8000\"/\":8001\"
 unsupported      | RTP/AVP/TCP;interleaved=0-1;mode=RECORD
+8000 and 8001    | RTP/AVP ; a=\";,\";b;dest_addr=\":8000\"/\":8001\",X
 8000 for both    | RTP/AVP;unicast;dest_addr=\":8000\";RTCP-mux
 8000 for both    | rtp/avp/udp;rtcp-MUX;dest_addr=\"127.0.0.1:8000\"
 8000 for both    | RTP/AVP;RTCP-mux;dest_addr=\":8000\";RTCP-mux;interleaved=0-1
@@ -71,32 +70,18 @@ malformed        | RTP/AVP;a=\"
 malformed        | a,a,a,a,a,a,a,a,a,a,a,a,a,a,a,a,a
 ";
 
+struct PickedLines;
+
+impl Lines for PickedLines {
+    fn holds(alloc: Global, line: &str) -> bool {
+        let (expected, text) = cut(line);
+        picked(alloc, text) == expected
+    }
+}
+
 #[test]
 fn transports_are_picked(rt: HostRuntime) {
-    for row in PICKED.lines() {
-        let (expected, text) = cut(row);
-        assert!(rt; picked(rt.alloc(), text) == expected, "{row}");
-    }
-    assert!(rt; ChannelPair::new(2).is_some() && ChannelPair::new(3).is_none());
-}
-
-// Two transports, the first of which has two parameters.
-fn are_two(specs: &[Spec]) -> bool {
-    let [first, _] = specs else {
-        return false;
-    };
-    let [_, second] = first.parameters.as_slice() else {
-        return false;
-    };
-    first.protocol.as_bytes() == b"RTP/AVP".as_slice()
-        && second.name.as_bytes() == b"b".as_slice()
-        && second.value.is_none()
-}
-
-#[test]
-fn transports_as_trees(rt: HostRuntime) -> Result<(), Fail> {
-    assert!(rt; are_two(&read_transports(rt.alloc(), b" RTP/AVP ; a=\";,\";b,X")?));
-    Ok(())
+    hold_lines::<PickedLines>(&rt, rt.alloc(), PICKED);
 }
 
 const GRANTED: [Granted; 3] = [
@@ -135,12 +120,14 @@ fn tell(out: &mut Vec<u8>) -> Result<(), AllocError> {
     write_session_id(out, 31)
 }
 
+fn are_told(alloc: Global) -> bool {
+    let mut out = Vec::new(alloc);
+    tell(&mut out).is_ok() && out.as_slice() == TOLD.as_bytes()
+}
+
 #[test]
-fn what_answers_say(rt: HostRuntime) -> Result<(), Fail> {
-    let mut out = Vec::new(rt.alloc());
-    tell(&mut out)?;
-    assert!(rt; out.as_slice() == TOLD.as_bytes());
-    Ok(())
+fn what_answers_say(rt: HostRuntime) {
+    assert!(rt; are_told(rt.alloc()));
 }
 
 // Session headers, the name in each, if it has one, and the number of which that is the id.
@@ -168,40 +155,41 @@ fn number_of(name: &str) -> &'static str {
     }
 }
 
-#[test]
-fn sessions(rt: HostRuntime) {
-    for row in SESSIONS.lines() {
-        let (text, values) = cut(row);
+struct SessionLines;
+
+impl Lines for SessionLines {
+    fn holds(_alloc: Global, line: &str) -> bool {
+        let (text, values) = cut(line);
         let (name, number) = cut(values);
-        assert!(rt;
-            name_in(text) == name.as_bytes() && number_of(name) == number,
-            "{row}"
-        );
+        name_in(text) == name.as_bytes() && number_of(name) == number
     }
 }
 
 #[test]
-fn numbers(rt: HostRuntime) {
-    let startups = [read_startup(b"00000007"), read_startup(b"123456789")];
-    assert!(rt; startups == [Ok(7), Err(TextFault::Malformed)]);
-    let numbers = [read_cseq(b"123456789"), read_cseq(b"1234567890")];
-    assert!(rt; numbers == [Ok(123_456_789), Err(TextFault::Malformed)]);
+fn sessions(rt: HostRuntime) {
+    hold_lines::<SessionLines>(&rt, rt.alloc(), SESSIONS);
 }
 
-// Three tags, of which the first is known.
-fn are_three(tags: &[Text]) -> bool {
-    let [first, second, _] = tags else {
-        return false;
-    };
-    is_known(first.as_bytes())
-        && second.as_bytes() == b"x.y".as_slice()
-        && !is_known(second.as_bytes())
+// Whether numbers of so many digits are read, and none that are longer.
+fn are_read() -> bool {
+    let startups = [read_startup(b"00000007"), read_startup(b"123456789")];
+    let numbers = [read_cseq(b"123456789"), read_cseq(b"1234567890")];
+    startups == [Ok(7), Err(TextFault::Malformed)]
+        && numbers == [Ok(123_456_789), Err(TextFault::Malformed)]
 }
 
 #[test]
-fn tags(rt: HostRuntime) -> Result<(), Fail> {
-    assert!(rt; are_three(&read_tags(rt.alloc(), b"play.basic, x.y ,z")?));
-    assert!(rt; read_tags(rt.alloc(), b"play.basic,").err() == Some(TextFault::Malformed));
-    assert!(rt; is_known(b"setup.rtp.rtcp.mux") && !is_known(b"Play.basic"));
-    Ok(())
+fn numbers(rt: HostRuntime) {
+    assert!(rt; are_read());
+}
+
+// That they are read, and how many stand in a header, is shown by what a Require is answered.
+#[test]
+fn tags(rt: HostRuntime) {
+    let known = [
+        is_known(b"play.basic"),
+        is_known(b"setup.rtp.rtcp.mux"),
+        is_known(b"Play.basic"),
+    ];
+    assert!(rt; known == [true, true, false]);
 }

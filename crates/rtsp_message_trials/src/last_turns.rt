@@ -1,9 +1,10 @@
 //! What is still sent of a play that its session has left, at moments that are chosen.
 
-use crate::packets::{Keeps, ONE, failing_at, pacer_of};
+use crate::packets::{Keeps, ONE, failing_at, start};
+use crate::rows::{Row, hold_rows};
 use rtsp_record::Phase;
 use rtsp_rtp::*;
-use std::test::Fail;
+use std::alloc::Global;
 
 // Eight units of 20 ms, numbered across 2^32.
 const PLAYED: Phase = Phase::Playing {
@@ -127,12 +128,16 @@ fn is_left(pacer: &mut Pacer, sink: &mut Keeps, left: &Left) -> bool {
     sink.last_unit as usize == sink.sent.saturating_add(6)
 }
 
-#[test]
-fn a_last_turn_sends_what_was_counted(rt: HostRuntime) -> Result<(), Fail> {
-    for (number, left) in LEFT.iter().enumerate() {
-        let mut pacer = pacer_of(&rt, rt.alloc(), ONE, PLAYED)?;
-        let mut sink = failing_at(left.2);
-        assert!(rt; is_left(&mut pacer, &mut sink, left), "row {number}");
+impl Row for Left {
+    fn holds(&self, alloc: Global) -> bool {
+        match start(alloc, ONE, PLAYED) {
+            Some(mut pacer) => is_left(&mut pacer, &mut failing_at(self.2), self),
+            None => false,
+        }
     }
-    Ok(())
+}
+
+#[test]
+fn a_last_turn_sends_what_was_counted(rt: HostRuntime) {
+    hold_rows(&rt, rt.alloc(), &LEFT);
 }

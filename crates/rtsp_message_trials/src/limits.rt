@@ -1,6 +1,6 @@
 //! What a configuration may say, and what not, which is told by its first fault.
 
-use crate::rows::cut;
+use crate::rows::{Lines, cut, hold_lines};
 use rtsp_content::{EXAMPLE, Operation, Table, TableFault};
 use std::alloc::{AllocError, Global};
 
@@ -181,12 +181,17 @@ ticks | x | missing
 file | x | missing
 ";
 
-#[test]
-fn what_is_taken_and_what_is_refused(rt: HostRuntime) -> Result<(), AllocError> {
-    for row in REPLACED.lines() {
-        let (old, values) = cut(row);
+struct ReplacedLines;
+
+impl Lines for ReplacedLines {
+    fn holds(alloc: Global, line: &str) -> bool {
+        let (old, values) = cut(line);
         let (new, expected) = cut(values);
-        assert!(rt; fate_with(rt.alloc(), old, new)? == expected, "{row}");
+        fate_with(alloc, old, new) == Ok(expected)
     }
-    Ok(())
+}
+
+#[test]
+fn what_is_taken_and_what_is_refused(rt: HostRuntime) {
+    hold_lines::<ReplacedLines>(&rt, rt.alloc(), REPLACED);
 }

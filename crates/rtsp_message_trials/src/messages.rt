@@ -1,8 +1,8 @@
 //! Messages and frames: what is read of a text, whole and byte by byte, and how it is written.
 
+use crate::rows::{Row, hold_rows};
 use rtsp_grammar::*;
 use std::alloc::{AllocError, Global};
-use std::test::Fail;
 
 fn write_item(out: &mut Vec<u8>, item: &Item) -> Result<(), AllocError> {
     match item {
@@ -96,34 +96,37 @@ const READ: [Read; 13] = [
     ),
 ];
 
-// Whether this is read, whole and byte by byte.
-fn is_read(alloc: Global, read: Read) -> bool {
-    let (text, left, written) = read;
-    let mut whole = Vec::new(alloc);
-    let mut pieces = Vec::new(alloc);
-    rewrite(&mut whole, alloc, text.as_bytes()) == left
-        && rewrite_fed(&mut pieces, alloc, text.as_bytes()) == left
-        && whole.as_slice() == written.as_bytes()
-        && pieces.as_slice() == written.as_bytes()
+impl Row for Read {
+    // It is read so, whole and byte by byte.
+    fn holds(&self, alloc: Global) -> bool {
+        let (text, left, written) = *self;
+        let mut whole = Vec::new(alloc);
+        let mut pieces = Vec::new(alloc);
+        rewrite(&mut whole, alloc, text.as_bytes()) == left
+            && rewrite_fed(&mut pieces, alloc, text.as_bytes()) == left
+            && whole.as_slice() == written.as_bytes()
+            && pieces.as_slice() == written.as_bytes()
+    }
 }
 
 #[test]
 fn texts_are_read(rt: HostRuntime) {
-    for read in READ {
-        assert!(rt; is_read(rt.alloc(), read), "{}", read.0);
-    }
+    hold_rows(&rt, rt.alloc(), &READ);
 }
 
-// The items of a stream come one by one, and nothing is left of it.
+const STREAM: &str = "OPTIONS * RTSP/2.0\r\nCSeq: 1\r\n\r\n\
+    PLAY rtsp://h/a RTSP/2.0\r\nContent-Length: 3\r\n\r\na\r\n\
+    RTSP/2.0 200 OK\r\n\r\n$\x01\0\x02hi";
+
+// Whether the items of a stream are written as they came, and nothing is left of it.
+fn comes_through(alloc: Global, stream: &str) -> bool {
+    let mut out = Vec::new(alloc);
+    rewrite_fed(&mut out, alloc, stream.as_bytes()) == Ok(0) && out.as_slice() == stream.as_bytes()
+}
+
 #[test]
-fn a_stream_is_read(rt: HostRuntime) -> Result<(), Fail> {
-    let text = b"OPTIONS * RTSP/2.0\r\nCSeq: 1\r\n\r\n\
-        PLAY rtsp://h/a RTSP/2.0\r\nContent-Length: 3\r\n\r\na\r\n\
-        RTSP/2.0 200 OK\r\n\r\n$\x01\0\x02hi";
-    let mut out = Vec::new(rt.alloc());
-    assert!(rt; rewrite_fed(&mut out, rt.alloc(), text)? == 0);
-    assert!(rt; out.as_slice() == text.as_slice());
-    Ok(())
+fn a_stream_is_read(rt: HostRuntime) {
+    assert!(rt; comes_through(rt.alloc(), STREAM));
 }
 
 // How a text begins, what follows so many times, how it ends, and whether it is an item or why not.
@@ -167,60 +170,22 @@ fn long_text(alloc: Global, long: Long) -> Result<Vec<u8>, AllocError> {
 }
 
 // Whether this is read so. An item is written as it was read.
-fn is_long_read(alloc: Global, long: Long) -> Result<bool, AllocError> {
-    let text = long_text(alloc, long)?;
+fn is_long_read(alloc: Global, text: &[u8], wanted: Result<usize, MessageFault>) -> bool {
     let mut out = Vec::new(alloc);
-    let left = rewrite(&mut out, alloc, text.as_slice());
-    Ok(left == long.4 && (out == text) == left.is_ok())
+    let left = rewrite(&mut out, alloc, text);
+    left == wanted && (out.as_slice() == text) == left.is_ok()
 }
 
-#[test]
-fn long_texts_are_read(rt: HostRuntime) -> Result<(), Fail> {
-    for long in LONG {
-        assert!(rt; is_long_read(rt.alloc(), long)?, "{} times", long.2);
+impl Row for Long {
+    fn holds(&self, alloc: Global) -> bool {
+        match long_text(alloc, *self) {
+            Ok(text) => is_long_read(alloc, &text, self.4),
+            Err(_) => false,
+        }
     }
-    Ok(())
-}
-
-// Two headers, which are found by names in any case.
-fn are_found(headers: &Headers) -> bool {
-    let transport = b"a, b".as_slice();
-    headers.len() == 2
-        && !headers.is_empty()
-        && headers.get(0).is_named(b"cseq")
-        && headers.get(0).value == b"7".as_slice()
-        && headers.count_of(b"TRANSPORT") == 1
-        && headers.nth_value(b"transport", 0) == Some(transport)
-        && headers.nth_value(b"transport", 1).is_none()
-        && headers.only_value(b"transport") == Ok(Some(transport))
-        && headers.only_value(b"session") == Ok(None)
-}
-
-fn two_headers(alloc: Global) -> Result<Headers, AllocError> {
-    let mut headers = HeadersBuilder::with_room(alloc, 1, 8)?;
-    headers.push(b"CSeq", b"7")?;
-    headers.push(b"Transport", b"a, b")?;
-    Ok(headers.into_headers())
 }
 
 #[test]
-fn headers_are_found(rt: HostRuntime) -> Result<(), Fail> {
-    let headers = two_headers(rt.alloc())?;
-    assert!(rt; are_found(&headers));
-    let none = HeadersBuilder::new(rt.alloc()).into_headers();
-    assert!(rt; none.is_empty());
-    Ok(())
-}
-
-// The laws hold of every text; here they are called.
-#[test]
-fn laws_are_called() {
-    law_reads_rules();
-    law_one_answer();
-    law_stays();
-    law_no_answer();
-    law_opens_out();
-    law_reads_back();
-    law_keeps_items();
-    law_however_cut();
+fn long_texts_are_read(rt: HostRuntime) {
+    hold_rows(&rt, rt.alloc(), &LONG);
 }

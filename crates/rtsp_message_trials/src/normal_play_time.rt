@@ -1,12 +1,10 @@
 //! Values from RFC 7826 and the server's profile.
 
-use crate::rows::cut;
+use crate::rows::{Lines, cut, hold_lines};
 use rtsp_npt::{
-    OutOfMedia, RangeFault, UnitLength, law_fits_header, law_reads_back, law_units_stay,
-    read_range, resolve, write_range, write_stop, write_time,
+    OutOfMedia, RangeFault, UnitLength, read_range, resolve, write_range, write_stop, write_time,
 };
 use std::alloc::{AllocError, Global};
-use std::test::Fail;
 
 // What is taken of ten seconds in units of 20 ms, by a header of a session that halts at a unit.
 fn taken(alloc: Global, text: &str, halt: u32) -> Result<String, AllocError> {
@@ -51,15 +49,22 @@ n t=0-                    | 0   | bad npt
                           | 0   | bad npt
 ";
 
-#[test]
-fn takes_units(rt: HostRuntime) -> Result<(), Fail> {
-    for row in TAKEN.lines() {
-        let (text, values) = cut(row);
+struct TakenLines;
+
+impl Lines for TakenLines {
+    fn holds(alloc: Global, line: &str) -> bool {
+        let (text, values) = cut(line);
         let (halt, expected) = cut(values);
-        let found = taken(rt.alloc(), text, halt.parse()?)?;
-        assert!(rt; found.as_str() == expected, "{row}");
+        match taken(alloc, text, halt.parse().unwrap_or(0)) {
+            Ok(found) => found.as_str() == expected,
+            Err(_) => false,
+        }
     }
-    Ok(())
+}
+
+#[test]
+fn takes_units(rt: HostRuntime) {
+    hold_lines::<TakenLines>(&rt, rt.alloc(), TAKEN);
 }
 
 fn write_three(out: &mut Vec<u8>, unit: UnitLength) -> Result<(), AllocError> {
@@ -68,18 +73,14 @@ fn write_three(out: &mut Vec<u8>, unit: UnitLength) -> Result<(), AllocError> {
     write_time(out, 1, unit)
 }
 
-#[test]
-fn writes_three_decimals(rt: HostRuntime) -> Result<(), Fail> {
-    let mut out = Vec::new(rt.alloc());
-    write_three(&mut out, UnitLength::new(20))?;
-    assert!(rt; out.as_slice() == b"npt=2.500-10.000npt=-10.0000.020".as_slice());
-    Ok(())
+const THREE: &[u8] = b"npt=2.500-10.000npt=-10.0000.020";
+
+fn are_written(alloc: Global) -> bool {
+    let mut out = Vec::new(alloc);
+    write_three(&mut out, UnitLength::new(20)).is_ok() && out.as_slice() == THREE
 }
 
-// The laws hold of every time and range; here they are called.
 #[test]
-fn laws_are_called() {
-    law_reads_back();
-    law_units_stay();
-    law_fits_header();
+fn writes_three_decimals(rt: HostRuntime) {
+    assert!(rt; are_written(rt.alloc()));
 }

@@ -1,8 +1,8 @@
 //! What `serve` keeps and shows: what a configuration says of it.
 
+use crate::rows::{Row, hold_rows};
 use rtsp_content::{JournalFiles, Operation, TableFault, WhenFull};
 use std::alloc::Global;
-use std::test::Fail;
 
 fn read(alloc: Global, text: &str) -> Result<Operation, TableFault> {
     Operation::read_at(alloc, text.as_bytes(), "/etc/rtspd/films.toml")
@@ -46,29 +46,41 @@ fn are_said(files: Option<&JournalFiles>, said: Option<Files>) -> bool {
     }
 }
 
-#[test]
-fn says_what_is_kept_and_shown(rt: HostRuntime) -> Result<(), Fail> {
-    for (text, files, log, status) in SAID {
-        let operation = read(rt.alloc(), text)?;
-        assert!(rt; are_said(operation.journal(), files), "{text}");
-        assert!(rt;
-            operation.access_log() == log && operation.status() == status,
-            "{text}"
-        );
+impl Row for Said {
+    fn holds(&self, alloc: Global) -> bool {
+        let (text, files, log, status) = *self;
+        match read(alloc, text) {
+            Ok(operation) => {
+                are_said(operation.journal(), files)
+                    && operation.access_log() == log
+                    && operation.status() == status
+            }
+            Err(_) => false,
+        }
     }
-    Ok(())
 }
 
-// No configurations, and why not.
-const REFUSED: [(&str, TableFault); 3] = [
+#[test]
+fn says_what_is_kept_and_shown(rt: HostRuntime) {
+    hold_rows(&rt, rt.alloc(), &SAID);
+}
+
+// No configuration, and why not.
+type Refused = (&'static str, TableFault);
+
+const REFUSED: [Refused; 3] = [
     ("status = 1\n", TableFault::Missing),
     ("server = 1\n", TableFault::BadValue),
     ("[server\n", TableFault::NotToml),
 ];
 
+impl Row for Refused {
+    fn holds(&self, alloc: Global) -> bool {
+        read(alloc, self.0).err() == Some(self.1)
+    }
+}
+
 #[test]
 fn refuses_what_is_no_configuration(rt: HostRuntime) {
-    for (text, fault) in REFUSED {
-        assert!(rt; read(rt.alloc(), text).err() == Some(fault), "{text}");
-    }
+    hold_rows(&rt, rt.alloc(), &REFUSED);
 }

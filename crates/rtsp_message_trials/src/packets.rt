@@ -3,12 +3,10 @@
 ghost use Rattle.std.specs.Prelude.{◌≡◌};
 
 use rtsp_content::{EXAMPLE, Table};
-use rtsp_record::{Phase, Stream, Whole, read_journal};
+use rtsp_record::{Entry, Phase, Stream, Whole, read_journal};
 use rtsp_rtp::*;
 use rtsp_sessions::{BookRep, PlainBook};
-use std::alloc::Global;
-use std::process::Abort;
-use std::test::Fail;
+use std::alloc::{AllocError, Global};
 
 // A server with two pairs of ports, and bandwidth for two streams of the example.
 const SMALL: Whole = Whole {
@@ -38,38 +36,30 @@ const BOTH: &str = "\
 0 add 2 20 0 0 00000001 65535 4294967200 7f000001 8000 8001
 ";
 
-// The book of a journal.
-fn book_of(alloc: Global, journal: &str) -> Result<PlainBook, Fail> {
-    let mut book = PlainBook::open(alloc, &SMALL)?;
-    for entry in read_journal(alloc, journal.as_bytes())?.iter() {
+// Applies what is allowed of a journal's entries.
+fn apply_all(book: &mut PlainBook, entries: &[Entry]) -> Result<(), AllocError> {
+    for entry in entries {
         let change = [entry.change];
         if book.allowed(&change[0]) {
             book.apply(&change)?;
         }
     }
-    Ok(book)
+    Ok(())
 }
 
-// A pacer of the session that a journal tells of, where this phase is a play.
-fn start(alloc: Global, journal: &str, phase: Phase) -> Result<Option<Pacer>, Fail> {
-    let table = Table::read(alloc, EXAMPLE.as_bytes())?;
-    match book_of(alloc, journal)?.session(2) {
-        Some(view) => Ok(Pacer::start(&view, phase, &table.presentations()[0])),
-        None => Ok(None),
-    }
+// The book of a journal.
+fn book_of(alloc: Global, journal: &str) -> Option<PlainBook> {
+    let mut book = PlainBook::open(alloc, &SMALL).ok()?;
+    let entries = read_journal(alloc, journal.as_bytes()).ok()?;
+    apply_all(&mut book, &entries).ok()?;
+    Some(book)
 }
 
-/// A pacer of the session that a journal tells of, in a play.
-pub(crate) fn pacer_of(
-    rt: &impl Abort,
-    alloc: Global,
-    journal: &str,
-    play: Phase,
-) -> Result<Pacer, Fail> {
-    let Some(pacer) = start(alloc, journal, play)? else {
-        panic!(rt; "it plays")
-    };
-    Ok(pacer)
+/// A pacer of the session that a journal tells of, where this phase is a play.
+pub(crate) fn start(alloc: Global, journal: &str, phase: Phase) -> Option<Pacer> {
+    let table = Table::read(alloc, EXAMPLE.as_bytes()).ok()?;
+    let view = book_of(alloc, journal)?.session(2)?;
+    Pacer::start(&view, phase, table.presentation(0)?)
 }
 
 // Keeps the first bytes of what it is sent, and fails at one packet.
@@ -152,16 +142,20 @@ fn is_second(packet: &mut Packet) -> bool {
         && packet.frame(3).len() == 176
 }
 
+fn second_of(table: &Table) -> Option<Packet> {
+    let track = table.presentation(0)?.track(0)?;
+    Some(packet(track, &STREAM, &PLAYING, 1, &[7; 160]))
+}
+
+fn has_its_second(alloc: Global) -> Option<bool> {
+    let table = Table::read(alloc, EXAMPLE.as_bytes()).ok()?;
+    Some(is_second(&mut second_of(&table)?))
+}
+
 #[test]
-fn a_packet_and_its_frame(rt: HostRuntime) -> Result<(), Fail> {
-    let table = Table::read(rt.alloc(), EXAMPLE.as_bytes())?;
-    let Some(track) = table.presentations()[0].track(0) else {
-        panic!(rt; "there is a track")
-    };
-    let mut packet = packet(track, &STREAM, &PLAYING, 1, &[7; 160]);
-    assert!(rt; is_second(&mut packet));
+fn a_packet_and_its_frame(rt: HostRuntime) {
+    assert!(rt; has_its_second(rt.alloc()) == Some(true));
     assert!(rt; Packet::new().datagram().is_empty());
-    Ok(())
 }
 
 // A phase, a moment, what a turn comes to then, how many packets are sent by then, and when the next
@@ -213,34 +207,63 @@ fn is_turned(pacer: &mut Pacer, sink: &mut Keeps, wanted: &Turned) -> bool {
         && pacer.next_due() == next
 }
 
-fn assert_turned(rt: &impl Abort, pacer: &mut Pacer, sink: &mut Keeps, turns: &[Turned]) {
+// The first turn that comes to something else.
+fn first_other(pacer: &mut Pacer, sink: &mut Keeps, turns: &[Turned]) -> Option<usize> {
     for (number, wanted) in turns.iter().enumerate() {
-        assert!(rt; is_turned(pacer, sink, wanted), "turn {number}");
+        if !is_turned(pacer, sink, wanted) {
+            return Some(number);
+        }
+    }
+    None
+}
+
+// What a sink has once a pacer has taken these turns, if each comes to what it says.
+fn sent(mut pacer: Pacer, fails_at: usize, turns: &[Turned]) -> Result<Keeps, usize> {
+    let mut sink = failing_at(fails_at);
+    match first_other(&mut pacer, &mut sink, turns) {
+        None => Ok(sink),
+        Some(number) => Err(number),
     }
 }
 
-#[test]
-fn a_turn_sends_what_is_due(rt: HostRuntime) -> Result<(), Fail> {
-    let mut pacer = pacer_of(&rt, rt.alloc(), ONE, PLAYING)?;
-    let mut sink = failing_at(2);
-    assert!(rt; pacer.session() == 2 && pacer.next_due() == Some(0));
-    assert_turned(&rt, &mut pacer, &mut sink, &TURNS);
-    assert!(rt; sink.heads == HEADS && sink.last_unit == 499 && sink.failures == 1);
-    Ok(())
+// Whether a sink has these headers, this unit last, and so many failures.
+fn has(sink: Result<Keeps, usize>, heads: &[[u8; 12]; 3], last_unit: u32, failures: u64) -> bool {
+    match sink {
+        Ok(sink) => sink.heads == *heads
+            && sink.last_unit == last_unit
+            && sink.failures == failures,
+        Err(_) => false,
+    }
+}
+
+fn sends_one(alloc: Global) -> Option<bool> {
+    let pacer = start(alloc, ONE, PLAYING)?;
+    let is_new = pacer.session() == 2 && pacer.next_due() == Some(0);
+    Some(is_new && has(sent(pacer, 2, &TURNS), &HEADS, 499, 1))
 }
 
 #[test]
-fn a_turn_of_two_tracks_and_of_another_play(rt: HostRuntime) -> Result<(), Fail> {
-    let mut pacer = pacer_of(&rt, rt.alloc(), BOTH, OF_TWO_UNITS)?;
-    let mut sink = failing_at(usize::MAX);
-    assert_turned(&rt, &mut pacer, &mut sink, &TURNS_OF_TWO);
-    assert!(rt; sink.heads == HEADS_OF_TWO && sink.last_unit == 8);
-    Ok(())
+fn a_turn_sends_what_is_due(rt: HostRuntime) {
+    assert!(rt; sends_one(rt.alloc()) == Some(true));
+}
+
+fn sends_two(alloc: Global) -> Option<bool> {
+    let pacer = start(alloc, BOTH, OF_TWO_UNITS)?;
+    Some(has(sent(pacer, usize::MAX, &TURNS_OF_TWO), &HEADS_OF_TWO, 8, 0))
 }
 
 #[test]
-fn a_session_that_is_ready_has_no_pacer(rt: HostRuntime) -> Result<(), Fail> {
+fn a_turn_of_two_tracks_and_of_another_play(rt: HostRuntime) {
+    assert!(rt; sends_two(rt.alloc()) == Some(true));
+}
+
+fn has_pacer(alloc: Global, phase: Phase) -> bool {
+    start(alloc, ONE, phase).is_some()
+}
+
+#[test]
+fn a_session_that_is_ready_has_no_pacer(rt: HostRuntime) {
     let ready = Phase::Ready { at: 0, sent: 0 };
-    assert!(rt; start(rt.alloc(), ONE, ready)?.is_none());
-    Ok(())
+    let found = [has_pacer(rt.alloc(), PLAYING), has_pacer(rt.alloc(), ready)];
+    assert!(rt; found == [true, false]);
 }

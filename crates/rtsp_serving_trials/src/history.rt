@@ -6,12 +6,10 @@ ghost use Rattle.rtsp_lock.specs.Calls.{IsSeatOf, SameSeat};
 
 use crate::steps::{self, Scene, Step};
 use rtsp_book::{Life, PlainBook, Receipt};
-use rtsp_chronicle::{
-    Chronicler, JournalSink, MemorySink, Pause, Plan, Turned, Unwritten, run_scribe,
-};
-use rtsp_lock::{BookLock, BookSeat, Mark, Then, open};
+use rtsp_chronicle::{Chronicler, JournalSink, MemorySink, Pause, Plan, Turned, run_scribe};
+use rtsp_lock::{BookLock, BookSeat, Then, open};
 use rtsp_record::{Entry, Id, Whole, read_journal};
-use rtsp_undo::{replay, without_ended};
+use rtsp_undo::replay;
 use std::alloc::Global;
 use std::fs::File;
 use std::net::{Net, TcpListener, TcpStream};
@@ -19,7 +17,8 @@ use std::process::Abort;
 use std::rt::{Clock, Files};
 use std::sync::Wait;
 
-const SMALL: Whole = Whole {
+/// A small server.
+pub const SMALL: Whole = Whole {
     first_port: 5000,
     pairs: 2,
     uplink: 160_000,
@@ -69,7 +68,6 @@ fn acts<R: Wait>(rt: &R, lock: &BookLock, seat: &mut BookSeat, order: &str) -> O
 fn turned(word: &str) -> Option<Turned> {
     match word {
         "written" => Some(Turned::Written),
-        "refused" => Some(Turned::Waits(Unwritten::Refused)),
         "one round lost" => Some(Turned::Lost(1)),
         _ => None,
     }
@@ -108,10 +106,10 @@ impl History {
         })
     }
 
-    fn turn<R: Wait>(&mut self, rt: &R, after: Then) -> Turned {
+    fn turn<R: Wait>(&mut self, rt: &R) -> Turned {
         let sink = &mut self.sink;
         self.chronicler
-            .turn(rt, &mut self.own, &self.lock, after, sink)
+            .turn(rt, &mut self.own, &self.lock, Then::Forget, sink)
     }
 
     /// Writes what is new to other files.
@@ -151,27 +149,13 @@ impl History {
         }
     }
 
-    // Whether the journal is in this round, and has of the file what still lives.
-    fn has_what_lives<R: Wait>(&mut self, rt: &R, rounds: u64) -> Option<bool> {
-        let front = Mark { entries: 0, rounds };
-        let mut journal = Vec::with_capacity(self.alloc, 1_000).ok()?;
-        let own = &mut self.own;
-        own.hand_out(rt, &self.lock, front, Then::Leave, &mut journal)
-            .ok()?;
-        let all = entries(self.alloc, &self.sink.bytes)?;
-        Some(without_ended(self.alloc, &all).ok()? == journal)
+    // How many entries the file has.
+    fn in_file(&self) -> Option<u64> {
+        Some(entries(self.alloc, &self.sink.bytes)?.len() as u64)
     }
 
-    // How much there is of something.
-    fn count<R: Wait>(&mut self, rt: &R, what: &str) -> Option<usize> {
-        match what {
-            "file" => Some(entries(self.alloc, &self.sink.bytes)?.len()),
-            "bytes" => Some(self.sink.bytes.len()),
-            "earlier-files" => Some(self.sink.earlier.len()),
-            "handed-out" => Some(self.chronicler.entries),
-            "journal" => Some(self.own.tally(rt, &self.lock).entries),
-            _ => None,
-        }
+    fn in_journal<R: Wait>(&mut self, rt: &R) -> u64 {
+        self.own.tally(rt, &self.lock).entries as u64
     }
 }
 
@@ -188,27 +172,14 @@ impl Scene for History {
             "one" => acts(rt, &self.lock, &mut self.one, step.rest) == is_granted,
             "two" => acts(rt, &self.lock, &mut self.two, step.rest) == is_granted,
             "keep-entries" => self.keep_entries(rt),
-            "turn" => Some(self.turn(rt, Then::Forget)) == turned(step.wanted),
-            "turn-relieving" => Some(self.turn(rt, Then::Relieve(0))) == turned(step.wanted),
-            "new-file" => self.chronicler.renew(&mut self.sink).is_ok(),
+            "turn" => Some(self.turn(rt)) == turned(step.wanted),
             "begin-at" => self
                 .chronicler
                 .begin_at(&mut self.sink, step.number)
                 .is_ok(),
-            "room" => {
-                self.sink.room = step.rest.parse().unwrap_or(0);
-                true
-            }
-            "piece" => {
-                self.sink.piece = step.rest.parse().unwrap_or(0);
-                true
-            }
-            "failures" => step.wants(self.sink.failed),
-            "lives-in-round" => self.has_what_lives(rt, step.number) == Some(true),
-            _ => match self.count(rt, step.word) {
-                Some(count) => step.wants(count as u64),
-                None => false,
-            },
+            "file" => self.in_file().is_some_and(|count| step.wants(count)),
+            "journal" => step.wants(self.in_journal(rt)),
+            _ => false,
         }
     }
 }

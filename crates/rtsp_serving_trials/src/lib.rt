@@ -27,8 +27,6 @@ mod ports;
 #[cfg(test)]
 mod session;
 #[cfg(test)]
-mod shares;
-#[cfg(test)]
 mod sockets;
 #[cfg(test)]
 mod status;

@@ -138,7 +138,7 @@ fn a_loan_is_given_back_when_it_is_dropped(rt: HostRuntime) -> Result<(), Fail> 
 
 #[test]
 fn outlets_by_connection(rt: HostRuntime) -> Result<(), Fail> {
-    let Connected { outlet, .. } = Connected::open(&rt, rt.alloc())?;
+    let (_, outlet) = Connected::open(&rt, rt.alloc())?.into_parts();
     let outlets = Outlets::new(rt.alloc());
     outlets.insert(&rt, 3, Arc::new(rt.alloc(), outlet)?)?;
     let found = [outlets.get(&rt, 3).is_some(), outlets.get(&rt, 4).is_some()];

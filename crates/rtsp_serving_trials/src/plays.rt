@@ -8,25 +8,25 @@ ghost use Rattle.rtsp_lock.specs.Calls.{IsSeatOf, SameSeat};
 use crate::ports::free_port;
 use crate::session::{PAUSE, act, begin, resume, seek};
 use crate::sockets::Connected;
-use crate::tone::{UNITS, tone};
+use crate::tone::{media_of, tone};
 use rtsp_book::Step;
 use rtsp_content::Table;
 use rtsp_engine::{Binder, Plays};
 use rtsp_lock::{BookLock, BookSeat, open};
-use rtsp_metrics::{Counters, Packets};
+use rtsp_metrics::Counters;
 use rtsp_pacing::{Bells, NotedPlays, Paced, PacerParts, PacerPlays, pace};
 use rtsp_record::{Phase, Whole};
-use rtsp_sockets::{Media, Outlets, PortBinder, PortTable};
-use std::alloc::AllocError;
-use std::io::Read;
+use rtsp_sockets::{Media, Outlet, Outlets, PortBinder, PortTable};
+use std::alloc::{AllocError, Global};
+use std::fs::File;
+use std::io::{self, Read};
 use std::net::{Ipv4Addr, Net, TcpListener, TcpStream, UdpSocket};
 use std::process::Abort;
-use std::rt::Clock;
+use std::rt::{Clock, Files};
 use std::sync::{Arc, Wait};
-use std::test::Fail;
+use std::thread;
 use std::thread::Threads;
 use std::time::{Duration, Instant};
-use std::{fs, thread};
 
 // When the session leaves its play.
 #[derive(Clone, Copy, PartialEq, Eq)]
@@ -77,36 +77,36 @@ impl Came {
     }
 }
 
-// The server's ports and pacers, and whoever plays: its connection, where its packets come, and the outlet
-// to it.
+// Whoever plays: its connection, where its packets come, and the outlet to it.
 #[derive(Drop)]
-struct Stage {
-    ports: PortTable,
-    bells: Bells,
+struct Player {
     stream: TcpStream,
     media: UdpSocket,
     outlets: Outlets,
 }
 
-impl Stage {
-    // One whose pair is bound.
+fn outlets_to<R: Wait>(rt: &R, alloc: Global, outlet: Outlet) -> Option<Outlets> {
+    let outlets = Outlets::new(alloc);
+    outlets.insert(rt, 1, Arc::new(alloc, outlet).ok()?).ok()?;
+    Some(outlets)
+}
+
+fn socket_of<R: Net>(rt: &R) -> io::Result<UdpSocket> {
+    let media = UdpSocket::bind(rt, "127.0.0.1:0")?;
+    media.set_read_timeout(Some(Duration::from_secs(2)))?;
+    Ok(media)
+}
+
+impl Player {
     fn open<R: Net<Listener = TcpListener, Stream = TcpStream> + Wait + AllocGlobal>(
         rt: &R,
-        pair: u16,
-    ) -> Result<Stage, Fail> {
-        let Connected { player, outlet, .. } = Connected::open(rt, rt.alloc())?;
-        player.set_read_timeout(Some(Duration::from_secs(5)))?;
-        let media = UdpSocket::bind(rt, "127.0.0.1:0")?;
-        media.set_read_timeout(Some(Duration::from_secs(2)))?;
-        let outlets = Outlets::new(rt.alloc());
-        outlets.insert(rt, 1, Arc::new(rt.alloc(), outlet)?)?;
-        let ports = PortTable::open(rt.alloc(), pair, 1)?;
-        PortBinder::new(rt, &ports, Ipv4Addr::LOCALHOST).bind(3, pair)?;
-        Ok(Stage {
-            ports,
-            bells: Bells::new(rt.alloc(), 1, 4)?,
-            stream: player,
-            media,
+    ) -> Option<Player> {
+        let (stream, outlet) = Connected::open(rt, rt.alloc()).ok()?.into_parts();
+        let outlets = outlets_to(rt, rt.alloc(), outlet)?;
+        stream.set_read_timeout(Some(Duration::from_secs(5))).ok()?;
+        Some(Player {
+            stream,
+            media: socket_of(rt).ok()?,
             outlets,
         })
     }
@@ -116,6 +116,37 @@ impl Stage {
         let mut from = &self.stream;
         let mut told = [0; 100];
         from.read(&mut told).is_ok() && told.starts_with(b"PLAY_NOTIFY rtsp://h/tone RTSP/2.0\r\n")
+    }
+}
+
+// Ports of which a pair is bound.
+fn bound<R: Net + Wait + AllocGlobal>(rt: &R, pair: u16) -> Option<PortTable> {
+    let ports = PortTable::open(rt.alloc(), pair, 1).ok()?;
+    let is_bound = PortBinder::new(rt, &ports, Ipv4Addr::LOCALHOST)
+        .bind(3, pair)
+        .is_ok();
+    is_bound.then_some(ports)
+}
+
+// The server's ports and pacers, and whoever plays.
+#[derive(Drop)]
+struct Stage {
+    ports: PortTable,
+    bells: Bells,
+    player: Player,
+}
+
+impl Stage {
+    // One whose pair is bound.
+    fn open<R: Net<Listener = TcpListener, Stream = TcpStream> + Wait + AllocGlobal>(
+        rt: &R,
+        pair: u16,
+    ) -> Option<Stage> {
+        Some(Stage {
+            ports: bound(rt, pair)?,
+            bells: Bells::new(rt.alloc(), 1, 4).ok()?,
+            player: Player::open(rt)?,
+        })
     }
 }
 
@@ -207,15 +238,15 @@ fn receive<R: Wait + Clock + AllocGlobal>(
         is_in_order: true,
         is_told: false,
     };
-    if came.take(&stage.media) && leave(rt, lock, seat, &stage.bells, leaving) {
+    if came.take(&stage.player.media) && leave(rt, lock, seat, &stage.bells, leaving) {
         for _ in 0..7 {
-            if !came.take(&stage.media) {
+            if !came.take(&stage.player.media) {
                 break;
             }
         }
     }
     if leaving == Leaving::Never {
-        came.is_told = stage.is_told();
+        came.is_told = stage.player.is_told();
     }
     stage.bells.stop(rt);
     came
@@ -259,45 +290,66 @@ fn whole(pair: u16) -> Whole
     }
 }
 
-// What a pacer sends of a play over a pair that is bound, and what comes.
-fn sent<R: Abort + Threads + Wait + Clock + AllocGlobal + Sync>(
+// What is served.
+#[derive(Clone, Copy)]
+struct Served<'a> {
+    table: &'a Table,
+    media: &'a Media,
+    stage: &'a Stage,
+}
+
+// What a pacer sends of the plays that were handed over, and what comes of them.
+fn paced<R: Threads + Wait + Clock + AllocGlobal + Sync>(
     rt: &R,
-    table: &Table,
-    media: &Media,
-    stage: &Stage,
-    pair: u16,
+    served: Served<'_>,
+    lock: &BookLock,
+    seats: (BookSeat, BookSeat),
+    begun: Instant,
     leaving: Leaving,
-) -> Result<(Paced, Came), Fail>
-    requires { pair < 65000 }
+) -> Option<(Paced, Came)>
+    requires pacer { IsSeatOf seats.0 lock.now }
+    requires player { IsSeatOf seats.1 lock.now }
 {
-    let (lock, mut seat) = open(rt.alloc(), &whole(pair))?;
-    let mut own = seat.split(rt, &lock)?;
-    let begun = Instant::now(rt)?;
-    let port = stage.media.local_addr()?.port();
-    assert!(rt; begin(rt, &lock, &mut seat, pair, port));
-    prepare(rt, &lock, &mut own, &stage.bells, leaving)?;
-    let plays = PacerPlays::open(rt.alloc(), 4)?;
-    let Some(bell) = stage.bells.of(2) else {
-        panic!(rt; "there is a pacer")
-    };
+    let Served {
+        table,
+        media,
+        stage,
+    } = served;
     let counters = Counters::new();
     let parts = PacerParts {
-        lock: &lock,
+        lock,
         table,
         ports: &stage.ports,
-        outlets: &stage.outlets,
+        outlets: &stage.player.outlets,
         media,
-        bell,
+        bell: stage.bells.of(2)?,
         counters: &counters,
         begun,
     };
-    let (paced, came) = run(rt, parts, plays, (seat, own), stage, leaving);
-    let packets = Packets {
-        sent: paced.packets,
-        lost: 0,
-    };
-    assert!(rt; counters.read().packets == packets);
-    Ok((paced, came))
+    let plays = PacerPlays::open(rt.alloc(), 4).ok()?;
+    let (paced, came) = run(rt, parts, plays, seats, stage, leaving);
+    let packets = counters.read().packets;
+    (packets.sent == paced.packets && packets.lost == 0).then_some((paced, came))
+}
+
+// The same of a play over a pair that is bound.
+fn sent<R: Threads + Wait + Clock + AllocGlobal + Sync>(
+    rt: &R,
+    served: Served<'_>,
+    pair: u16,
+    leaving: Leaving,
+) -> Option<(Paced, Came)>
+    requires { pair < 65000 }
+{
+    let (lock, mut seat) = open(rt.alloc(), &whole(pair)).ok()?;
+    let mut own = seat.split(rt, &lock).ok()?;
+    let begun = Instant::now(rt).ok()?;
+    let port = served.stage.player.media.local_addr().ok()?.port();
+    if !begin(rt, &lock, &mut seat, pair, port) {
+        return None;
+    }
+    prepare(rt, &lock, &mut own, &served.stage.bells, leaving).ok()?;
+    paced(rt, served, &lock, (seat, own), begun, leaving)
 }
 
 // When a play is left, and the units that come of it.
@@ -321,45 +373,58 @@ fn leaving_of(word: &str) -> Leaving {
     }
 }
 
-// Whether a pacer sent just these units. Whoever plays to the end hears all in order, and is told.
+// Whether a pacer sent just these units. Whoever plays to the end hears all of one play in order, and is
+// told.
 fn is_just(paced: &Paced, came: &Came, leaving: Leaving, units: &str) -> bool {
     let is_whole = leaving == Leaving::Never;
+    let done = [paced.packets, paced.lost, paced.failures, paced.reported];
     came.is_all(units)
         && came.is_told == is_whole
-        && (came.is_in_order || !is_whole)
-        && paced.reported == u64::from(is_whole)
-        && paced.packets == units.len() as u64
-        && paced.lost == 0
-        && paced.failures == 0
+        && (!is_whole || came.is_in_order && paced.plays == 1)
+        && done == [units.len() as u64, 0, 0, u64::from(is_whole)]
 }
 
 // Whether what a row says comes of a play.
 fn comes_so<
-    R: Abort
-        + Threads
+    R: Threads
         + Wait
         + Clock
         + Net<Listener = TcpListener, Stream = TcpStream>
         + AllocGlobal
         + Sync,
->(rt: &R, table: &Table, media: &Media, row: &str) -> Result<bool, Fail> {
-    let (word, units) = row.split_once(": ").unwrap_or((row, ""));
+>(rt: &R, table: &Table, media: &Media, row: &str) -> Option<bool> {
+    let (word, units) = row.split_once(": ")?;
     let leaving = leaving_of(word);
-    let pair = free_port(rt)?;
-    let stage = Stage::open(rt, pair)?;
-    let (paced, came) = sent(rt, table, media, &stage, pair, leaving)?;
-    Ok(is_just(&paced, &came, leaving, units))
+    let pair = free_port(rt).ok()?;
+    let stage = &Stage::open(rt, pair)?;
+    let served = Served {
+        table,
+        media,
+        stage,
+    };
+    let (paced, came) = sent(rt, served, pair, leaving)?;
+    Some(is_just(&paced, &came, leaving, units))
+}
+
+fn all_come<
+    R: Abort
+        + Threads
+        + Wait
+        + Clock
+        + Files<File = File>
+        + Net<Listener = TcpListener, Stream = TcpStream>
+        + AllocGlobal
+        + Sync,
+>(rt: &R, path: &str) -> Option<()> {
+    let table = tone(rt.alloc(), path)?;
+    let media = media_of(rt, &table, path)?;
+    for row in PLAYS.lines() {
+        assert!(rt; comes_so(rt, &table, &media, row) == Some(true), "{row}");
+    }
+    Some(())
 }
 
 #[test]
-fn what_was_counted_is_sent(rt: HostRuntime) -> Result<(), Fail> {
-    let path = "rtsp_serving_plays.raw";
-    let table = tone(rt.alloc(), path)?;
-    fs::write(&rt, path, UNITS)?;
-    let media = Media::open(&rt, rt.alloc(), &table)?;
-    fs::remove_file(&rt, path)?;
-    for row in PLAYS.lines() {
-        assert!(rt; comes_so(&rt, &table, &media, row)?, "{row}");
-    }
-    Ok(())
+fn what_was_counted_is_sent(rt: HostRuntime) {
+    assert!(rt; all_come(&rt, "rtsp_serving_plays.raw").is_some());
 }

@@ -70,6 +70,12 @@ impl Connected {
         })
     }
 
+    /// The player, and the outlet to it.
+    pub fn into_parts(self) -> (TcpStream, Outlet) {
+        let Connected { player, outlet, .. } = self;
+        (player, outlet)
+    }
+
     // Takes the room of a rate. How many bytes it has.
     fn take_rate(&mut self, rate: u64) -> u64 {
         let room = FrameRoom::of_rate(rate);

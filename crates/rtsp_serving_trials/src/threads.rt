@@ -1,20 +1,20 @@
 //! What the threads of a server go by.
 
-use crate::steps::{Scene, Step, play};
+use crate::history::SMALL;
 use crate::tone::tone;
-use rtsp_content::Operation;
+use rtsp_content::{Operation, Table};
 use rtsp_engine::{ShareSpent, Shares};
-use rtsp_lanes::{open_book, whole_of};
+use rtsp_lanes::{BookHandle, open_book};
 use rtsp_shares::ShareTable;
 use rtsp_sockets::{PortBinder, PortTable};
 use rtsp_threads::{
     Gate, LaneShares, OwnStatus, Refused, Scribe, ScribeBell, StopAsked, StopBell, ask_for_room,
-    close_book, connections_for, descriptor_limit, end_expired, end_next_expired, make_room,
-    take_leave,
+    close_book, descriptor_limit, end_expired, end_next_expired, make_room, take_leave,
 };
-use std::alloc::AllocError;
+use std::alloc::{AllocError, Global};
 use std::fs::{self, File};
-use std::net::{Ipv4Addr, Net, TcpListener, TcpStream};
+use std::io::Eprint;
+use std::net::{Ipv4Addr, Net};
 use std::rt::{Clock, Files};
 use std::sync::{Mutex, Wait};
 use std::test::Fail;
@@ -25,101 +25,126 @@ const FILES: &str = "[server]\njournal_files = \".\"\n";
 
 const WRITTEN: &str = "journal-000001.txt";
 
-// A gate, through which the address that a step names goes.
-#[derive(Drop)]
-struct Entrance {
-    gate: Gate,
-}
-
-fn refused(word: &str) -> Result<(), Refused> {
-    match word {
-        "share" => Err(Refused::Share),
-        "full" => Err(Refused::Full),
-        "over" => Err(Refused::Over),
-        _ => Ok(()),
+fn name_of(entered: Result<(), Refused>) -> &'static str {
+    match entered {
+        Ok(()) => "enters",
+        Err(Refused::Share) => "share",
+        Err(Refused::Full) => "full",
+        Err(Refused::Over) => "over",
     }
 }
 
-impl Scene for Entrance {
-    fn does<
-        R: Wait
-            + Clock
-            + Files<File = File>
-            + Net<Listener = TcpListener, Stream = TcpStream>
-            + AllocGlobal,
-    >(&mut self, rt: &R, step: Step<'_>) -> bool {
-        let peer = step.rest.parse().unwrap_or(0);
-        match step.word {
-            "enter" => self.gate.enter(rt, peer) == refused(step.wanted),
-            "leave" => {
-                self.gate.leave(rt, peer);
-                true
-            }
-            "is-shut" => self.gate.is_shut() == (step.wanted == "yes"),
-            "shut" => {
-                self.gate.shut();
-                true
-            }
-            "open-now" => step.wants(self.gate.open_now()),
-            "most" => step.wants(self.gate.most()),
-            _ => false,
+// Whether an address leaves the gate, or what comes of its entering it.
+fn passes<R: Wait>(rt: &R, gate: &Gate, step: &str) -> bool {
+    let (peer, wanted) = step.split_once(' ').unwrap_or((step, ""));
+    let peer = peer.parse().unwrap_or(0);
+    if wanted == "leaves" {
+        gate.leave(rt, peer);
+        return true;
+    }
+    name_of(gate.enter(rt, peer)) == wanted
+}
+
+// Whether all steps of a line come to what they say, and whether the gate is shut then.
+fn ends_shut<R: Wait>(rt: &R, gate: &Gate, line: &str) -> Option<bool> {
+    for step in line.split(", ") {
+        if !passes(rt, gate, step) {
+            return None;
         }
     }
+    Some(gate.is_shut())
+}
+
+// Three have room, an address has two places, and the fifth is the last that is let in.
+const FOUR: &str = "1 enters, 1 enters, 1 share, 2 enters, 3 full, 1 leaves, 1 enters";
+
+const ONE_MORE: &str = "1 leaves, 1 enters";
+
+const NO_MORE: &str = "1 leaves, 1 over";
+
+fn lets_five_in<R: Wait>(rt: &R, gate: &Gate) -> bool {
+    let was_shut = [
+        ends_shut(rt, gate, FOUR),
+        ends_shut(rt, gate, ONE_MORE),
+        ends_shut(rt, gate, NO_MORE),
+    ];
+    gate.shut();
+    was_shut == [Some(false), Some(true), Some(true)]
+        && gate.is_shut()
+        && [gate.open_now(), gate.most()] == [2, 3]
 }
 
 #[test]
 fn a_gate_lets_so_many_in(rt: HostRuntime) -> Result<(), AllocError> {
     let gate = Gate::new(rt.alloc(), Some(5), Some(2))?;
     gate.allow(3);
-    play(
-        &rt,
-        &mut Entrance { gate },
-        "enter 1, enter 1, enter 1 = share, enter 2, enter 3 = full, leave 1, enter 1, \
-        is-shut = no, leave 1, enter 1, is-shut = yes, leave 1, enter 1 = over, \
-        shut, is-shut = yes, open-now = 2, most = 3",
-    );
+    assert!(rt; lets_five_in(&rt, &gate));
     Ok(())
 }
 
 #[test]
 fn what_the_system_tells(rt: HostRuntime) -> Result<(), Fail> {
-    assert!(rt; descriptor_limit().is_some() && connections_for(64, 32, 8) == 16);
+    assert!(rt; descriptor_limit().is_some());
     assert!(rt; OwnStatus::open(&rt)?.stop_asked() == Some(StopAsked::Nothing));
+    Ok(())
+}
+
+#[test]
+fn a_bell_is_heard(rt: HostRuntime) {
     let bell = StopBell::new();
     let is_early = bell.wait(&rt, Duration::from_millis(1));
     bell.ring(&rt);
     assert!(rt; !is_early && bell.wait(&rt, Duration::from_secs(60)));
-    Ok(())
 }
 
-#[test]
-fn a_session_that_has_ended_leaves_its_place(rt: HostRuntime) -> Result<(), Fail> {
-    let table = tone(rt.alloc(), "")?;
-    let mut lane = open_book(rt.alloc(), &whole_of(&table))?;
-    let places = Mutex::new(ShareTable::new(rt.alloc(), 1, 8)?);
-    let mut shares = LaneShares::new(&rt, Some(&places), &mut lane);
-    assert!(rt; shares.take(7).is_ok());
-    // No session of this number lives.
+fn empty_book(alloc: Global) -> Option<BookHandle> {
+    open_book(alloc, &SMALL).ok()
+}
+
+// Whether the only place of an address is had again once its session doesn't live, and not before; and
+// once it was given back. No session of the number 1,000 lives.
+fn is_left<S: Shares>(shares: &mut S) -> [bool; 4] {
+    let first = shares.take(7).is_ok();
     shares.settle(Some(1_000));
-    assert!(rt; shares.take(7).is_ok() && shares.refused() == 0);
-    assert!(rt; shares.take(7) == Err(ShareSpent) && shares.refused() == 1);
+    let second = shares.take(7).is_ok();
+    let third = shares.take(7) == Err(ShareSpent);
     shares.settle(None);
-    assert!(rt; shares.take(7).is_ok());
-    Ok(())
+    [first, second, third, shares.take(7).is_ok()]
+}
+
+fn leaves_its_place<R: Wait + AllocGlobal>(rt: &R) -> Option<bool> {
+    let mut lane = empty_book(rt.alloc())?;
+    let places = Mutex::new(ShareTable::new(rt.alloc(), 1, 8).ok()?);
+    let mut shares = LaneShares::new(rt, Some(&places), &mut lane);
+    Some(is_left(&mut shares) == [true; 4] && shares.refused() == 1)
 }
 
 #[test]
-fn an_empty_book_is_closed(rt: HostRuntime) -> Result<(), Fail> {
-    let table = tone(rt.alloc(), "")?;
-    let mut handle = open_book(rt.alloc(), &whole_of(&table))?;
-    let ports = PortTable::open(rt.alloc(), 5_000, 1)?;
-    let mut binder = PortBinder::new(&rt, &ports, Ipv4Addr::LOCALHOST);
-    make_room(&rt, &table, &mut handle);
-    assert!(rt; !take_leave(&rt, &mut handle, &mut binder, 1));
-    assert!(rt; end_expired(&rt, &mut handle, &mut binder, 9) == 0);
-    assert!(rt; end_next_expired(&rt, &mut handle, &mut binder, 9) == None);
-    assert!(rt; close_book(&rt, handle, &mut binder).is_some());
-    Ok(())
+fn a_session_that_has_ended_leaves_its_place(rt: HostRuntime) {
+    assert!(rt; leaves_its_place(&rt) == Some(true));
+}
+
+// Whether nobody ends in a book in which nobody lives, and it is given up.
+fn ends_nobody<R: Net + Wait>(
+    rt: &R,
+    mut handle: BookHandle,
+    binder: &mut PortBinder<'_, R>,
+) -> bool {
+    let has_ended = take_leave(rt, &mut handle, binder, 1);
+    let ended = end_expired(rt, &mut handle, binder, 9);
+    let next = end_next_expired(rt, &mut handle, binder, 9);
+    !has_ended && ended == 0 && next.is_none() && close_book(rt, handle, binder).is_some()
+}
+
+fn is_closed<R: Net + Wait + AllocGlobal>(rt: &R) -> Option<bool> {
+    let ports = PortTable::open(rt.alloc(), 5_000, 1).ok()?;
+    let mut binder = PortBinder::new(rt, &ports, Ipv4Addr::LOCALHOST);
+    Some(ends_nobody(rt, empty_book(rt.alloc())?, &mut binder))
+}
+
+#[test]
+fn an_empty_book_is_closed(rt: HostRuntime) {
+    assert!(rt; is_closed(&rt) == Some(true));
 }
 
 // Whether a scribe that is asked is woken, and goes on.
@@ -143,25 +168,46 @@ fn a_scribe_is_asked_and_stopped(rt: HostRuntime) {
     assert!(rt; was_stuck && !bell.is_stuck() && is_stopped(&rt, &bell));
 }
 
-#[test]
-fn a_scribe_writes_at_its_end(rt: HostRuntime) -> Result<(), Fail> {
-    let table = tone(rt.alloc(), "")?;
-    let mut handle = open_book(rt.alloc(), &whole_of(&table))?;
+// There is room in an empty book, so nobody is waited for.
+fn has_room<R: Wait + Clock>(rt: &R, table: &Table, handle: &mut BookHandle, bell: &ScribeBell) {
+    make_room(rt, table, handle);
     handle.keep_entries();
-    let operation = Operation::read_at(rt.alloc(), FILES.as_bytes(), "")?;
-    let Some(files) = operation.journal() else {
-        panic!(rt; "there are files")
-    };
-    let Ok(mut scribe) = Scribe::open(&rt, rt.alloc(), files) else {
-        panic!(rt; "a file is begun")
-    };
+    ask_for_room(rt, table, handle, bell);
+}
+
+fn scribe_of<R: Files<File = File> + AllocGlobal>(rt: &R) -> Option<Scribe> {
+    let operation = Operation::read_at(rt.alloc(), FILES.as_bytes(), "").ok()?;
+    Scribe::open(rt, rt.alloc(), operation.journal()?).ok()
+}
+
+// How long the file is that a scribe leaves which is stopped at once.
+fn length_at_end<R: Files<File = File> + Wait + Clock + Eprint + AllocGlobal>(
+    rt: &R,
+    handle: &mut BookHandle,
+    bell: &ScribeBell,
+) -> Option<usize> {
+    let mut scribe = scribe_of(rt)?;
+    bell.stop(rt);
+    scribe.run(rt, handle, bell);
+    scribe.end(rt, handle);
+    let text = fs::read(rt, WRITTEN).ok()?;
+    fs::remove_file(rt, WRITTEN).ok()?;
+    Some(text.len())
+}
+
+// How much there is in the file of an empty book, and in its journal.
+fn written_at_end<R: Files<File = File> + Wait + Clock + Eprint + AllocGlobal>(
+    rt: &R,
+) -> Option<[usize; 2]> {
+    let table = tone(rt.alloc(), "")?;
+    let mut handle = empty_book(rt.alloc())?;
     let bell = ScribeBell::new();
-    ask_for_room(&rt, &table, &mut handle, &bell);
-    bell.stop(&rt);
-    scribe.run(&rt, &mut handle, &bell);
-    scribe.end(&rt, &mut handle);
-    let text = fs::read(&rt, WRITTEN)?;
-    fs::remove_file(&rt, WRITTEN)?;
-    assert!(rt; text.is_empty() && handle.tally(&rt).entries == 0);
-    Ok(())
+    has_room(rt, &table, &mut handle, &bell);
+    let length = length_at_end(rt, &mut handle, &bell)?;
+    Some([length, handle.tally(rt).entries])
+}
+
+#[test]
+fn a_scribe_writes_at_its_end(rt: HostRuntime) {
+    assert!(rt; written_at_end(&rt) == Some([0, 0]));
 }

@@ -3,15 +3,15 @@
 use rtsp_content::Table;
 use rtsp_sockets::{Media, MediaFault};
 use std::alloc::Global;
-use std::fs;
-use std::test::Fail;
+use std::fs::{self, File};
+use std::rt::Files;
 
 /// The units' bytes.
 pub const UNITS: &[u8; 16] = b"aabbccddeeffgghh";
 
 /// The configuration, in which the file has this name. Units are long, so that a busy host has time
 /// to leave a play between two.
-pub fn tone(alloc: Global, file: &str) -> Result<Table, Fail> {
+pub fn tone(alloc: Global, file: &str) -> Option<Table> {
     let text = format!(in alloc;
         "[server]\nfirst_port = 5000\npairs = 1\nuplink = 160000\nsessions = 4\n\
         [[presentation]]\nname = \"tone\"\nunits = 8\nunit_ms = 200\n\
@@ -19,8 +19,42 @@ pub fn tone(alloc: Global, file: &str) -> Result<Table, Fail> {
         clock = 8000\noctets = 2\nticks = 1600\nfile = \"{file}\"\n\
         [[presentation.track]]\nname = \"b\"\nmedia = \"audio\"\npt = 8\nencoding = \"PCMA\"\n\
         clock = 8000\noctets = 2\nticks = 1600\nfile = \"{file}\"\n"
-    )?;
-    Ok(Table::read(alloc, text.as_bytes())?)
+    );
+    Table::read(alloc, text.ok()?.as_bytes()).ok()
+}
+
+// How opening the files ends where this is the file's text.
+fn opened<R: Files<File = File> + AllocGlobal>(
+    rt: &R,
+    table: &Table,
+    path: &str,
+    text: &[u8],
+) -> Option<Result<Media, MediaFault>> {
+    fs::write(rt, path, text).ok()?;
+    Some(Media::open(rt, rt.alloc(), table))
+}
+
+/// The media, whose file is there while it is opened.
+pub fn media_of<R: Files<File = File> + AllocGlobal>(
+    rt: &R,
+    table: &Table,
+    path: &str,
+) -> Option<Media> {
+    let media = opened(rt, table, path, UNITS)?.ok();
+    fs::remove_file(rt, path).ok()?;
+    media
+}
+
+// Whether a file that is missing is told, and one that is too short.
+fn tells_of_faults<R: Files<File = File> + AllocGlobal>(
+    rt: &R,
+    table: &Table,
+    path: &str,
+) -> Option<bool> {
+    let _left = fs::remove_file(rt, path);
+    let missing = Media::open(rt, rt.alloc(), table).err();
+    let short = opened(rt, table, path, b"aabbccddeeffggh")?.err();
+    Some([missing, short] == [Some(MediaFault::Unreadable), Some(MediaFault::WrongLength)])
 }
 
 fn unit_of(media: &Media, track: u16, number: u32) -> Result<[u8; 2], MediaFault> {
@@ -29,36 +63,20 @@ fn unit_of(media: &Media, track: u16, number: u32) -> Result<[u8; 2], MediaFault
     Ok(unit)
 }
 
-// How opening the files ends where this is the file's text.
-fn opened(
-    rt: &HostRuntime,
-    table: &Table,
-    path: &str,
-    text: &[u8],
-) -> Result<Option<MediaFault>, Fail> {
-    fs::write(rt, path, text)?;
-    Ok(Media::open(rt, rt.alloc(), table).err())
+// Whether units of both tracks are found, and none behind the last one and of no track.
+fn has_its_units(media: &Media) -> bool {
+    unit_of(media, 1, 7) == Ok(*b"hh")
+        && unit_of(media, 0, 0) == Ok(*b"aa")
+        && unit_of(media, 0, 8) == Err(MediaFault::Unreadable)
+        && unit_of(media, 2, 0) == Err(MediaFault::Unreadable)
+}
+
+fn media_is_read<R: Files<File = File> + AllocGlobal>(rt: &R, path: &str) -> Option<bool> {
+    let table = tone(rt.alloc(), path)?;
+    Some(tells_of_faults(rt, &table, path)? && has_its_units(&media_of(rt, &table, path)?))
 }
 
 #[test]
-fn media_of_files(rt: HostRuntime) -> Result<(), Fail> {
-    let path = "rtsp_serving_media.raw";
-    let table = tone(rt.alloc(), path)?;
-    let _left = fs::remove_file(&rt, path);
-    let missing = Media::open(&rt, rt.alloc(), &table).err();
-    let short = opened(&rt, &table, path, b"aabbccddeeffggh")?;
-    assert!(rt; [missing, short] == [Some(MediaFault::Unreadable), Some(MediaFault::WrongLength)]);
-    fs::write(&rt, path, UNITS)?;
-    let media = Media::open(&rt, rt.alloc(), &table)?;
-    fs::remove_file(&rt, path)?;
-    for (track, number, wanted) in [
-        (1, 7, Ok(*b"hh")),
-        (0, 0, Ok(*b"aa")),
-        (0, 8, Err(MediaFault::Unreadable)),
-        (2, 0, Err(MediaFault::Unreadable)),
-    ] {
-        let found = unit_of(&media, track, number);
-        assert!(rt; found == wanted, "unit {number} of track {track}");
-    }
-    Ok(())
+fn media_of_files(rt: HostRuntime) {
+    assert!(rt; media_is_read(&rt, "rtsp_serving_media.raw") == Some(true));
 }

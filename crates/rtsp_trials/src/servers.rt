@@ -4,9 +4,9 @@ use crate::world::count_of;
 use rtsp_book::BookRep;
 use rtsp_content::{Operation, Table};
 use rtsp_server::{Announce, PoolEnd, Server, ServerEnd};
+use std::alloc::{AllocError, Global};
 use std::io::{Read, Write};
 use std::net::{Ipv4Addr, Net, SocketAddr, SocketAddrV4, TcpStream};
-use std::test::Fail;
 use std::time::Duration;
 use std::{fs, thread};
 
@@ -26,21 +26,27 @@ const OK: &[u8] = b"RTSP/2.0 200 OK\r\n";
 
 const SESSION: &[u8] = b"Session: ";
 
-// Reads until there are so many responses, or nothing more comes.
-fn read_responses(stream: &TcpStream, said: &mut Vec<u8>, count: usize) -> Result<(), Fail> {
+// Takes what comes next. Whether something does.
+fn take_piece(stream: &TcpStream, said: &mut Vec<u8>) -> Option<bool> {
     let mut from = stream;
     let mut piece = [0u8; 4096];
-    for _ in 0..100 {
-        if count_of(said.as_slice(), OK) >= count && said.ends_with(b"\r\n\r\n") {
-            return Ok(());
-        }
-        let n = from.read(&mut piece)?;
-        if n == 0 || n > piece.len() {
-            return Ok(());
-        }
-        said.extend_from_slice(&piece[..n])?;
+    let n = from.read(&mut piece).ok()?;
+    if n == 0 || n > piece.len() {
+        return Some(false);
     }
-    Ok(())
+    said.extend_from_slice(&piece[..n]).ok()?;
+    Some(true)
+}
+
+// Reads until there are so many responses, or nothing more comes.
+fn read_responses(stream: &TcpStream, said: &mut Vec<u8>, count: usize) -> Option<()> {
+    for _ in 0..100 {
+        let is_whole = count_of(said.as_slice(), OK) >= count && said.ends_with(b"\r\n\r\n");
+        if is_whole || !take_piece(stream, said)? {
+            break;
+        }
+    }
+    Some(())
 }
 
 // The id of the session that was opened.
@@ -53,24 +59,30 @@ fn session_id(said: &[u8]) -> Option<&[u8]> {
     Some(id)
 }
 
-// What a player is told that sets a track up and tears it down.
-fn play<R: Net<Stream = TcpStream> + AllocGlobal>(
-    rt: &R,
-    address: SocketAddr,
-) -> Result<Vec<u8>, Fail> {
-    let mut said = Vec::new(rt.alloc());
-    let stream = TcpStream::connect(rt, address)?;
-    stream.set_read_timeout(Some(Duration::from_secs(10)))?;
-    let mut to = &stream;
-    to.write_all(FIRST.as_bytes())?;
-    read_responses(&stream, &mut said, 2)?;
-    let mut last: Vec<u8> = Vec::new(rt.alloc());
+// The TEARDOWN of the session that was opened.
+fn last(alloc: Global, said: &[u8]) -> Result<Vec<u8>, AllocError> {
+    let mut last = Vec::new(alloc);
     last.extend_from_slice(b"TEARDOWN rtsp://h/tone RTSP/2.0\r\nCSeq: 3\r\nSession: ")?;
-    last.extend_from_slice(session_id(&said).unwrap_or(b""))?;
+    last.extend_from_slice(session_id(said).unwrap_or(b""))?;
     last.extend_from_slice(b"\r\n\r\n")?;
-    to.write_all(&last)?;
-    read_responses(&stream, &mut said, 3)?;
-    Ok(said)
+    Ok(last)
+}
+
+// What a player is told that sets a track up and tears it down.
+fn told(alloc: Global, stream: &TcpStream) -> Option<Vec<u8>> {
+    let mut said = Vec::new(alloc);
+    let mut to = stream;
+    to.write_all(FIRST.as_bytes()).ok()?;
+    read_responses(stream, &mut said, 2)?;
+    to.write_all(&last(alloc, &said).ok()?).ok()?;
+    read_responses(stream, &mut said, 3)?;
+    Some(said)
+}
+
+fn play<R: Net<Stream = TcpStream> + AllocGlobal>(rt: &R, address: SocketAddr) -> Option<Vec<u8>> {
+    let stream = TcpStream::connect(rt, address).ok()?;
+    stream.set_read_timeout(Some(Duration::from_secs(10))).ok()?;
+    told(rt.alloc(), &stream)
 }
 
 // Nobody is told where the server listens.
@@ -83,12 +95,13 @@ impl Announce for Untold {
     }
 }
 
-// The configuration, whose media is there.
-fn configured(rt: &HostRuntime) -> Result<(Table, Operation), Fail> {
-    fs::write(rt, MEDIA, &[0u8; 1600])?;
-    let table = Table::read(rt.alloc(), CONFIGURATION.as_bytes())?;
-    let operation = Operation::read_at(rt.alloc(), CONFIGURATION.as_bytes(), "")?;
-    Ok((table, operation))
+// A server for one connection, whose media is there.
+fn opened(rt: &HostRuntime) -> Option<Server> {
+    fs::write(rt, MEDIA, &[0u8; 1600]).ok()?;
+    let table = Table::read(rt.alloc(), CONFIGURATION.as_bytes()).ok()?;
+    let operation = Operation::read_at(rt.alloc(), CONFIGURATION.as_bytes(), "").ok()?;
+    let any = SocketAddr::V4(SocketAddrV4::new(Ipv4Addr::LOCALHOST, 0));
+    Server::open(rt, rt.alloc(), table, operation, any, Some(1)).ok()
 }
 
 // Whether one connection was served, and no session is left.
@@ -100,19 +113,16 @@ fn has_served_one(end: &ServerEnd) -> bool {
     is_empty && end.pool == PoolEnd { served: 1, idle: 0 }
 }
 
-#[test]
-fn a_server_answers_three_requests(rt: HostRuntime) -> Result<(), Fail> {
-    let (table, operation) = configured(&rt)?;
-    let any = SocketAddr::V4(SocketAddrV4::new(Ipv4Addr::LOCALHOST, 0));
-    let server = Server::open(&rt, rt.alloc(), table, operation, any, Some(1))?;
+fn serves_one(rt: &HostRuntime) -> Option<bool> {
+    let server = opened(rt)?;
     let address = server.address();
     let errors = rt.stderr();
-    let (ended, said) = thread::join(
-        &rt,
-        || server.run(&rt, Untold, errors),
-        || play(&rt, address),
-    );
+    let (ended, said) = thread::join(rt, || server.run(rt, Untold, errors), || play(rt, address));
     let is_answered = count_of(&said?, OK) == 3;
-    assert!(rt; is_answered && has_served_one(&ended?));
-    Ok(())
+    Some(is_answered && has_served_one(&ended.ok()?))
+}
+
+#[test]
+fn a_server_answers_three_requests(rt: HostRuntime) {
+    assert!(rt; serves_one(&rt) == Some(true));
 }
