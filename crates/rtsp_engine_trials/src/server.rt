@@ -3,6 +3,7 @@
 ghost use Rattle.rtsp_lock.specs.Calls.{IsSeatOf, SameSeat};
 
 use crate::devices::{Drawing, Noting, Ports, Ticking};
+use rtsp_book::Receipt;
 use rtsp_content::Table;
 use rtsp_devices::NoShares;
 use rtsp_engine::{Asker, Connection, fault_response};
@@ -134,6 +135,7 @@ fn push<R: AllocGlobal + Wait>(
     ensures { SameSeat seat.old seat.new }
 {
     let alloc = rt.alloc();
+    let made = &mut Receipt::new();
     let ports = &mut devices.ports;
     let words = &mut devices.words;
     let clock = &mut devices.clock;
@@ -141,12 +143,12 @@ fn push<R: AllocGlobal + Wait>(
     let shares = &mut NoShares;
     match watcher {
         Some(watcher) => rtsp_watch::push_lent(
-            rt, alloc, seat, lock, ports, words, clock, plays, shares, table, ASKER, watcher,
+            rt, alloc, seat, lock, made, ports, words, clock, plays, shares, table, ASKER, watcher,
             input, piece, room,
         ),
         None => rtsp_dialect::push_lent(
-            rt, alloc, seat, lock, ports, words, clock, plays, shares, table, ASKER, input, piece,
-            room,
+            rt, alloc, seat, lock, made, ports, words, clock, plays, shares, table, ASKER, input,
+            piece, room,
         ),
     }
 }

@@ -4,6 +4,7 @@ ghost use Rattle.rtsp_lock.specs.Calls.{IsSeatOf};
 
 use crate::devices::NEVER;
 use crate::world::{Player, asker, count_of, tone};
+use rtsp_book::Receipt;
 use rtsp_content::Table;
 use rtsp_dialect::serve_repaired;
 use rtsp_engine::{Desk, ServeEnd, TURNS};
@@ -35,6 +36,7 @@ fn serve<R: Wait>(
         rt,
         seat,
         lock,
+        made: &mut Receipt::new(),
         binder: &mut player.ports,
         words: &mut player.words,
         clock: &mut StandingClock,

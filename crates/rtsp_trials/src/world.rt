@@ -3,7 +3,7 @@
 ghost use Rattle.rtsp_lock.specs.Calls.{IsSeatOf, SameSeat};
 
 use crate::devices::{Answers, Counted, Failing, Ports, Requests};
-use rtsp_book::Kept;
+use rtsp_book::{Kept, Receipt};
 use rtsp_content::{EXAMPLE, Table};
 use rtsp_engine::{Asker, Binder, ByteIn, ByteOut, Desk, ServeEnd, Words};
 use rtsp_lock::{BookLock, BookSeat, LockBook, open};
@@ -38,6 +38,7 @@ pub fn serve<'a, R: Wait, B: Binder, W: Words, I: ByteIn, O: ByteOut>(
         rt,
         seat,
         lock,
+        made: &mut Receipt::new(),
         binder,
         words,
         clock: &mut StandingClock,
