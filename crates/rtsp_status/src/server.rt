@@ -32,7 +32,6 @@ pub trait Source {
 }
 
 /// A server that listens.
-#[derive(Drop)]
 pub struct StatusServer {
     alloc: Global,
     keys: RandomState,
@@ -40,6 +39,20 @@ pub struct StatusServer {
     watch: Watch,
     peers: Slab<Peer>,
     begun: Instant,
+}
+
+// Written out, so that whoever lets go of it makes one call, and not one for each of its parts.
+impl Drop for StatusServer {
+    fn drop(self) {
+        let Self {
+            alloc: _alloc,
+            keys: _keys,
+            listener: _listener,
+            watch: _watch,
+            peers: _peers,
+            begun: _begun,
+        } = self;
+    }
 }
 
 // A listener at an address, and what tells of those who come.
