@@ -2,3 +2,4 @@ pub mod Turning
 pub mod Chains
 pub mod Measure
 pub mod Listing
+pub mod Units
