@@ -3,3 +3,4 @@ pub mod Chains
 pub mod Measure
 pub mod Listing
 pub mod Units
+pub mod Leaving
