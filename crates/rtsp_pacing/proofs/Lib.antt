@@ -2,3 +2,5 @@ pub mod Turning
 pub mod Chains
 pub mod Measure
 pub mod Listing
+pub mod Units
+pub mod Leaving

@@ -1,6 +1,7 @@
 -- How a play begins that a pacer takes over, and where the one before it ends.
-use Rattle.std.specs.Prelude.{◌≡◌, ℕ, Some, None}
+use Rattle.std.specs.Prelude.{◌≡◌, ℕ, Some, None, nat_eq, unwrap_or}
 use Rattle.slab.specs.Slab.{get}
+use Rattle.indexmap.specs.IndexMap as sessions
 use Rattle.rtsp_record.specs.declared.phases.Phase.{Phase}
 use Rattle.rtsp_record.specs.Moments.{sent_before}
 use Rattle.rtsp_pacing.specs.declared.noted.NewPlay.{NewPlay}
@@ -22,3 +23,14 @@ TakesOver new old plays = (key : ℕ) → get old.plays key ≡ None → (linked
 -- what is counted up to the phase for which a play is left is all before the next play
 abbrev pub IsApart : Phase → Phase → Type 0
 IsApart left next = sent_before left ≡ sent_before next
+
+-- the play of a key is left: for this phase, or for that for which it was left before
+pub record LeavesPlay (was : Linked) (next : Phase) (plays : PacerPlays) (key : ℕ) : Type 0 where
+  pub linked : Linked
+  pub there : get plays.plays key ≡ Some linked
+  pub left : linked.play.left ≡ Some (unwrap_or was.play.left next)
+
+-- so it is with the play that a session had last
+abbrev pub LeavesLatest : PacerPlays → ℕ → Phase → PacerPlays → Type 0
+LeavesLatest old session next plays =
+    (key : ℕ) → sessions.get nat_eq old.latest session ≡ Some key → (was : Linked) → get old.plays key ≡ Some was → LeavesPlay was next plays key

@@ -1,6 +1,7 @@
 //! How many plays that were left before they were taken over are sent.
 
-ghost use Rattle.std.specs.Prelude.{◌≡◌, ◌≤◌, ◌<◌, ◌↔◌, ◌/◌, ◌≢◌, ◌⊎◌, IsTrue};
+ghost use Rattle.std.specs.Prelude.{◌≡◌, ◌≤◌, ◌<◌, ◌↔◌, ◌+◌, ◌/◌, ◌≢◌, ◌⊎◌, min, IsTrue};
+ghost use Rattle.rtsp_rtp.specs.Pacing.{begun_at};
 ghost use Rattle.rtsp_pacing.specs.declared.left_early.TheConstants.{MOST};
 
 use rtsp_record::Phase;
@@ -12,7 +13,9 @@ const WINDOW: u64 = 20;
 const MOST: u32 = 64;
 
 // The moment at which a play in this phase began.
-pub(crate) fn begun_at(phase: Phase) -> u64 {
+pub(crate) fn begun_at(phase: Phase) -> u64
+    ensures { result ≡ begun_at phase }
+{
     match phase {
         Phase::Playing { since, .. } => since,
         Phase::Ready { .. } | Phase::Ended { .. } => 0,
@@ -38,6 +41,8 @@ impl LeftEarly {
     // Whether a play that began at this moment is sent, too.
     pub(crate) fn take(&mut self, moment: u64) -> bool
         ensures window { self.new.window ≡ moment / WINDOW }
+        ensures counted { self.old.window ≡ moment / WINDOW → self.new.count ≡ min (self.old.count + 1) MOST }
+        ensures first { self.old.window ≢ moment / WINDOW → self.new.count ≡ 1 }
         ensures room { IsTrue result ↔ ((self.old.window ≢ moment / WINDOW) ⊎ (self.old.count < MOST)) }
     {
         let window = moment / WINDOW;

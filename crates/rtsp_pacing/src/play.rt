@@ -2,7 +2,7 @@
 
 mod ending;
 
-ghost use Rattle.std.specs.Prelude.{◌≡◌, ◌<◌, ◌↔◌, IsTrue, IfSome, unwrap_or};
+ghost use Rattle.std.specs.Prelude.{◌≡◌, ◌<◌, ◌↔◌, IsTrue, IfSome, Some, unwrap_or, if◌then◌else◌};
 ghost use Rattle.rtsp_pacing.specs.Beginning.{Begins, IsApart};
 
 use crate::desk::PacerDesk;
@@ -124,7 +124,9 @@ impl PacedPlay {
     }
 
     // The session's number.
-    pub(crate) fn session(&self) -> u64 {
+    pub(crate) fn session(&self) -> u64
+        ensures { result ≡ self.now.asked.begun.noted.session }
+    {
         self.asked.begun.noted.session
     }
 
@@ -134,6 +136,8 @@ impl PacedPlay {
     pub(crate) fn leave(&mut self, next: Phase) -> bool
         ensures left { self.new.left ≡ Some (unwrap_or self.old.left next) }
         ensures pacer { self.new.pacer ≡ self.old.pacer }
+        ensures waits { self.new.waits_until ≡ (if result then Some 0 else self.old.waits_until) }
+        ensures rest { self.new ≡ record self.old { left = self.new.left; waits_until = self.new.waits_until } }
         ensures apart { IsTrue result ↔ IsApart (unwrap_or self.old.left next) next }
     {
         let left = *self.left.get_or_insert(next);

@@ -3,6 +3,7 @@
 ghost use Rattle.std.specs.Prelude.{◌≡◌, ◌+◌, ◌↔◌, ℕ, IfOk, IfSome, IfNone, IsSome, IsTrue, Some, None};
 ghost use Rattle.slab.specs.Slab.{get};
 ghost use Rattle.rtsp_pacing.specs.Plays.{HasRoom, KeepsNone, KeepsOthers, KeepsPlay, IsLinked, Turns};
+ghost use Rattle.rtsp_pacing.specs.Beginning.{LeavesLatest};
 
 use crate::desk::PacerDesk;
 use crate::play::{Next, PacedPlay};
@@ -98,7 +99,8 @@ impl PacerPlays {
     // A session began another play, in this phase: the one of it that was taken in last is left.
     // Whether that sends nothing of what is counted for the other.
     pub(crate) fn leave(&mut self, session: u64, next: Phase) -> bool
-        ensures { KeepsNone self.old self.new }
+        ensures none { KeepsNone self.old self.new }
+        ensures left { LeavesLatest self.old session next self.new }
     {
         let Some(key) = self.latest.get(&session) else {
             return true;

@@ -1,6 +1,6 @@
 //! At which moment a play has its turn, and when its next one.
 
-ghost use Rattle.std.specs.Prelude.{◌≡◌, ◌<◌, ◌≤◌, ◌+◌, ◌*◌, ◌^◌, ◌↔◌, ℕ, min, IsTrue};
+ghost use Rattle.std.specs.Prelude.{◌≡◌, ◌<◌, ◌≤◌, ◌+◌, ◌-◌, ◌%◌, ◌*◌, ◌^◌, ◌↔◌, ℕ, min, IsTrue};
 ghost use Rattle.rtsp_pacing.specs.Catching.{IsMeasured, most_at_once};
 
 // How much of the time since the last turn of a play counts where it is behind, in milliseconds.
@@ -25,10 +25,13 @@ pub(crate) fn measured(due: u64, unit_ms: u32, passed: u64, moment: u64) -> u64
 }
 
 // The first moment after this one at which a unit is due, where one was due at `due`.
+#[tactic(auto, using(crate::proofs::Units::whole_units))]
 pub(crate) fn next_unit(due: u64, unit_ms: u32, moment: u64) -> u64
     requires { 0 < unit_ms }
     ensures later { moment < u64.MAX → moment < result }
     ensures soon { result ≤ moment + unit_ms }
+    ensures ahead { moment < due → result ≡ min due (moment + unit_ms) }
+    ensures in_step { due ≤ moment → result < u64.MAX → (result - due) % unit_ms ≡ 0 }
 {
     if due > moment {
         return due.min(moment.saturating_add(u64::from(unit_ms)));
