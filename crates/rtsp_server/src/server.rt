@@ -133,8 +133,7 @@ impl Server {
         } = listening;
         let Handles {
             lanes: handle,
-            sweeper,
-            own,
+            others,
             shown,
             last,
         } = handles;
@@ -147,8 +146,7 @@ impl Server {
             },
             start: Start {
                 handle,
-                sweeper,
-                own,
+                others,
                 lanes,
                 pacers,
                 readers,

@@ -47,10 +47,10 @@ impl Drop for Parts {
 
 // What the threads that serve begin with.
 pub(crate) struct Start {
-    // The handles of the book that the lanes, the sweeper, and the thread that starts them have.
+    // The handle of the book that the lanes have, and those of the sweeper and of the thread that
+    // starts them.
     pub(crate) handle: BookHandle,
-    pub(crate) sweeper: BookHandle,
-    pub(crate) own: BookHandle,
+    pub(crate) others: Vec<BookHandle>,
     pub(crate) lanes: Vec<SocketLane>,
     pub(crate) pacers: Vec<OnePacer>,
     // Those that read ahead, where that is wanted.
@@ -62,8 +62,7 @@ impl Drop for Start {
     fn drop(self) {
         let Self {
             handle: _handle,
-            sweeper: _sweeper,
-            own: _own,
+            others: _others,
             lanes: _lanes,
             pacers: _pacers,
             readers: _readers,
@@ -325,12 +324,15 @@ impl Start {
     ) -> (Option<Scribe>, Result<PoolEnd, ServerFault>) {
         let Self {
             handle,
-            sweeper,
-            own,
+            mut others,
             lanes,
             pacers,
             readers,
         } = self;
+        let (Some(sweeper), Some(own)) = (others.pop(), others.pop()) else {
+            parts.stop_for_want_of_threads(rt);
+            return (scribe, Err(ServerFault::NoThread));
+        };
         thread::scope(thread::scope_env(), rt, move |scope| {
             let mut missing = 0u64;
             for pacer in pacers {
