@@ -7,6 +7,7 @@ use rtsp_server::{Announce, PoolEnd, Server, ServerEnd};
 use std::alloc::{AllocError, Global};
 use std::io::{Read, Write};
 use std::net::{Ipv4Addr, Net, SocketAddr, SocketAddrV4, TcpStream};
+use std::test::Fail;
 use std::time::Duration;
 use std::{fs, thread};
 
@@ -95,13 +96,12 @@ impl Announce for Untold {
     }
 }
 
-// A server for one connection, whose media is there.
-fn opened(rt: &HostRuntime) -> Option<Server> {
-    fs::write(rt, MEDIA, &[0u8; 1600]).ok()?;
-    let table = Table::read(rt.alloc(), CONFIGURATION.as_bytes()).ok()?;
-    let operation = Operation::read_at(rt.alloc(), CONFIGURATION.as_bytes(), "").ok()?;
-    let any = SocketAddr::V4(SocketAddrV4::new(Ipv4Addr::LOCALHOST, 0));
-    Server::open(rt, rt.alloc(), table, operation, any, Some(1)).ok()
+// The configuration, whose media is there.
+fn configured(rt: &HostRuntime) -> Result<(Table, Operation), Fail> {
+    fs::write(rt, MEDIA, &[0u8; 1600])?;
+    let table = Table::read(rt.alloc(), CONFIGURATION.as_bytes())?;
+    let operation = Operation::read_at(rt.alloc(), CONFIGURATION.as_bytes(), "")?;
+    Ok((table, operation))
 }
 
 // Whether one connection was served, and no session is left.
@@ -113,16 +113,19 @@ fn has_served_one(end: &ServerEnd) -> bool {
     is_empty && end.pool == PoolEnd { served: 1, idle: 0 }
 }
 
-fn serves_one(rt: &HostRuntime) -> Option<bool> {
-    let server = opened(rt)?;
+#[test]
+fn a_server_answers_three_requests(rt: HostRuntime) -> Result<(), Fail> {
+    let (table, operation) = configured(&rt)?;
+    let any = SocketAddr::V4(SocketAddrV4::new(Ipv4Addr::LOCALHOST, 0));
+    let server = Server::open(&rt, rt.alloc(), table, operation, any, Some(1))?;
     let address = server.address();
     let errors = rt.stderr();
-    let (ended, said) = thread::join(rt, || server.run(rt, Untold, errors), || play(rt, address));
-    let is_answered = count_of(&said?, OK) == 3;
-    Some(is_answered && has_served_one(&ended.ok()?))
-}
-
-#[test]
-fn a_server_answers_three_requests(rt: HostRuntime) {
-    assert!(rt; serves_one(&rt) == Some(true));
+    let (ended, said) = thread::join(
+        &rt,
+        || server.run(&rt, Untold, errors),
+        || play(&rt, address),
+    );
+    let answered = said.map_or(0, |said| count_of(&said, OK));
+    assert!(rt; answered == 3 && has_served_one(&ended?));
+    Ok(())
 }
