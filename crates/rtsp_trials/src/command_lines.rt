@@ -50,54 +50,36 @@ serve --config a --connections -1 -> refused
 serve --config a --forget -> refused
 ";
 
-fn tell_audit(
-    alloc: Global,
-    files: (Option<&str>, &str),
-    back: u64,
-    without: (Option<u64>, Option<u64>),
-    without_ended: bool,
-) -> Result<String, AllocError> {
-    let (config, journal) = files;
-    let (session, admission) = without;
-    format!(in alloc;
-        "audit {config:?} {journal:?} {back} {session:?} {admission:?} {without_ended}"
-    )
-}
-
-fn tell(alloc: Global, line: CommandLine<'_>) -> Result<String, AllocError> {
-    match line {
-        CommandLine::Stdio {
-            config,
-            journal,
-            forget,
-        } => format!(in alloc; "stdio {config:?} {journal:?} {forget}"),
-        CommandLine::Audit {
-            config,
-            journal,
-            back,
-            without_session,
-            without_admission,
-            without_ended,
-        } => tell_audit(
-            alloc,
-            (config, journal),
-            back,
-            (without_session, without_admission),
-            without_ended,
-        ),
-        CommandLine::Serve {
-            config,
-            listen,
-            connections,
-        } => format!(in alloc; "serve {config:?} {listen:?} {connections:?}"),
-    }
-}
-
 // What words ask for, as text.
 fn told(alloc: Global, words: &[&str]) -> Result<String, AllocError> {
     match read_words(alloc, words)? {
         None => String::from_str(alloc, "refused"),
-        Some(line) => tell(alloc, line),
+        Some(
+            CommandLine::Stdio {
+                config,
+                journal,
+                forget,
+            },
+        ) => format!(in alloc; "stdio {config:?} {journal:?} {forget}"),
+        Some(
+            CommandLine::Audit {
+                config,
+                journal,
+                back,
+                without_session,
+                without_admission,
+                without_ended,
+            },
+        ) => format!(in alloc;
+            "audit {config:?} {journal:?} {back} {without_session:?} {without_admission:?} {without_ended}"
+        ),
+        Some(
+            CommandLine::Serve {
+                config,
+                listen,
+                connections,
+            },
+        ) => format!(in alloc; "serve {config:?} {listen:?} {connections:?}"),
     }
 }
 
@@ -170,19 +152,13 @@ const WRITTEN: &str = "\
 6 rtspd: out of memory
 ";
 
-// The statuses and lines of programs that end so.
-fn all_written(alloc: Global, exits: &[Exit]) -> Result<String, AllocError> {
-    let mut written = String::new(alloc);
-    for exit in exits {
-        let line = format!(in alloc; "{} {exit}\n", exit.status())?;
-        written.push_str(line.as_str())?;
-    }
-    Ok(written)
-}
-
 #[test]
 fn exits(rt: HostRuntime) -> Result<(), AllocError> {
-    let written = all_written(rt.alloc(), &EXITS)?;
+    let mut written = String::new(rt.alloc());
+    for exit in EXITS {
+        let line = format!(in rt.alloc(); "{} {exit}\n", exit.status())?;
+        written.push_str(line.as_str())?;
+    }
     assert!(rt; written.as_str() == WRITTEN, "{written}");
     Ok(())
 }

@@ -1,14 +1,11 @@
 //! A connection whose requests are repaired, served to its end.
 
-ghost use Rattle.rtsp_lock.specs.Calls.{IsSeatOf};
-
-use crate::devices::NEVER;
-use crate::world::{Player, asker, count_of, tone};
+use crate::devices::{Answers, Counted, NEVER, Ports, Requests};
+use crate::world::{count_of, tone};
 use rtsp_book::Receipt;
-use rtsp_content::Table;
 use rtsp_dialect::serve_repaired;
-use rtsp_engine::{Desk, ServeEnd, TURNS};
-use rtsp_lock::{BookLock, BookSeat, open};
+use rtsp_engine::{Asker, Desk, ServeEnd, TURNS};
+use rtsp_lock::open;
 use rtsp_server::whole_of;
 use rtspd::{NoPlays, NoShares, StandingClock};
 use std::alloc::Global;
@@ -20,43 +17,32 @@ const REQUESTS: &str = "\
     Transport: RTP/AVP;unicast;client_port=40352-40353\r\n\r\n\
     OPTIONS * RTSP/2.0\r\nCSeq: 2\r\n\r\n";
 
-// Serves a player whose requests are repaired, to the end.
-fn serve<R: Wait>(
-    rt: &R,
-    alloc: Global,
-    seat: &mut BookSeat,
-    lock: &BookLock,
-    table: &Table,
-    player: &mut Player<'_>,
-) -> Option<ServeEnd>
-    requires { IsSeatOf seat.old lock.now }
-{
-    let asker = asker(rt, seat, lock)?;
-    let mut desk = Desk {
-        rt,
-        seat,
-        lock,
-        made: &mut Receipt::new(),
-        binder: &mut player.ports,
-        words: &mut player.words,
-        clock: &mut StandingClock,
-        plays: &mut NoPlays,
-        shares: &mut NoShares,
-        table,
-        asker,
-    };
-    let requests = &mut player.requests;
-    let answers = &mut player.answers;
-    Some(serve_repaired(alloc, &mut desk, requests, answers, TURNS))
-}
-
 // What is said to the requests, where they are served to the end.
 fn said<R: Wait>(rt: &R, alloc: Global) -> Option<Vec<u8>> {
     let table = tone(alloc)?;
     let (lock, mut seat) = open(alloc, &whole_of(&table)).ok()?;
-    let mut player = Player::new(alloc, REQUESTS, NEVER);
-    let end = serve(rt, alloc, &mut seat, &lock, &table, &mut player)?;
-    (end == ServeEnd::Closed).then_some(player.into_said())
+    let conn = seat.draw(rt, &lock).ok()?;
+    let mut desk = Desk {
+        rt,
+        seat: &mut seat,
+        lock: &lock,
+        made: &mut Receipt::new(),
+        binder: &mut Ports::new(NEVER),
+        words: &mut Counted::new(NEVER),
+        clock: &mut StandingClock,
+        plays: &mut NoPlays,
+        shares: &mut NoShares,
+        table: &table,
+        asker: Asker {
+            conn,
+            peer: 0x7f00_0001,
+        },
+    };
+    let mut requests = Requests::new(REQUESTS, NEVER);
+    let mut answers = Answers::new(alloc, NEVER);
+    let end = serve_repaired(alloc, &mut desk, &mut requests, &mut answers, TURNS);
+    let Answers { said, .. } = answers;
+    (end == ServeEnd::Closed).then_some(said)
 }
 
 #[test]

@@ -4,7 +4,6 @@ use crate::world::count_of;
 use rtsp_book::BookRep;
 use rtsp_content::{Operation, Table};
 use rtsp_server::{Announce, PoolEnd, Server, ServerEnd};
-use std::alloc::{AllocError, Global};
 use std::io::{Read, Write};
 use std::net::{Ipv4Addr, Net, SocketAddr, SocketAddrV4, TcpStream};
 use std::test::Fail;
@@ -27,27 +26,21 @@ const OK: &[u8] = b"RTSP/2.0 200 OK\r\n";
 
 const SESSION: &[u8] = b"Session: ";
 
-// Takes what comes next. Whether something does.
-fn take_piece(stream: &TcpStream, said: &mut Vec<u8>) -> Option<bool> {
+// Reads until there are so many responses, or nothing more comes.
+fn read_responses(stream: &TcpStream, said: &mut Vec<u8>, count: usize) -> Result<(), Fail> {
     let mut from = stream;
     let mut piece = [0u8; 4096];
-    let n = from.read(&mut piece).ok()?;
-    if n == 0 || n > piece.len() {
-        return Some(false);
-    }
-    said.extend_from_slice(&piece[..n]).ok()?;
-    Some(true)
-}
-
-// Reads until there are so many responses, or nothing more comes.
-fn read_responses(stream: &TcpStream, said: &mut Vec<u8>, count: usize) -> Option<()> {
     for _ in 0..100 {
-        let is_whole = count_of(said.as_slice(), OK) >= count && said.ends_with(b"\r\n\r\n");
-        if is_whole || !take_piece(stream, said)? {
-            break;
+        if count_of(said.as_slice(), OK) >= count && said.ends_with(b"\r\n\r\n") {
+            return Ok(());
         }
+        let n = from.read(&mut piece)?;
+        if n == 0 || n > piece.len() {
+            return Ok(());
+        }
+        said.extend_from_slice(&piece[..n])?;
     }
-    Some(())
+    Ok(())
 }
 
 // The id of the session that was opened.
@@ -60,30 +53,24 @@ fn session_id(said: &[u8]) -> Option<&[u8]> {
     Some(id)
 }
 
-// The TEARDOWN of the session that was opened.
-fn last(alloc: Global, said: &[u8]) -> Result<Vec<u8>, AllocError> {
-    let mut last = Vec::new(alloc);
-    last.extend_from_slice(b"TEARDOWN rtsp://h/tone RTSP/2.0\r\nCSeq: 3\r\nSession: ")?;
-    last.extend_from_slice(session_id(said).unwrap_or(b""))?;
-    last.extend_from_slice(b"\r\n\r\n")?;
-    Ok(last)
-}
-
 // What a player is told that sets a track up and tears it down.
-fn told(alloc: Global, stream: &TcpStream) -> Option<Vec<u8>> {
-    let mut said = Vec::new(alloc);
-    let mut to = stream;
-    to.write_all(FIRST.as_bytes()).ok()?;
-    read_responses(stream, &mut said, 2)?;
-    to.write_all(&last(alloc, &said).ok()?).ok()?;
-    read_responses(stream, &mut said, 3)?;
-    Some(said)
-}
-
-fn play<R: Net<Stream = TcpStream> + AllocGlobal>(rt: &R, address: SocketAddr) -> Option<Vec<u8>> {
-    let stream = TcpStream::connect(rt, address).ok()?;
-    stream.set_read_timeout(Some(Duration::from_secs(10))).ok()?;
-    told(rt.alloc(), &stream)
+fn play<R: Net<Stream = TcpStream> + AllocGlobal>(
+    rt: &R,
+    address: SocketAddr,
+) -> Result<Vec<u8>, Fail> {
+    let mut said = Vec::new(rt.alloc());
+    let stream = TcpStream::connect(rt, address)?;
+    stream.set_read_timeout(Some(Duration::from_secs(10)))?;
+    let mut to = &stream;
+    to.write_all(FIRST.as_bytes())?;
+    read_responses(&stream, &mut said, 2)?;
+    let mut last: Vec<u8> = Vec::new(rt.alloc());
+    last.extend_from_slice(b"TEARDOWN rtsp://h/tone RTSP/2.0\r\nCSeq: 3\r\nSession: ")?;
+    last.extend_from_slice(session_id(&said).unwrap_or(b""))?;
+    last.extend_from_slice(b"\r\n\r\n")?;
+    to.write_all(&last)?;
+    read_responses(&stream, &mut said, 3)?;
+    Ok(said)
 }
 
 // Nobody is told where the server listens.
@@ -125,7 +112,7 @@ fn a_server_answers_three_requests(rt: HostRuntime) -> Result<(), Fail> {
         || server.run(&rt, Untold, errors),
         || play(&rt, address),
     );
-    let answered = said.map_or(0, |said| count_of(&said, OK));
-    assert!(rt; answered == 3 && has_served_one(&ended?));
+    let is_answered = count_of(&said?, OK) == 3;
+    assert!(rt; is_answered && has_served_one(&ended?));
     Ok(())
 }

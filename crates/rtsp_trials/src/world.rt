@@ -50,66 +50,6 @@ pub fn serve<'a, R: Wait, B: Binder, W: Words, I: ByteIn, O: ByteOut>(
     desk.serve(alloc, reader, writer, turns)
 }
 
-/// What is lent to a connection, and its requests and answers.
-#[derive(Drop)]
-pub struct Player<'a> {
-    pub ports: Ports,
-    pub words: Counted,
-    pub requests: Requests<'a>,
-    pub answers: Answers,
-}
-
-impl<'a> Player<'a> {
-    pub fn new(alloc: Global, requests: &'a str, failing: Failing) -> Player<'a> {
-        Player {
-            ports: Ports::new(failing),
-            words: Counted::new(failing),
-            requests: Requests::new(requests, failing),
-            answers: Answers::new(alloc, failing),
-        }
-    }
-
-    /// What was said to it.
-    pub fn into_said(self) -> Vec<u8> {
-        let Player { answers, .. } = self;
-        let Answers { said, .. } = answers;
-        said
-    }
-}
-
-/// Whoever asks on this host, by a new number.
-pub fn asker<R: Wait>(rt: &R, seat: &mut BookSeat, lock: &BookLock) -> Option<Asker>
-    requires { IsSeatOf seat.old lock.now }
-    ensures { SameSeat seat.old seat.new }
-{
-    let conn = seat.draw(rt, lock).ok()?;
-    let peer = 0x7f00_0001;
-    Some(Asker { conn, peer })
-}
-
-// Serves a player, with at most so many reads.
-fn hold<R: Wait>(
-    rt: &R,
-    alloc: Global,
-    seat: &mut BookSeat,
-    lock: &BookLock,
-    table: &Table,
-    player: &mut Player<'_>,
-    turns: u64,
-) -> Option<ServeEnd>
-    requires { IsSeatOf seat.old lock.now }
-    ensures { SameSeat seat.old seat.new }
-{
-    let asker = asker(rt, seat, lock)?;
-    let ports = &mut player.ports;
-    let words = &mut player.words;
-    let requests = &mut player.requests;
-    let answers = &mut player.answers;
-    Some(serve(
-        rt, alloc, seat, lock, ports, words, table, asker, requests, answers, turns,
-    ))
-}
-
 /// What a conversation says, the book that it leaves, and how it ends.
 #[derive(Drop)]
 pub struct Conversation {
@@ -129,10 +69,24 @@ pub fn converse<R: Wait>(
 ) -> Option<Conversation> {
     let table = tone(alloc)?;
     let (lock, mut seat) = open(alloc, &whole_of(&table)).ok()?;
-    let mut player = Player::new(alloc, requests, failing);
-    let end = hold(rt, alloc, &mut seat, &lock, &table, &mut player, turns)?;
+    let conn = seat.draw(rt, &lock).ok()?;
+    let peer = 0x7f00_0001;
+    let mut answers = Answers::new(alloc, failing);
+    let end = serve(
+        rt,
+        alloc,
+        &mut seat,
+        &lock,
+        &mut Ports::new(failing),
+        &mut Counted::new(failing),
+        &table,
+        Asker { conn, peer },
+        &mut Requests::new(requests, failing),
+        &mut answers,
+        turns,
+    );
     let kept = seat.finish(rt, lock);
-    let said = player.into_said();
+    let Answers { said, .. } = answers;
     Some(Conversation { said, kept, end })
 }
 
