@@ -5,7 +5,7 @@ use Rattle.std.specs.List.{list_all, starts_with}
 use Rattle.std.proofs.lemmas.Bool.{and_parts, not-true}
 use Rattle.rtsp_text.specs.Bytes.{is_blank, is_token, is_token_byte}
 use Rattle.rtsp_text.proofs.ByteLemmas.{all_get, all_joined, all_weaker, other}
-use Rattle.rtsp_grammar.specs.Bytes.{is_line_byte}
+use Rattle.rtsp_text.specs.Bytes.{is_line_byte}
 use Rattle.rtsp_grammar.specs.Words.{is_method}
 
 pub method_token : (bytes : List ℕ) → is_method bytes ≡ true → is_token bytes ≡ true

@@ -1,4 +1,3 @@
-pub mod LineLemmas
 pub mod LinesLemmas
 pub mod NumberLemmas
 pub mod FoldLemmas

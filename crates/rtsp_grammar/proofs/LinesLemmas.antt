@@ -3,10 +3,11 @@ use Rattle.std.proofs.Common.{◌≡◌, ℕ, ◌+◌, ◌-◌, ◌<◌, ◌≤�
 use Rattle.std.specs.List.{AllByRecursion}
 use Rattle.std.proofs.lemmas.List.{length-append, append-nil, take_at, length-drop}
 use Rattle.rtsp_text.proofs.ByteLemmas.{all_other}
-use Rattle.rtsp_grammar.specs.Bytes.{is_line_byte}
+use Rattle.rtsp_text.specs.Bytes.{is_line_byte}
 use Rattle.rtsp_grammar.specs.Folds.{begins_blank}
 use Rattle.rtsp_grammar.specs.Item.{BeginsBlank}
-use Rattle.rtsp_grammar.specs.Lines.{AreLines, BeginsLines, HasLine, IsLine, line_text, lines_text}
+use Rattle.rtsp_text.specs.Line.{HasLine}
+use Rattle.rtsp_grammar.specs.Lines.{AreLines, BeginsLines, IsLine, line_text, lines_text}
 use Rattle.rtsp_grammar.specs.Reading.{line_and_others, split_line}
 use Rattle.rtsp_text.specs.SplitOnce.{split_once, IsSplitAt}
 use Rattle.rtsp_text.proofs.SplitLemmas.{split_found, split_is}

@@ -3,7 +3,8 @@ use Rattle.std.proofs.Common.{◌≡◌, ◌≢◌, ℕ, ◌-◌, ◌*◌, ◌<�
 use Rattle.std.specs.Prelude.{IfOk, IfErr, IfSome, IfNone}
 use Rattle.std.proofs.lemmas.List.{length-append, append-nil, take_all, take-append-le, append_cancel_left}
 use Rattle.std.proofs.lemmas.Bool.{cases_lt}
-use Rattle.rtsp_grammar.specs.Lines.{BeginsBare, blank_text, lines_text, IsBrokenHead}
+use Rattle.rtsp_text.specs.Line.{BeginsBare}
+use Rattle.rtsp_grammar.specs.Lines.{blank_text, lines_text, IsBrokenHead}
 use Rattle.rtsp_grammar.specs.Frame.{frame_text, IsFrame, BeginsFrame, IsShortFrame}
 use Rattle.rtsp_grammar.specs.Item.{Spells}
 use Rattle.rtsp_grammar.specs.Answer.{HasFault, IsPartialFrame, IsPartialHead, IsPartialBody, IsUndecided, Decides, Answers, FindsNothing}

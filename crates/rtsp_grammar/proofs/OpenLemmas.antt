@@ -6,7 +6,8 @@ use Rattle.rtsp_grammar.specs.Answer.{BreaksLine, IsPartialFrame, IsPartialHead,
 use Rattle.rtsp_grammar.specs.Frame.{frame_text, BeginsFrame, IsShortFrame}
 use Rattle.rtsp_grammar.specs.Head.{HeadRule}
 use Rattle.rtsp_grammar.specs.Item.{message_of}
-use Rattle.rtsp_grammar.specs.Lines.{blank_text, lines_text, BeginsBare}
+use Rattle.rtsp_text.specs.Line.{BeginsBare}
+use Rattle.rtsp_grammar.specs.Lines.{blank_text, lines_text}
 use Rattle.rtsp_grammar.specs.declared.head.Head.{Head}
 use Rattle.rtsp_grammar.specs.declared.message.Item.{Item}
 use Rattle.rtsp_grammar.specs.declared.message.Item.TheVariants as items

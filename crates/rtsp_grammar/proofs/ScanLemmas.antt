@@ -5,9 +5,10 @@ use Rattle.std.specs.List.{starts_with}
 use Rattle.std.proofs.lemmas.Bool.{eqb-true, and_from}
 use Rattle.std.proofs.lemmas.List.{take_all, length-append, append-nil, drop_at, drop-append-le}
 use Rattle.std.proofs.lemmas.List.Folds.{list_all-append}
-use Rattle.rtsp_grammar.specs.Bytes.{is_line_byte}
+use Rattle.rtsp_text.specs.Bytes.{is_line_byte}
 use Rattle.rtsp_grammar.specs.Frame.{BeginsFrame}
-use Rattle.rtsp_grammar.specs.Lines.{blank_text, line_text, lines_text, IsPlain, IsOpen, HasLine}
+use Rattle.rtsp_text.specs.Line.{IsPlain, IsOpen, HasLine}
+use Rattle.rtsp_grammar.specs.Lines.{blank_text, line_text, lines_text}
 use Rattle.rtsp_grammar.specs.Answer.{IsUndecided}
 use Rattle.rtsp_grammar.specs.Scan.{reached_after, reached_within, BeginsNoFrame, HasReached, IsReached, IsPlace}
 use Rattle.rtsp_grammar.specs.declared.scan.ScanPlace.{ScanPlace}

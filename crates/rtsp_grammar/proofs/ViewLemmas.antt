@@ -2,8 +2,9 @@
 use Rattle.std.proofs.Common.{◌≡◌, ℕ, zero, suc, ◌⊎◌, List, [], ◌∷◌, ◌++◌, length, refl, sym, ap, subst, ◌∙◌, append_assoc, arith, inl, inr, Bool, true, false, cond, eqb}
 use Rattle.std.proofs.lemmas.Bool.{eqb-true, and_parts, not-true, or_parts}
 use Rattle.std.specs.List.{list_all, AllByRecursion}
-use Rattle.rtsp_grammar.specs.Bytes.{is_line_byte}
-use Rattle.rtsp_grammar.specs.Lines.{blank_text, line_text, lines_text, IsLine, IsBroken, IsOpen, BeginsBare}
+use Rattle.rtsp_text.specs.Bytes.{is_line_byte}
+use Rattle.rtsp_text.specs.Line.{IsBroken, IsOpen, BeginsBare}
+use Rattle.rtsp_grammar.specs.Lines.{blank_text, line_text, lines_text, IsLine}
 use Rattle.rtsp_grammar.specs.Item.{BeginsBlank}
 
 pub data View : Type 0 where

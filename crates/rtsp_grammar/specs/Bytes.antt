@@ -1,14 +1,6 @@
 -- Classes of bytes (RFC 7826 section 20.1).
 use Rattle.std.specs.Prelude.{ℕ, Bool, ◌==◌, ◌||◌, ◌&&◌, not, nat_le}
 
--- CR or LF
-abbrev pub is_line_end : ℕ → Bool
-is_line_end b = b == 13 || b == 10
-
--- a byte of a line: neither CR nor LF
-abbrev pub is_line_byte : ℕ → Bool
-is_line_byte b = not (is_line_end b)
-
 -- a byte of a URI: visible ASCII, 21 to 7e
 abbrev pub is_uri_byte : ℕ → Bool
 is_uri_byte b = nat_le 33 b && nat_le b 126

@@ -8,9 +8,7 @@ pub mod Headers
 pub mod HeaderView
 pub mod HeadersBuilder
 pub mod BuiltHeaders
-pub mod Span
 pub mod Lines
-pub mod LineAt
 pub mod HeadAt
 pub mod HeaderSteps
 pub mod Frame

@@ -2,7 +2,8 @@
 use Rattle.std.specs.Prelude.{◌≡◌, ◌≢◌, ℕ, ◌<◌, ◌≤◌, Bool, true, false, List, [], ◌++◌, length, drop, Option, Some, None, Ok}
 use Rattle.std.specs.List.{AllByRecursion}
 use Rattle.rtsp_grammar.specs.Frame.{BeginsFrame}
-use Rattle.rtsp_grammar.specs.Lines.{blank_text, lines_text, IsLine, IsPlain}
+use Rattle.rtsp_text.specs.Line.{IsPlain}
+use Rattle.rtsp_grammar.specs.Lines.{blank_text, lines_text, IsLine}
 use Rattle.rtsp_grammar.specs.Answer.{Decides, IsUndecided}
 use Rattle.rtsp_grammar.specs.declared.read.Front.{Front}
 use Rattle.rtsp_grammar.specs.declared.read.Front.TheVariants as fronts

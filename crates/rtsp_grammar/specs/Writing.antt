@@ -7,7 +7,8 @@ use Rattle.rtsp_grammar.specs.Header.{HeaderText}
 use Rattle.rtsp_grammar.specs.HeaderLine.{IsHeader}
 use Rattle.rtsp_grammar.specs.Item.{request_head, response_head}
 use Rattle.rtsp_grammar.specs.Length.{LengthRule}
-use Rattle.rtsp_grammar.specs.Lines.{line_text, IsPlain}
+use Rattle.rtsp_text.specs.Line.{IsPlain}
+use Rattle.rtsp_grammar.specs.Lines.{line_text}
 use Rattle.rtsp_grammar.specs.StartLine.{start_text, uri_len, IsStart}
 use Rattle.rtsp_grammar.specs.declared.head.Head.{Head}
 use Rattle.rtsp_grammar.specs.declared.start_line.StartLine.{StartLine}

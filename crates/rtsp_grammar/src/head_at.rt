@@ -5,7 +5,7 @@ ghost use Rattle.rtsp_grammar.specs.HeadAt.{IsHeaderLinesAt, IsHeadAt};
 ghost use Rattle.rtsp_grammar.specs.Item.{BeginsBlank};
 
 use crate::folds::begins_blank;
-use crate::line::{Line, line_at};
+use rtsp_text::{Line, line_at};
 
 /// The lines of a head, as they are in the text.
 #[derive(Clone, Copy)]

@@ -5,7 +5,7 @@ ghost use Rattle.std.specs.Bool.{OnFalse};
 ghost use Rattle.rtsp_grammar.specs.Answer.{IsUndecided};
 ghost use Rattle.rtsp_grammar.specs.Scan.{IsPlace, reached_after, reached_within, BeginsNoFrame};
 
-use crate::line::{Line, line_at};
+use rtsp_text::{Line, line_at};
 
 /// What stands right before a place in a head.
 #[derive(Clone, Copy)]

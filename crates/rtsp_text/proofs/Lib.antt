@@ -8,3 +8,4 @@ pub mod DecimalLemmas
 pub mod HexLemmas
 pub mod AppendLemmas
 pub mod EachLemmas
+pub mod LineLemmas

@@ -11,6 +11,14 @@ is_blank b = b == 32 || b == 9
 abbrev pub is_token_byte : ℕ → Bool
 is_token_byte b = is_ascii_alphanumeric b || list_any (λ c. c == b) (codes "!#$%&'*+-.^_~`|")
 
+-- CR or LF
+abbrev pub is_line_end : ℕ → Bool
+is_line_end b = b == 13 || b == 10
+
+-- a byte of a line: neither CR nor LF
+abbrev pub is_line_byte : ℕ → Bool
+is_line_byte b = not (is_line_end b)
+
 -- another byte than this one
 abbrev pub is_other : ℕ → ℕ → Bool
 is_other byte b = not (b == byte)

@@ -8,3 +8,6 @@ pub mod Text
 pub mod Appending
 pub mod Options
 pub mod Results
+pub mod Span
+pub mod Line
+pub mod LineAt

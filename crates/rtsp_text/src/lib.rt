@@ -1,5 +1,5 @@
-//! Texts of bytes, read and written: classes of bytes, trimming, splitting, decimal and hexadecimal
-//! numbers, and what a writer that appends leaves.
+//! Texts of bytes, read and written: classes of bytes, trimming, splitting, lines, decimal and
+//! hexadecimal numbers, and what a writer that appends leaves.
 
 #![tactic(auto)]
 
@@ -7,6 +7,7 @@ mod append;
 mod bytes;
 mod decimal;
 mod hexadecimal;
+mod line;
 mod list;
 mod split;
 mod text;
@@ -16,6 +17,7 @@ pub use append::{all_or_nothing, append_all};
 pub use bytes::{is_blank, is_number, is_token, is_token_byte};
 pub use decimal::{digits_number, number_of, three_digits, write_decimal};
 pub use hexadecimal::{hex_number, write_hex_u32, write_hex_u128};
+pub use line::{Line, line_at};
 pub use list::List;
 pub use split::split_once;
 pub use text::Text;

@@ -1,9 +1,9 @@
 use Rattle.std.proofs.Common.{ℕ, List, length, Option, Some, None, unwrap_or, refl, arith, le_refl}
 use Rattle.memchr.specs.Find.{IsFirstByte, is_byte2}
 use Rattle.rtsp_text.proofs.SearchLemmas.{none_before}
-use Rattle.rtsp_grammar.specs.Bytes.{is_line_byte}
-use Rattle.rtsp_grammar.specs.Span.{IsSpan}
-use Rattle.rtsp_grammar.proofs.line.plain_len.Goals as goal
+use Rattle.rtsp_text.specs.Bytes.{is_line_byte}
+use Rattle.rtsp_text.specs.Span.{IsSpan}
+use Rattle.rtsp_text.proofs.line.plain_len.Goals as goal
 
 span_of : (text : List ℕ) (first : Option ℕ) → IsFirstByte (is_byte2 13 10) text first → IsSpan is_line_byte text (unwrap_or first (length text))
 span_of text None none = record {

@@ -3,9 +3,9 @@ use Rattle.std.proofs.Common.{◌≡◌, ◌≢◌, ℕ, ◌+◌, ◌<◌, ◌�
 use Rattle.std.specs.Prelude.{not, ◌||◌}
 use Rattle.std.proofs.lemmas.List.{take-append-drop, take_all, append-nil, drop_more, drop_all}
 use Rattle.std.proofs.lemmas.Bool.{eqb-true}
-use Rattle.rtsp_grammar.specs.Bytes.{is_line_byte}
-use Rattle.rtsp_grammar.specs.Span.{IsSpan}
-use Rattle.rtsp_grammar.specs.Lines.{HasLine, IsBroken, IsOpen, IsPlain, BeginsBare}
+use Rattle.rtsp_text.specs.Bytes.{is_line_byte}
+use Rattle.rtsp_text.specs.Span.{IsSpan}
+use Rattle.rtsp_text.specs.Line.{HasLine, IsBroken, IsOpen, IsPlain, BeginsBare}
 
 -- a byte that ends a line is a CR or an LF
 end_byte : (b : ℕ) → is_line_byte b ≡ false → (b ≡ 13) ⊎ (b ≡ 10)

@@ -1,6 +1,6 @@
 use Rattle.std.proofs.Common.{arith}
-use Rattle.rtsp_grammar.proofs.LineLemmas.{broken_feed, broken_return, open_at_end, open_at_return}
-use Rattle.rtsp_grammar.proofs.line.line_at.Goals as goal
+use Rattle.rtsp_text.proofs.LineLemmas.{broken_feed, broken_return, open_at_end, open_at_return}
+use Rattle.rtsp_text.proofs.line.line_at.Goals as goal
 
 pub returns-then-bytes-end-eq-LF : goal.returns-then-bytes-end-eq-LF
 returns-then-bytes-end-eq-LF c = broken_feed _ _ c.plain_len-end.ensures (omega arith) c.if-bytes-end-eq-LF.true
