@@ -40,10 +40,19 @@ impl Header<'_> {
 pub struct Repeated;
 
 /// The headers of a message, in order.
-#[derive(Drop)]
 pub struct Headers {
     bytes: Vec<u8>,
     places: Vec<Place>,
+}
+
+// Written out, so that whoever lets go of headers makes one call.
+impl Drop for Headers {
+    fn drop(self) {
+        let Self {
+            bytes: _bytes,
+            places: _places,
+        } = self;
+    }
 }
 
 impl Model for Headers {

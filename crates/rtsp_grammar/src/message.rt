@@ -6,7 +6,6 @@ use crate::version::Version;
 use rtsp_text::Text;
 
 /// A request (RFC 7826 section 7).
-#[derive(Drop)]
 pub struct Request {
     pub method: Method,
     /// As it is written, `*` too; one that is read has at most 1,024 bytes.
@@ -17,8 +16,20 @@ pub struct Request {
     pub body: Text,
 }
 
+// Written out, so that whoever lets go of a request makes one call, and not one for each of its parts.
+impl Drop for Request {
+    fn drop(self) {
+        let Self {
+            method: _method,
+            uri: _uri,
+            version: _version,
+            headers: _headers,
+            body: _body,
+        } = self;
+    }
+}
+
 /// A response (RFC 7826 section 8).
-#[derive(Drop)]
 pub struct Response {
     pub version: Version,
     /// Three digits, so at most 999.
@@ -28,6 +39,19 @@ pub struct Response {
     pub headers: Headers,
     /// What Content-Length announces; one that is read has at most 65,536 bytes.
     pub body: Text,
+}
+
+// Written out, as that of `Request` is.
+impl Drop for Response {
+    fn drop(self) {
+        let Self {
+            version: _version,
+            status: _,
+            reason: _reason,
+            headers: _headers,
+            body: _body,
+        } = self;
+    }
 }
 
 /// Bytes of one channel between messages (RFC 7826 section 14).

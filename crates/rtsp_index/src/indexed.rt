@@ -19,9 +19,15 @@ use std::marker::Model;
 /// alone, but for `on_conn` and `unsettled`, which read each row.
 ///
 /// The parts stand on the heap, so a book is moved as one address.
-#[derive(Drop)]
 pub struct IndexedBook {
     parts: Box<Parts>,
+}
+
+// Written out, so that whoever lets go of a book makes one call, and not one for each of its parts.
+impl Drop for IndexedBook {
+    fn drop(self) {
+        let Self { parts: _parts } = self;
+    }
 }
 
 impl Model for IndexedBook {
