@@ -19,7 +19,7 @@ use Rattle.rtsp_record.specs.Sound.{SoundSession, SoundRow, Sound}
 use Rattle.rtsp_record.proofs.Sound.{holding-others, sound-after}
 use Rattle.rtsp_sessions.specs.Lookups.{TakesNone, TakesNoMemory}
 use Rattle.rtsp_sessions.specs.Plain.{InOrder, table_of, RoomUnder, RoomFor, FitsIn, AllFit, is_open}
-use Rattle.rtsp_sessions.proofs.SortedRows.{find_there, entries_of}
+use Rattle.rtsp_sessions.proofs.SortedRows.{find_there}
 
 -- one part of a row that is there and sound is a rate or an address
 part : (r : Option ℕ) (x : Option Thing) (v : Option Stream) (d : Admission) → row r x v ≡ Some d → ((u : Stream) → v ≡ Some u → IsSome r × IsSome x) → (is_some r || is_some x) ≡ true
@@ -107,8 +107,8 @@ each_lives [] = omega arith
 each_lives (e ∷ es) = omega (arith, sum_by-cons (λ (e : ℕ × Session). of_session sessions e.1) e es, each_lives es)
 
 -- no more rows than sessions may live
-pub few_rows : (w : Whole) (es : List (ℕ × Session)) → InOrder es → Sound w (table_of es) → length es ≤ w.sessions
-few_rows w es h ok = omega (arith, each_lives es, ap (sum_by (λ (e : ℕ × Session). of_session sessions e.1)) (entries_of es h), ok.few)
+pub few_rows : (w : Whole) (b : Book) → Sound w b → length (entries b) ≤ w.sessions
+few_rows w b ok = omega (arith, each_lives (entries b), ok.few)
 
 at_most : {X : Type 0} (o : Option X) → if_there (λ (x : X). 1) o ≤ 1
 at_most None = omega arith
@@ -125,7 +125,9 @@ owed_of w f ok =
     at_most_one_not true = omega arith
     at_most_one_not false = omega arith
 
+pub owed_within : (w : Whole) (b : Book) → Sound w b → owed b ≤ 51 * w.sessions
+owed_within w b ok =
+    omega (arith, sum_each (λ (e : ℕ × Session). of_session returns e.1) 51 (entries b) (λ j d lt. owed_of w (get_or (entries b) j d).1 (subst (SoundRow w) (got b j d lt) (ok.rows (get_or (entries b) j d).0))), few_rows w b ok)
+
 pub owed_few : (w : Whole) (es : List (ℕ × Session)) → InOrder es → Sound w (table_of es) → owed (table_of es) ≤ 51 * w.sessions
-owed_few w es h ok =
-    let b = table_of es in
-    omega (arith, sum_each (λ (e : ℕ × Session). of_session returns e.1) 51 (entries b) (λ j d lt. owed_of w (get_or (entries b) j d).1 (subst (SoundRow w) (got b j d lt) (ok.rows (get_or (entries b) j d).0))), ap length (entries_of es h), few_rows w es h ok)
+owed_few w es h ok = owed_within w (table_of es) ok

@@ -1,5 +1,5 @@
 -- Rows in ascending order of their numbers, and a book that is kept so.
-use Rattle.std.specs.Prelude.{◌≡◌, ℕ, ◌<◌, ◌≤◌, ◌⊎◌, Bool, true, false, Option, None, option_map, List, [], ◌∷◌, length, IsSome, IsTrue, slice_index_or, refl}
+use Rattle.std.specs.Prelude.{◌≡◌, ℕ, ◌<◌, ◌≤◌, ◌^◌, ◌⊎◌, Bool, true, false, Option, None, option_map, List, [], ◌∷◌, length, IsSome, IsTrue, slice_index_or, refl}
 use Rattle.std.specs.Ordering.{nat_cmp}
 use Rattle.std.specs.FinMap.{get, entries, is_sorted, from_sorted, code}
 use Rattle.std.specs.Coded.{Coded, code_by, coded×, coded_ℕ, coded_option}
@@ -65,10 +65,14 @@ one_session_code admission phase =
     (λ p. record { id = p.0; conn = p.1.0; expires = p.1.1.0; phase = p.1.1.1.0; binding = p.1.1.1.1.0; admissions = p.1.1.1.1.1 })
     (λ _. refl)
 
+-- how sessions by their numbers are stored
+abbrev pub book_code : Coded Admission → Coded Phase → Coded Book
+book_code admission phase = code coded_ℕ (one_session_code admission phase)
+
 -- how a plain book is stored
 abbrev pub plain_code : Coded Whole → Coded Admission → Coded Phase → Coded PlainState
 plain_code whole admission phase =
-    code_by (Whole × Book) (coded× whole (code coded_ℕ (one_session_code admission phase))) (λ v. (v.whole, v.book)) (λ p. record { whole = p.0; book = p.1 }) (λ _. refl)
+    code_by (Whole × Book) (coded× whole (book_code admission phase)) (λ v. (v.whole, v.book)) (λ p. record { whole = p.0; book = p.1 }) (λ _. refl)
 
 -- a record for which there is a place: an Open of a session that doesn't live, or a change of one that lives and has room for it
 abbrev pub FitsIn : Book → Record → Type 0
@@ -86,8 +90,12 @@ abbrev pub is_open : Record → Bool
 is_open (Open k) = true
 is_open r = false
 
--- the rows are in order, their book is sound, and the whole has its ports
-pub record IsPlain (w : Whole) (es : List (ℕ × Session)) : Type 0 where
+-- rows in order, few enough that no sum over them is too large
+pub record AreRows (es : List (ℕ × Session)) : Type 0 where
   pub in_order : InOrder es
-  pub sound : Sound w (table_of es)
+  pub few : length es < 2 ^ 32
+
+-- the book is sound, and the whole has its ports
+pub record IsPlain (w : Whole) (b : Book) : Type 0 where
+  pub sound : Sound w b
   pub ports : HasPorts w

@@ -1,10 +1,8 @@
 //! A plain, slow book: its sessions in a vector, in ascending order of their numbers.
 
-ghost use Rattle.std.specs.Prelude.{◌≡◌, ◌<◌, ◌^◌, length};
-ghost use Rattle.std.specs.FinMap.{entries};
+ghost use Rattle.std.specs.Prelude.{◌≡◌, ◌<◌, ◌^◌};
 ghost use Rattle.rtsp_record.specs.Sums.{living, held_rate, owed};
 ghost use Rattle.rtsp_record.specs.Choices.{HasPorts};
-ghost use Rattle.rtsp_sessions.specs.Plain.{InOrder, table_of};
 
 mod amounts;
 mod choices;
@@ -16,8 +14,10 @@ mod rules;
 use crate::measures::Measure;
 use crate::numbers::SessionNumbers;
 use crate::representation::BookRep;
+use crate::udp_ports::UdpPorts;
 use crate::views::SessionView;
 pub use own::allowed_for_session;
+use rows::Rows;
 use rtsp_record::{Record, Whole};
 use std::alloc::{AllocError, Global};
 use std::marker::Model;
@@ -27,34 +27,31 @@ use std::marker::Model;
 #[derive(Drop)]
 pub struct PlainBook {
     whole: Whole,
-    rows: Vec<SessionView>,
+    rows: Rows,
 }
 
 impl Model for PlainBook {
     ghost use Rattle.rtsp_record.specs.contracts.holdings.Admission as admission;
     ghost use Rattle.rtsp_record.specs.contracts.holdings.Whole as limits;
     ghost use Rattle.rtsp_record.specs.contracts.phases.Phase as play;
-    ghost use Rattle.rtsp_sessions.specs.Plain.{PlainState, plain_code, table_of, IsPlain};
+    ghost use Rattle.rtsp_sessions.specs.Plain.{PlainState, plain_code, IsPlain};
 
     ghost Value = { PlainState };
 
     ghost coded = { plain_code limits.the_row.coded admission.the_row.coded play.the_row.coded };
 
-    ghost view = { λ b. record { whole = b.whole; book = table_of b.rows.items } };
+    ghost view = { λ b. record { whole = b.whole; book = b.rows } };
 
-    ghost invariant = { λ b. IsPlain b.whole b.rows.items };
+    ghost invariant = { λ b. IsPlain b.whole b.rows };
 }
 
 impl PlainBook {
-    // The sessions in order.
-    fn rows(&self) -> &[SessionView]
-        ensures entries { result.now ≡ entries self.now.book }
-        ensures table { table_of result.now ≡ self.now.book }
-        ensures in_order { InOrder result.now }
-        ensures few { length result.now < 2 ^ 16 }
-        ensures living { living (table_of result.now) < 2 ^ 16 }
-        ensures rate { held_rate (table_of result.now) < 2 ^ 64 }
-        ensures owed { owed (table_of result.now) < 2 ^ 32 }
+    // The rows, of which no sum is too large.
+    fn rows(&self) -> &Rows
+        ensures book { result.now ≡ self.now.book }
+        ensures living { living result.now < 2 ^ 16 }
+        ensures rate { held_rate result.now < 2 ^ 64 }
+        ensures owed { owed result.now < 2 ^ 32 }
     {
         let _sessions = self.whole.sessions;
         let _uplink = self.whole.uplink;
@@ -77,84 +74,86 @@ impl BookRep for PlainBook {
     fn open(alloc: Global, whole: &Whole) -> Result<Self, AllocError> {
         Ok(PlainBook {
             whole: *whole,
-            rows: Vec::new(alloc),
+            rows: Rows::new(alloc),
         })
     }
 
     fn allowed(&self, change: &Record) -> bool {
-        rules::allowed(self.whole(), self.rows(), change)
+        self.rows().allows(self.whole(), change)
     }
 
     fn apply(&mut self, changes: &[Record]) -> Result<(), AllocError> {
-        self.rows.reserve(rows::openings(changes))?;
-        rows::make_all(&mut self.rows, changes);
+        let _sessions = self.whole.sessions;
+        self.rows.make_all(changes)?;
         Ok(())
     }
 
     fn get(&self, session: u64) -> Option<&SessionView> {
-        rows::find(self.rows(), session)
+        self.rows().get(session)
     }
 
     fn session(&self, session: u64) -> Option<SessionView> {
-        match rows::find(self.rows(), session) {
+        match self.rows().get(session) {
             Some(view) => Some(view.copied()),
             None => None,
         }
     }
 
     fn lives(&self, session: u64) -> bool {
-        rows::lives(self.rows(), session)
+        self.rows().lives(session)
     }
 
     fn next_session(&self, from: u64) -> Option<u64> {
-        lookups::first_from(self.rows(), from)
+        self.rows().first_from(from)
     }
 
     fn next_sessions(&self, above: Option<u64>, found: &mut SessionNumbers) {
-        lookups::first_above(self.rows(), above, found)
+        self.rows().first_above(above, found)
     }
 
     fn unsettled(&self) -> Option<u64> {
-        lookups::unsettled(self.rows())
+        self.rows().unsettled()
     }
 
     fn by_id(&self, id: u128) -> Option<u64> {
-        lookups::with_id(self.rows(), id)
+        self.rows().with_id(id)
     }
 
     fn by_startup(&self, conn: u64, number: u32) -> Option<u64> {
-        lookups::with_startup(self.rows(), conn, number)
+        self.rows().with_startup(conn, number)
     }
 
+    #[tactic(auto, unfolding(rtsp_record::specs::Choices::least_pair_by))]
     fn least_pair(&self, from: u32) -> Option<u16> {
-        choices::least_pair(self.whole(), self.rows(), from)
+        self.rows().least_free(UdpPorts::Pair, self.whole(), from)
     }
 
+    #[tactic(auto, unfolding(rtsp_record::specs::Choices::least_port_by))]
     fn least_port(&self, from: u32) -> Option<u16> {
-        choices::least_port(self.whole(), self.rows(), from)
+        self.rows().least_free(UdpPorts::Port, self.whole(), from)
     }
 
     fn least_chan(&self, conn: u64, wish: Option<u8>) -> Option<u8> {
-        choices::chosen_chan(self.rows(), conn, wish)
+        self.rows().chosen_chan(conn, wish)
     }
 
     fn held_rate(&self) -> u64 {
-        amounts::amount(self.rows(), &Measure::Rates) as u64
+        self.rows().amount(&Measure::Rates) as u64
     }
 
     fn living(&self) -> usize {
-        amounts::amount(self.rows(), &Measure::Sessions) as usize
+        self.rows().amount(&Measure::Sessions) as usize
     }
 
     fn due(&self, now: u64) -> Option<u64> {
-        lookups::expired(self.rows(), now)
+        self.rows().expired(now)
     }
 
     fn on_conn(&self, conn: u64) -> Option<u64> {
-        lookups::on_conn(self.rows(), conn)
+        self.rows().on_conn(conn)
     }
 
     fn owed(&self) -> usize {
-        amounts::amount(self.rows(), &Measure::Returns) as usize
+        self.rows().amount(&Measure::Returns) as usize
     }
 }

@@ -1,6 +1,0 @@
-use Rattle.std.proofs.Common.{◌≡◌, drop}
-use Rattle.rtsp_sessions.specs.Lookups.{expired_in}
-use Rattle.rtsp_sessions.proofs.plain.lookups.expired.Given as goal
-
-abbrev pub invariant-loop-row : goal.invariant-loop-row
-invariant-loop-row l = expired_in l.now (drop l.row-index l.rows) ≡ expired_in l.now l.rows

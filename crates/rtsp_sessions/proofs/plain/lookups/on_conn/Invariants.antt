@@ -1,6 +1,0 @@
-use Rattle.std.proofs.Common.{◌≡◌, drop}
-use Rattle.rtsp_sessions.specs.Lookups.{on_conn_in}
-use Rattle.rtsp_sessions.proofs.plain.lookups.on_conn.Given as goal
-
-abbrev pub invariant-loop-row : goal.invariant-loop-row
-invariant-loop-row l = on_conn_in l.conn (drop l.row-index l.rows) ≡ on_conn_in l.conn l.rows
