@@ -1,7 +1,9 @@
 """Runs the tests, most of them side by side, each in a process of its own with a limit of time, some several times."""
+import importlib
 import os
 import pathlib
 import queue
+import re
 import resource
 import signal
 import subprocess
@@ -55,6 +57,14 @@ def serving_test(
         return test
 
     return marked
+
+
+def load(name: str = r"\w+") -> None:
+    """Imports the modules that have tests, or of one test the one that has it: its process needs no other."""
+    test = re.compile(rf"(?ms)^@serving_test\([^@]*?^def {name}\(")
+    for path in sorted(pathlib.Path(__file__).parent.glob("*.py")):
+        if test.search(path.read_text()):
+            importlib.import_module(f"{__package__}.{path.stem}")
 
 
 class Outcome(NamedTuple):
@@ -154,8 +164,11 @@ def stopped(number: int, _frame: object) -> NoReturn:
 
 
 def main(script: pathlib.Path, words: List[str], need_program: Callable[[], None]) -> None:
-    if len(words) == 1 and words[0] in TESTS:
-        run_one(TESTS[words[0]])
+    if len(words) == 1 and words[0].isidentifier():
+        load(words[0])
+        if words[0] in TESTS:
+            run_one(TESTS[words[0]])
+    load()
     if words:
         print(f"serve: it takes no word, or the name of a test: {', '.join(TESTS)}", file=sys.stderr)
         sys.exit(2)

@@ -1,5 +1,5 @@
 -- The command line: the words after the program's name, as a command of `clap`, and what they ask for.
-use Rattle.std.specs.Prelude.{◌≡◌, ◌≢◌, ◌==◌, true, false, ℕ, List, [], codes, length, Bool, Option, Some, None, option_map, option_and_then, unwrap_or, MatchOption, bytes_eq, if◌then◌else◌}
+use Rattle.std.specs.Prelude.{◌≡◌, ◌≢◌, ◌==◌, true, false, ℕ, List, [], ◌∷◌, fold, codes, length, Bool, Option, Some, None, option_map, option_and_then, unwrap_or, MatchOption, bytes_eq, if◌then◌else◌}
 use Rattle.std.specs.List.{list_any}
 use Rattle.std.specs.Option.{option_map_or}
 use Rattle.std.specs.Str.Parse.{digits_value, without_leading_plus}
@@ -19,6 +19,10 @@ use Rattle.rtsp_command_line.specs.declared.command_line.CommandLine.TheVariants
 abbrev pub option_rule : Text → Rule
 option_rule name = record (new_rule name) { long = Some name; action = Some Set }
 
+-- the same, where it has to be given
+abbrev pub required_rule : Text → Rule
+required_rule name = record (option_rule name) { required = true }
+
 -- the numbers that `u64` holds
 abbrev pub any_number : ValueParser
 any_number = Unsigned 0 18446744073709551615
@@ -31,44 +35,36 @@ number_rule name = record (option_rule name) { parser = Some any_number }
 abbrev pub flag_rule : Text → Rule
 flag_rule name = record (new_rule name) { long = Some name; action = Some SetTrue }
 
--- the files of `stdio`
-abbrev pub stdio_files : App
-stdio_files = with_rule (with_rule (new_app (codes "stdio")) (option_rule (codes "config"))) (option_rule (codes "journal"))
+-- a subcommand of this name with these options
+abbrev pub subcommand : Text → List Rule → App
+subcommand name rules = fold with_rule (new_app name) rules
 
 -- `stdio [--config FILE] [--journal OUT] [--forget]`
 abbrev pub stdio : App
-stdio = with_rule stdio_files (flag_rule (codes "forget"))
-
--- the files of an audit
-abbrev pub audit_files : App
-audit_files = with_rule (with_rule (new_app (codes "audit"))
-    (option_rule (codes "config")))
-    (record (option_rule (codes "journal")) { required = true })
-
--- and its numbers
-abbrev pub with_numbers : App → App
-with_numbers app = with_rule (with_rule (with_rule app
-    (number_rule (codes "back")))
-    (number_rule (codes "without-session")))
-    (number_rule (codes "without-admission"))
+stdio = subcommand (codes "stdio") (
+    option_rule (codes "config")
+    ∷ option_rule (codes "journal")
+    ∷ flag_rule (codes "forget")
+    ∷ [])
 
 -- `audit [--config FILE] --journal IN [--back N] [--without-session S] [--without-admission A] [--without-ended]`
 abbrev pub audit : App
-audit = with_rule (with_numbers audit_files) (flag_rule (codes "without-ended"))
-
--- the options of `serve` that are texts
-abbrev pub serve_texts : App
-serve_texts = with_rule (with_rule (new_app (codes "serve"))
-    (record (option_rule (codes "config")) { required = true }))
-    (option_rule (codes "listen"))
-
--- and its number
-abbrev pub with_connections : App → App
-with_connections app = with_rule app (number_rule (codes "connections"))
+audit = subcommand (codes "audit") (
+    option_rule (codes "config")
+    ∷ required_rule (codes "journal")
+    ∷ number_rule (codes "back")
+    ∷ number_rule (codes "without-session")
+    ∷ number_rule (codes "without-admission")
+    ∷ flag_rule (codes "without-ended")
+    ∷ [])
 
 -- `serve --config FILE [--listen ADDR] [--connections N]`
 abbrev pub serve : App
-serve = with_connections serve_texts
+serve = subcommand (codes "serve") (
+    required_rule (codes "config")
+    ∷ option_rule (codes "listen")
+    ∷ number_rule (codes "connections")
+    ∷ [])
 
 -- the program, without its subcommands: a call for help is an unknown word, and a subcommand has to follow
 abbrev pub alone : App
@@ -79,17 +75,9 @@ alone = on_top (λ s. record s {
   subcommand_required = true;
 }) (new_app (codes "rtspd"))
 
--- the program with the subcommands that need no socket
-abbrev pub without_serve : App
-without_serve = with_subcommand (with_subcommand alone stdio.top) audit.top
-
--- and with the one that does
-abbrev pub with_serve : App → App
-with_serve app = with_subcommand app serve.top
-
 -- the program
 abbrev pub rtspd : App
-rtspd = with_serve without_serve
+rtspd = fold with_subcommand alone (stdio.top ∷ audit.top ∷ serve.top ∷ [])
 
 -- m is what `clap` makes of the words, and without it they are refused
 abbrev pub Says : List Text → Option ArgMatches → Type 0

@@ -1,7 +1,7 @@
 //! The command line.
 
 ghost use Rattle.std.specs.Prelude.{◌≡◌, IfOk, false, map, option_map, option_and_then};
-ghost use Rattle.clap.specs.Words.{app_of, rule_of, with_rule, subcommand_rows_of, rows_of, found_of};
+ghost use Rattle.clap.specs.Words.{app_of, rule_of, subcommand_rows_of, rows_of, found_of};
 ghost use Rattle.clap.specs.declared.builder.command.Command.TheViews.{out-Command as fields_of};
 ghost use Rattle.rtsp_command_line.specs.CommandLine as spec;
 ghost use Rattle.rtsp_command_line.specs.CommandLine.{option_rule, number_rule, flag_rule, number_in, flag_in, stdio, audit, serve, rtspd, Says, line_view};
@@ -12,7 +12,7 @@ use clap::{Arg, ArgAction, ArgMatches, Command};
 use std::alloc::{AllocError, Global};
 
 /// What a command line asks for. Files are paths as they were written, and may be empty.
-#[derive(Clone, Copy, PartialEq, Eq)]
+#[derive(Clone, Copy)]
 pub enum CommandLine<'a> {
     /// Serve one connection from standard input to standard output.
     Stdio {
@@ -63,124 +63,58 @@ fn flag_named<'a>(alloc: Global, name: &'a str) -> Arg<'a>
     Arg::new(alloc, name).long(name).action(ArgAction::SetTrue)
 }
 
-fn with_flag<'a>(
-    alloc: Global,
-    command: Command<'a>,
-    name: &'a str,
-) -> Result<Command<'a>, AllocError>
-    requires { (fields_of command).has_globals ≡ false }
-    ensures app { IfOk result (λ c. app_of c ≡ with_rule (app_of command.entry) (flag_rule name.entry.now)) }
-    ensures local { IfOk result (λ c. (fields_of c).has_globals ≡ false) }
-{
-    let command = command.arg(flag_named(alloc, name))?;
-    Ok(command)
-}
-
-fn stdio_files<'a>(alloc: Global) -> Result<Command<'a>, AllocError>
-    ensures app { IfOk result (λ c. app_of c ≡ spec.stdio_files) }
-    ensures local { IfOk result (λ c. (fields_of c).has_globals ≡ false) }
-{
-    let command = Command::new(alloc, "stdio").arg(option_named(alloc, "config"))?;
-    let command = command.arg(option_named(alloc, "journal"))?;
-    Ok(command)
-}
-
 fn stdio_command<'a>(alloc: Global) -> Result<Command<'a>, AllocError>
     ensures app { IfOk result (λ c. app_of c ≡ stdio) }
     ensures local { IfOk result (λ c. (fields_of c).has_globals ≡ false) }
 {
-    let files = stdio_files(alloc)?;
-    let command = with_flag(alloc, files, "forget")?;
-    Ok(command)
-}
-
-fn audit_files<'a>(alloc: Global) -> Result<Command<'a>, AllocError>
-    ensures app { IfOk result (λ c. app_of c ≡ spec.audit_files) }
-    ensures local { IfOk result (λ c. (fields_of c).has_globals ≡ false) }
-{
-    let command = Command::new(alloc, "audit").arg(option_named(alloc, "config"))?;
-    let command = command.arg(option_named(alloc, "journal").required(true))?;
-    Ok(command)
-}
-
-fn with_numbers<'a>(alloc: Global, command: Command<'a>) -> Result<Command<'a>, AllocError>
-    requires { (fields_of command).has_globals ≡ false }
-    ensures app { IfOk result (λ c. app_of c ≡ spec.with_numbers (app_of command.entry)) }
-    ensures local { IfOk result (λ c. (fields_of c).has_globals ≡ false) }
-{
-    let command = command.arg(number_named(alloc, "back"))?;
-    let command = command.arg(number_named(alloc, "without-session"))?;
-    let command = command.arg(number_named(alloc, "without-admission"))?;
-    Ok(command)
+    let options = vec![in alloc;
+        option_named(alloc, "config"),
+        option_named(alloc, "journal"),
+        flag_named(alloc, "forget"),
+    ]?;
+    Command::new(alloc, "stdio").args(options)
 }
 
 fn audit_command<'a>(alloc: Global) -> Result<Command<'a>, AllocError>
     ensures app { IfOk result (λ c. app_of c ≡ audit) }
     ensures local { IfOk result (λ c. (fields_of c).has_globals ≡ false) }
 {
-    let files = audit_files(alloc)?;
-    let command = with_numbers(alloc, files)?;
-    let command = with_flag(alloc, command, "without-ended")?;
-    Ok(command)
-}
-
-fn serve_texts<'a>(alloc: Global) -> Result<Command<'a>, AllocError>
-    ensures app { IfOk result (λ c. app_of c ≡ spec.serve_texts) }
-    ensures local { IfOk result (λ c. (fields_of c).has_globals ≡ false) }
-{
-    let config = option_named(alloc, "config").required(true);
-    let command = Command::new(alloc, "serve").arg(config)?;
-    let command = command.arg(option_named(alloc, "listen"))?;
-    Ok(command)
-}
-
-fn with_connections<'a>(alloc: Global, command: Command<'a>) -> Result<Command<'a>, AllocError>
-    requires { (fields_of command).has_globals ≡ false }
-    ensures app { IfOk result (λ c. app_of c ≡ spec.with_connections (app_of command.entry)) }
-    ensures local { IfOk result (λ c. (fields_of c).has_globals ≡ false) }
-{
-    let command = command.arg(number_named(alloc, "connections"))?;
-    Ok(command)
+    let options = vec![in alloc;
+        option_named(alloc, "config"),
+        option_named(alloc, "journal").required(true),
+        number_named(alloc, "back"),
+        number_named(alloc, "without-session"),
+        number_named(alloc, "without-admission"),
+        flag_named(alloc, "without-ended"),
+    ]?;
+    Command::new(alloc, "audit").args(options)
 }
 
 fn serve_command<'a>(alloc: Global) -> Result<Command<'a>, AllocError>
     ensures app { IfOk result (λ c. app_of c ≡ serve) }
     ensures local { IfOk result (λ c. (fields_of c).has_globals ≡ false) }
 {
-    let texts = serve_texts(alloc)?;
-    let command = with_connections(alloc, texts)?;
-    Ok(command)
-}
-
-fn without_serve<'a>(alloc: Global) -> Result<Command<'a>, AllocError>
-    ensures { IfOk result (λ c. app_of c ≡ spec.without_serve) }
-{
-    let stdio = stdio_command(alloc)?;
-    let audit = audit_command(alloc)?;
-    let command = Command::new(alloc, "rtspd")
-        .no_binary_name(true)
-        .disable_help_flag(true)
-        .disable_help_subcommand(true)
-        .subcommand_required(true);
-    let command = command.subcommand(stdio)?;
-    let command = command.subcommand(audit)?;
-    Ok(command)
-}
-
-fn with_serve<'a>(alloc: Global, command: Command<'a>) -> Result<Command<'a>, AllocError>
-    ensures { IfOk result (λ c. app_of c ≡ spec.with_serve (app_of command.entry)) }
-{
-    let serve = serve_command(alloc)?;
-    let command = command.subcommand(serve)?;
-    Ok(command)
+    let options = vec![in alloc;
+        option_named(alloc, "config").required(true),
+        option_named(alloc, "listen"),
+        number_named(alloc, "connections"),
+    ]?;
+    Command::new(alloc, "serve").args(options)
 }
 
 fn command<'a>(alloc: Global) -> Result<Command<'a>, AllocError>
     ensures { IfOk result (λ c. app_of c ≡ rtspd) }
 {
-    let command = without_serve(alloc)?;
-    let command = with_serve(alloc, command)?;
-    Ok(command)
+    let stdio = stdio_command(alloc)?;
+    let audit = audit_command(alloc)?;
+    let serve = serve_command(alloc)?;
+    let subcommands = vec![in alloc; stdio, audit, serve]?;
+    Command::new(alloc, "rtspd")
+        .no_binary_name(true)
+        .disable_help_flag(true)
+        .disable_help_subcommand(true)
+        .subcommand_required(true)
+        .subcommands(subcommands)
 }
 
 // What `clap` makes of the words, or `None` where it refuses them.
