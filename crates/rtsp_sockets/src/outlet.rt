@@ -28,7 +28,6 @@ const SOON: u64 = 500;
 /// Each call makes one system call at most while it holds the lock, unless a signal interrupts it,
 /// and two more where it closes the connection, or one more where it first finds that the player
 /// takes bytes soon. Moments are milliseconds of one clock.
-#[derive(Drop)]
 pub struct Outlet {
     stream: TcpStream,
     pending: Mutex<Pending>,
@@ -36,6 +35,18 @@ pub struct Outlet {
     requests: Mutex<u32>,
     // Whether the system keeps as much of it as it may.
     is_wide: AtomicBool,
+}
+
+// Written out, so that whoever lets go of it makes one call, and not one for each of its parts.
+impl Drop for Outlet {
+    fn drop(self) {
+        let Self {
+            stream: _stream,
+            pending: _pending,
+            requests: _requests,
+            is_wide: _is_wide,
+        } = self;
+    }
 }
 
 impl Outlet {

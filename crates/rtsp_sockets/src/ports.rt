@@ -27,11 +27,21 @@ pub struct PortSockets {
 }
 
 /// The sockets of all ports that are bound, shared by all who bind.
-#[derive(Drop)]
 pub struct PortTable {
     alloc: Global,
     pairs: Mutex<Slots<2>>,
     single: Mutex<Slots<1>>,
+}
+
+// Written out, so that whoever lets go of it makes one call, and not one for each of its parts.
+impl Drop for PortTable {
+    fn drop(self) {
+        let Self {
+            alloc: _,
+            pairs: _pairs,
+            single: _single,
+        } = self;
+    }
 }
 
 impl PortTable {
