@@ -1,6 +1,6 @@
 -- Rows in ascending order of their numbers: how one is found, written and taken away.
 use Rattle.std.proofs.Common.{◌≡◌, ℕ, ◌<◌, ◌≤◌, zero, suc, Bool, true, false, T, ◌&&◌, not, cond, List, [], ◌∷◌, length, get_or, refl, sym, ◌∙◌, ap, subst, arith}
-use Rattle.std.specs.Prelude.{Option, Some, None, Result, Ok, Err, IfOk, IfErr, IsTrue, nat_lt, insert as list_insert, remove as list_remove, set as list_set}
+use Rattle.std.specs.Prelude.{Some, None, Result, Ok, Err, IfOk, IfErr, IsTrue, nat_lt, insert as list_insert, remove as list_remove, set as list_set}
 use Rattle.std.specs.List.Sorted.{IsSearchInRange, IsBinarySearchResult}
 use Rattle.std.proofs.lemmas.Cmp.{ranked}
 use Rattle.std.specs.Ordering.{nat_cmp, eq_by_cmp, is_eq, is_lt, ordering_index}
