@@ -3,8 +3,8 @@ use Rattle.std.proofs.Common.{◌⊎◌, inl, inr, ◌≡◌, ℕ, ◌+◌, ◌-
 use Rattle.std.specs.Prelude.{Option, Some, None, IsSome}
 use Rattle.std.specs.FinMap.{get, entries}
 use Rattle.rtsp_record.specs.Tables.{Table}
-use Rattle.rtsp_sessions.specs.Plain.{InOrder, Stands, Belongs, table_of}
-use Rattle.rtsp_sessions.proofs.SortedRows.{Written, inserted, replaced, removed, absent, entries_of}
+use Rattle.rtsp_sessions.specs.Plain.{InOrder, Stands, Belongs, Written, table_of}
+use Rattle.rtsp_sessions.proofs.SortedRows.{inserted, replaced, removed, absent, entries_of}
 use Rattle.std.specs.List.{insert, remove, copy_within}
 use Rattle.std.proofs.lemmas.List.{take-take, drop-take, length-take-le, length-take, length-drop, set_split, set-append_left, drop_all}
 use Rattle.std.proofs.lemmas.List.Edits.{take-paste}

@@ -1,8 +1,8 @@
 -- Rows as a book.
 use Rattle.std.proofs.Common.{◌≡◌, ℕ, ◌+◌, List, length, get_or, sym, ◌∙◌, ap, subst}
 use Rattle.std.specs.Prelude.{Option, Some, None, IsSome, option_map, count_by, insert as list_insert, remove as list_remove, set as list_set}
-use Rattle.rtsp_sessions.specs.Plain.{InOrder, table_of, Stands, Belongs}
-use Rattle.rtsp_sessions.proofs.SortedRows.{Written, inserted, replaced, removed, found, absent}
+use Rattle.rtsp_sessions.specs.Plain.{InOrder, table_of, Stands, Belongs, Written}
+use Rattle.rtsp_sessions.proofs.SortedRows.{inserted, replaced, removed, found, absent}
 use Rattle.std.specs.Ordering.{nat_cmp}
 use Rattle.std.specs.FinMap.{get, entries, empty, empty_of_len, len-entries, len-empty}
 use Rattle.rtsp_record.specs.Tables.{Table}

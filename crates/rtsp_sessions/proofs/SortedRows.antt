@@ -1,6 +1,6 @@
 -- Rows in ascending order of their numbers: how one is found, written and taken away.
 use Rattle.std.proofs.Common.{◌≡◌, ℕ, ◌<◌, ◌≤◌, zero, suc, Bool, true, false, T, ◌&&◌, not, cond, List, [], ◌∷◌, length, get_or, refl, sym, ◌∙◌, ap, subst, arith}
-use Rattle.std.specs.Prelude.{Option, Some, None, Result, Ok, Err, IfOk, IfErr, IsTrue, nat_lt, insert as list_insert, remove as list_remove, set as list_set}
+use Rattle.std.specs.Prelude.{Some, None, Result, Ok, Err, IfOk, IfErr, IsTrue, nat_lt, insert as list_insert, remove as list_remove, set as list_set}
 use Rattle.std.specs.List.Sorted.{IsSearchInRange, IsBinarySearchResult}
 use Rattle.std.proofs.lemmas.Cmp.{ranked}
 use Rattle.std.specs.Ordering.{nat_cmp, eq_by_cmp, is_eq, is_lt, ordering_index}
@@ -12,7 +12,7 @@ use Rattle.std.proofs.lemmas.Bool.{ltb-true, ltb-false}
 use Rattle.std.proofs.lemmas.Bool.Decides.{nat_tests}
 use Rattle.rtsp_record.specs.Tables.{set}
 use Rattle.rtsp_record.proofs.Tables.{tied, same_table, get-set, get-none}
-use Rattle.rtsp_sessions.specs.Plain.{InOrder, Stands, Belongs, table_of}
+use Rattle.rtsp_sessions.specs.Plain.{InOrder, Stands, Belongs, Written, table_of}
 
 pub holds : (b : Bool) → IsTrue b → T b
 holds b h = subst T (sym h) tt
@@ -177,11 +177,6 @@ module _ {X : Type 0} where
       ∙ ap (λ b. cond b None (find nat_cmp q es)) ((eq_by_cmp_equiv nat_cmp_total).symm k q)
       ∙ ap (cond (tied q k) None) (sym (get_from es q h))
       ∙ sym (get-set (table_of es) k q None))
-
-  -- these rows are in order, and they are the table with this at a number
-  pub record Written (es : List (ℕ × X)) (k : ℕ) (o : Option X) (gs : List (ℕ × X)) : Type 0 where
-    pub in_order : InOrder gs
-    pub table : table_of gs ≡ set (table_of es) k o
 
   pub inserted : (k : ℕ) (x : X) (es gs : List (ℕ × X)) (i : ℕ) → InOrder es → Belongs k es i → gs ≡ list_insert es i (k, x) → Written es k (Some x) gs
   inserted k x es gs i h at is =

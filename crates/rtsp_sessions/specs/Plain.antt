@@ -8,7 +8,7 @@ use Rattle.rtsp_record.specs.declared.holdings.Admission.{Admission}
 use Rattle.rtsp_record.specs.declared.phases.Phase.{Phase}
 use Rattle.rtsp_record.specs.declared.changes.Record.{Record}
 use Rattle.rtsp_record.specs.declared.changes.Record.TheVariants.{Open, Close, Hold, Add}
-use Rattle.rtsp_record.specs.Tables.{Table}
+use Rattle.rtsp_record.specs.Tables.{Table, set}
 use Rattle.rtsp_record.specs.Records.{session_of}
 use Rattle.rtsp_record.specs.Books.{Session, Book, after}
 use Rattle.rtsp_record.specs.Rules.{Living}
@@ -34,6 +34,11 @@ pub record Belongs {X : Type 0} (k : ℕ) (es : List (ℕ × X)) (i : ℕ) : Typ
   pub within : i ≤ length es
   pub before : (j : ℕ) (d : ℕ × X) → j < i → (slice_index_or es j d).0 < k
   pub behind : (j : ℕ) (d : ℕ × X) → i ≤ j → j < length es → k < (slice_index_or es j d).0
+
+-- rows in order, and the table of others with this at a number
+pub record Written {X : Type 0} (es : List (ℕ × X)) (k : ℕ) (o : Option X) (gs : List (ℕ × X)) : Type 0 where
+  pub in_order : InOrder gs
+  pub table : table_of gs ≡ set (table_of es) k o
 
 -- the admission has a row, or there is room for one
 abbrev pub RoomUnder : Session → ℕ → Type 0

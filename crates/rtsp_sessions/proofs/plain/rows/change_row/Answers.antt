@@ -17,14 +17,9 @@ pub unreachable-requires : goal.unreachable-requires
 unreachable-requires c =
     subst (λ o. Living o (RoomFor c.args.change.now)) (row_none {X = Session} c.args.rows.now.items c.deref.result.now c.args.session c.in-Err.field-0 c.requires.in_order c.deref.ensures.value c.in-Err.ensures.err) c.requires.fits
 
-pub returns-clause-in_order : goal.returns-clause-in_order
-returns-clause-in_order c =
-    let old = c.index_mut-row.result.now in
-    (changed_row {X = Session} c.args.rows.now.items c.deref.result.now c.args.session c.in-Ok.index old c.change.new.self _ c.requires.in_order c.deref.ensures.value c.in-Ok.ensures.ok c.index_mut-row.ensures.value c.change.ensures.number c.change.ensures.session).in_order
-
-pub returns-clause-table : goal.returns-clause-table
-returns-clause-table c =
+pub returns-clause-written : goal.returns-clause-written
+returns-clause-written c =
     let old = c.index_mut-row.result.now in
     let there = row_some {X = Session} c.args.rows.now.items c.deref.result.now c.args.session c.in-Ok.index old c.requires.in_order c.deref.ensures.value c.in-Ok.ensures.ok in
     let own = there ∙ ap (λ (v : ℕ × Session). Some v.1) (sym c.index_mut-row.ensures.value) in
-    (changed_row {X = Session} c.args.rows.now.items c.deref.result.now c.args.session c.in-Ok.index old c.change.new.self _ c.requires.in_order c.deref.ensures.value c.in-Ok.ensures.ok c.index_mut-row.ensures.value c.change.ensures.number (ap (effect c.args.change.now) own ∙ c.change.ensures.session)).table
+    changed_row {X = Session} c.args.rows.now.items c.deref.result.now c.args.session c.in-Ok.index old c.change.new.self _ c.requires.in_order c.deref.ensures.value c.in-Ok.ensures.ok c.index_mut-row.ensures.value c.change.ensures.number (ap (effect c.args.change.now) own ∙ c.change.ensures.session)

@@ -6,10 +6,6 @@ pub unreachable-requires : goal.unreachable-requires
 unreachable-requires c =
     row_missing {X = Session} c.args.rows.now.items c.deref.result.now c.args.session c.in-Err.field-0 c.requires.in_order c.deref.ensures.value c.in-Err.ensures.err c.requires.there
 
-pub returns-clause-in_order : goal.returns-clause-in_order
-returns-clause-in_order c =
-    (closed_row {X = Session} c.args.rows.now.items c.deref.result.now _ c.args.session c.in-Ok.index c.requires.in_order c.deref.ensures.value c.in-Ok.ensures.ok c.remove.ensures.items).in_order
-
-pub returns-clause-table : goal.returns-clause-table
-returns-clause-table c =
-    (closed_row {X = Session} c.args.rows.now.items c.deref.result.now _ c.args.session c.in-Ok.index c.requires.in_order c.deref.ensures.value c.in-Ok.ensures.ok c.remove.ensures.items).table
+pub returns-clause-written : goal.returns-clause-written
+returns-clause-written c =
+    closed_row {X = Session} c.args.rows.now.items c.deref.result.now _ c.args.session c.in-Ok.index c.requires.in_order c.deref.ensures.value c.in-Ok.ensures.ok c.remove.ensures.items

@@ -6,10 +6,6 @@ pub unreachable-requires : goal.unreachable-requires
 unreachable-requires c =
     cc (row_some {X = Session} c.args.rows.now.items c.deref.result.now c.session.result c.in-Ok.field-0 c.args.view c.requires.in_order c.deref.ensures.value c.in-Ok.ensures.ok, c.requires.new)
 
-pub returns-clause-in_order : goal.returns-clause-in_order
-returns-clause-in_order c =
-    (opened_row {X = Session} c.args.rows.now.items c.deref.result.now _ c.session.result c.in-Err.index c.args.view c.requires.in_order c.deref.ensures.value c.in-Err.ensures.err c.session.ensures c.in-Ok-insert.ensures.items).in_order
-
-pub returns-clause-table : goal.returns-clause-table
-returns-clause-table c =
-    (opened_row {X = Session} c.args.rows.now.items c.deref.result.now _ c.session.result c.in-Err.index c.args.view c.requires.in_order c.deref.ensures.value c.in-Err.ensures.err c.session.ensures c.in-Ok-insert.ensures.items).table
+pub returns-clause-written : goal.returns-clause-written
+returns-clause-written c =
+    opened_row {X = Session} c.args.rows.now.items c.deref.result.now _ c.session.result c.in-Err.index c.args.view c.requires.in_order c.deref.ensures.value c.in-Err.ensures.err c.session.ensures c.in-Ok-insert.ensures.items
