@@ -53,11 +53,11 @@ header_spelled line name value parts e =
     }
 
 -- a line that is read is a header
-abbrev Found : List ℕ → Result HeaderText MessageFault → Type 0
+abbrev pub Found : List ℕ → Result HeaderText MessageFault → Type 0
 Found line (Ok h) = SpellsHeader line h
 Found line (Err fault) = fault ≡ BadHeader
 
-header_found : (line : List ℕ) → Found line (header_of line)
+pub header_found : (line : List ℕ) → Found line (header_of line)
 unfolding header_of
 header_found line = first (split_once 58 line) (split_is 58 line) where
   second : (name value : List ℕ) → line ≡ name ++ 58 ∷ value → (t : Bool) → (is_token (trim_end name) && list_all is_value_byte (trimmed value)) ≡ t → Found line (cond t (Ok (record { name = trim_end name; value = trimmed value })) (Err BadHeader))

@@ -1,5 +1,6 @@
 pub mod LinesLemmas
 pub mod NumberLemmas
+pub mod SpanLemmas
 pub mod FoldLemmas
 pub mod PlaceLemmas
 pub mod ClassLemmas
@@ -11,6 +12,7 @@ pub mod HeaderLemmas
 pub mod StartLemmas
 pub mod FoldRules
 pub mod HeaderRules
+pub mod NameLemmas
 pub mod HeadRules
 pub mod BlankLemmas
 pub mod ViewLemmas

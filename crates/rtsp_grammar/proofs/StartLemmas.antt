@@ -1,6 +1,6 @@
 -- What is read of a first line is what the first rule says.
 use Rattle.std.proofs.Common.{◌≡◌, ℕ, ◌+◌, ◌-◌, ◌*◌, ◌/◌, ◌%◌, ◌<◌, ◌≤◌, ◌⊎◌, List, [], ◌∷◌, ◌++◌, length, drop, refl, sym, ap, ◌∙◌, arith, inl, inr, Bool, true, false, cond, eqb, Option, Some, None, Result, Ok, Err, nat_lt}
-use Rattle.std.specs.Prelude.{◌&&◌, codes, nat_eq}
+use Rattle.std.specs.Prelude.{◌&&◌, codes, nat_eq, not}
 use Rattle.std.specs.List.{starts_with, list_all}
 use Rattle.std.specs.Char.{is_ascii_digit}
 use Rattle.std.proofs.lemmas.Bool.{eqb-true, ltb-false, ltb-true, le-ltb, lt-ltb, le-leb, leb-true, and_parts, and_from, both_ways}
@@ -12,6 +12,7 @@ use Rattle.rtsp_text.specs.SplitOnce.{split_once, IsSplitAt}
 use Rattle.rtsp_text.proofs.SplitLemmas.{split_found, split_is}
 use Rattle.rtsp_grammar.specs.Method.{method_name, method_of}
 use Rattle.rtsp_grammar.specs.Reading.{is_version, version_of, request_of, request_of_halves, request_line_of, status_of, status_of_halves, status_line_of, start_of}
+use Rattle.rtsp_grammar.specs.Span.{where_all}
 use Rattle.rtsp_grammar.specs.StartLine.{request_line, SpellsRequestLine, SpellsStatusLine, SpellsStart, HasLongUri, uri_len, StartRule}
 use Rattle.rtsp_grammar.specs.Version.{IsVersion}
 use Rattle.rtsp_grammar.specs.Words.{is_method, is_uri}
@@ -23,6 +24,7 @@ use Rattle.rtsp_grammar.specs.declared.fault.MessageFault.{MessageFault}
 use Rattle.rtsp_grammar.specs.declared.fault.MessageFault.TheVariants.{BadLine, UriTooLong}
 use Rattle.rtsp_grammar.proofs.ClassLemmas.{method_token}
 use Rattle.rtsp_grammar.proofs.MethodLemmas.{name_of_method, method_canonical, method_again, name_is_token}
+use Rattle.rtsp_grammar.proofs.SpanLemmas.{where_none}
 use Rattle.rtsp_grammar.proofs.VersionLemmas.{prefix_parts, version_tested, version_no_space, version_spelled, version_again, spelling_is_version}
 
 -- what is read of a first line with these parts
@@ -227,3 +229,19 @@ start_only line (Err fault) (inr h) = go (start_of line) refl (start_is_read lin
   go (Ok start) e s = absurd (h.1 start s.0)
   go (Err other) e (inl s) = absurd (h.1 s.1.start s.1.spelled)
   go (Err other) e (inr s) = ap Err (s ∙ sym h.0)
+
+-- ---- a request line whose second part isn't followed by a space, or has other bytes than those of a URI
+
+pub no_uri : (line method rest : List ℕ) → split_once 32 line ≡ Some (method, rest) → None ≡ where_all is_uri_byte (split_once 32 rest) → request_line_of line ≡ Err BadLine
+unfolding request_line_of
+no_uri line method rest e none = rw e (go (split_once 32 rest) none) where
+  bad : (x y z : Bool) (start : Result StartLine MessageFault) → cond ((x && (y && false)) && z) start (Err BadLine) ≡ Err BadLine
+  bad true true z start = refl
+  bad true false z start = refl
+  bad false y z start = refl
+
+  go : (halves : Option (List ℕ × List ℕ)) → None ≡ where_all is_uri_byte halves → request_of method halves ≡ Err BadLine
+  go None n = refl
+  go (Some (uri, version)) n =
+      let fails = where_none is_uri_byte (uri, version) n in
+      rw fails (bad (is_method method) (not (eqb (length uri) 0)) (is_version version) (cond (nat_lt 1024 (length uri)) (Err UriTooLong) (Ok (Request (method_of method) uri (version_of version)))))

@@ -1,11 +1,22 @@
 -- One step of the reading of header lines.
-use Rattle.std.specs.Prelude.{◌≡◌, ℕ, ◌⊎◌, List, [], ◌∷◌, ◌++◌, Result, Ok, Err}
+use Rattle.std.specs.Prelude.{◌≡◌, ℕ, ◌⊎◌, ◌==◌, ◌&&◌, not, List, [], ◌∷◌, ◌++◌, length, Result, Ok, Err, if◌then◌else◌}
+use Rattle.std.specs.List.{list_all}
 use Rattle.std.specs.Borrow.{Bor}
+use Rattle.rtsp_text.specs.Trim.{trimmed}
+use Rattle.rtsp_grammar.specs.Bytes.{is_value_byte}
 use Rattle.rtsp_grammar.specs.Header.{HeaderText}
 use Rattle.rtsp_grammar.specs.Lines.{AreLines}
 use Rattle.rtsp_grammar.specs.Reading.{folded, after_folds, header_of}
 use Rattle.rtsp_grammar.specs.declared.fault.MessageFault.{MessageFault}
-use Rattle.rtsp_grammar.specs.declared.fault.MessageFault.TheVariants.{OutOfMemory}
+use Rattle.rtsp_grammar.specs.declared.fault.MessageFault.TheVariants.{BadHeader, OutOfMemory}
+
+-- the header of a name that isn't empty, where a colon and a value follow it
+abbrev pub named_header : List ℕ → List ℕ → Result HeaderText MessageFault
+named_header name [] = Err BadHeader
+named_header name (c ∷ value) =
+    if c == 58 && not (length name == 0) && list_all is_value_byte (trimmed value)
+    then Ok (record { name = name; value = trimmed value })
+    else Err BadHeader
 
 -- what the first of these lines continue a line with was added to it, and the rest are the other lines
 abbrev pub Unfolds : List ℕ → List ℕ → List (List ℕ) → List ℕ → Type 0

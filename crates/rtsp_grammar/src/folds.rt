@@ -20,6 +20,7 @@ pub fn begins_blank(line: &[u8]) -> bool
 }
 
 /// Adds to a line what the lines at the front continue it with, and gives the other lines.
+#[inline(never)]
 pub fn unfold<'a>(line: &mut Vec<u8>, lines: &'a [u8]) -> Result<&'a [u8], AllocError>
     ensures unfolds { (ls : List (List ℕ)) → AreLines lines.now ls → IfOk result (λ rest. Unfolds line.old.items line.new.items ls rest.now) }
     ensures shorter { IfOk result (λ rest. length rest.now ≤ length lines.now) }

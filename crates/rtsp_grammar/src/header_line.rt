@@ -6,34 +6,42 @@ ghost use Rattle.rtsp_text.specs.Results.{Gives};
 ghost use Rattle.rtsp_grammar.specs.HeaderSteps.{ReadsFirst, PushesHeader};
 ghost use Rattle.rtsp_grammar.specs.HeaderView.{shown};
 ghost use Rattle.rtsp_grammar.specs.Lines.{AreLines};
+ghost use Rattle.rtsp_grammar.specs.HeaderSteps.{named_header};
 ghost use Rattle.rtsp_grammar.specs.Reading.{header_of, folded, header_lines_of};
 
 use crate::fault::MessageFault;
 use crate::folds::{begins_blank, unfold};
 use crate::header::{Header, Headers, HeadersBuilder};
 use crate::line::split_line;
-use crate::words::are_value_bytes;
-use rtsp_text::{is_token, split_once, trim_end, trimmed};
+use crate::words::{are_value_bytes, token_len};
+use rtsp_text::{trim_start, trimmed};
 use std::alloc::Global;
 
 // More headers are HeadTooLong.
 const HEADER_LIMIT: usize = 64;
 
+// The header of a name, where a colon and a value follow it.
+fn named_header<'a>(name: &'a [u8], rest: &'a [u8]) -> Result<Header<'a>, MessageFault>
+    ensures ok { IfOk result (λ h. named_header name.now rest.now ≡ Ok (shown h)) }
+    ensures err { IfErr result (λ fault. named_header name.now rest.now ≡ Err fault) }
+{
+    let [b':', value @ ..] = rest else {
+        return Err(MessageFault::BadHeader);
+    };
+    let value = trimmed(value);
+    if name.is_empty() || !are_value_bytes(value) {
+        return Err(MessageFault::BadHeader);
+    }
+    Ok(Header { name, value })
+}
+
 // The header that a line spells.
-#[tactic(auto, unfolding(crate::specs::Reading::header_of))]
 fn header_of(line: &[u8]) -> Result<Header<'_>, MessageFault>
     ensures ok { IfOk result (λ h. header_of line.now ≡ Ok (shown h)) }
     ensures err { IfErr result (λ fault. header_of line.now ≡ Err fault) }
 {
-    let Some((name, value)) = split_once(line, b':') else {
-        return Err(MessageFault::BadHeader);
-    };
-    let name = trim_end(name);
-    let value = trimmed(value);
-    if !(is_token(name) && are_value_bytes(value)) {
-        return Err(MessageFault::BadHeader);
-    }
-    Ok(Header { name, value })
+    let (name, rest) = line.split_at(token_len(line));
+    named_header(name, trim_start(rest))
 }
 
 // Adds the header that a line spells.

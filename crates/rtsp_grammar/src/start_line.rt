@@ -8,7 +8,7 @@ ghost use Rattle.rtsp_grammar.specs.Reading.{start_of, request_line_of, status_l
 use crate::fault::MessageFault;
 use crate::method::Method;
 use crate::version::{Version, is_version};
-use crate::words::{is_method, is_uri};
+use crate::words::{is_method, is_uri, split_token, split_uri};
 use rtsp_text::{Text, split_once};
 use std::alloc::{AllocError, Global};
 
@@ -43,10 +43,10 @@ fn uri_text(alloc: Global, uri: &[u8]) -> Result<Text, AllocError>
 fn request_line_of(alloc: Global, line: &[u8]) -> Result<StartLine, MessageFault>
     ensures { Gives OutOfMemory result (request_line_of line.now) }
 {
-    let Some((method, rest)) = split_once(line, b' ') else {
+    let Some((method, rest)) = split_token(line) else {
         return Err(MessageFault::BadLine);
     };
-    let Some((uri, version)) = split_once(rest, b' ') else {
+    let Some((uri, version)) = split_uri(rest) else {
         return Err(MessageFault::BadLine);
     };
     if !(is_method(method) && is_uri(uri) && is_version(version)) {
@@ -80,6 +80,8 @@ fn status_of(alloc: Global, version: &[u8], rest: &[u8]) -> Result<StartLine, Me
     })
 }
 
+// Apart, since a server reads few of them.
+#[inline(never)]
 #[tactic(auto, unfolding(crate::specs::Reading::status_line_of))]
 fn status_line_of(alloc: Global, line: &[u8]) -> Result<StartLine, MessageFault>
     ensures { Gives OutOfMemory result (status_line_of line.now) }

@@ -1,12 +1,16 @@
 //! Classes of bytes that only messages have, and the words that are made of them.
 
-ghost use Rattle.std.specs.Prelude.{◌≡◌, bytes_eq};
+ghost use Rattle.std.specs.Prelude.{◌≡◌, ◌≤◌, bytes_eq, length, take, drop, true, Some, None, IfSome, IfNone};
 ghost use Rattle.std.specs.List.{list_all};
+ghost use Rattle.rtsp_text.specs.Bytes.{is_token_byte};
+ghost use Rattle.rtsp_text.specs.Slices.{halves};
+ghost use Rattle.rtsp_text.specs.SplitOnce.{split_once};
 ghost use Rattle.rtsp_grammar.specs.Bytes.{is_uri_byte, is_value_byte};
+ghost use Rattle.rtsp_grammar.specs.Span.{IsSpan, at_byte, where_all};
 ghost use Rattle.rtsp_grammar.specs.Words.{is_method, is_uri};
 
 use httparse::is_header_value;
-use rtsp_text::is_token;
+use rtsp_text::is_token_byte;
 
 fn is_uri_byte(b: u8) -> bool
     ensures { result ≡ is_uri_byte b }
@@ -14,15 +18,57 @@ fn is_uri_byte(b: u8) -> bool
     (b >= b'!') & (b <= b'~')
 }
 
-// Nearly every text passes: it costs less to look at each byte than to leave early.
-fn are_uri_bytes(bytes: &[u8]) -> bool
-    ensures { result ≡ list_all is_uri_byte bytes.now }
+/// How many bytes of a token are at the front.
+pub fn token_len(text: &[u8]) -> usize
+    ensures { IsSpan is_token_byte text.now result }
 {
-    let mut are = true;
-    for b in bytes {
-        are = are & is_uri_byte(*b);
+    for (i, byte) in text.iter().enumerate() {
+        if !is_token_byte(*byte) {
+            return i;
+        }
     }
-    are
+    text.len()
+}
+
+fn uri_len(text: &[u8]) -> usize
+    ensures { IsSpan is_uri_byte text.now result }
+{
+    for (i, byte) in text.iter().enumerate() {
+        if !is_uri_byte(*byte) {
+            return i;
+        }
+    }
+    text.len()
+}
+
+// The first bytes, and what follows the space after them. None where no space is there.
+fn split_space(text: &[u8], len: usize) -> Option<(&[u8], &[u8])>
+    requires { len ≤ length text.now }
+    ensures { halves result ≡ at_byte 32 (take len text.now) (drop len text.now) }
+{
+    match &text[len..] {
+        [b' ', rest @ ..] => Some((&text[..len], rest)),
+        _ => None,
+    }
+}
+
+/// The text before the first space and after it. None where that before it has other bytes than
+/// those of a token, or no space is there.
+pub fn split_token(text: &[u8]) -> Option<(&[u8], &[u8])>
+    ensures some { IfSome result (λ p. Some (p.0.now, p.1.now) ≡ split_once 32 text.now) }
+    ensures token { IfSome result (λ p. list_all is_token_byte p.0.now ≡ true) }
+    ensures none { IfNone result (None ≡ where_all is_token_byte (split_once 32 text.now)) }
+{
+    split_space(text, token_len(text))
+}
+
+/// The same for the bytes of a URI.
+pub fn split_uri(text: &[u8]) -> Option<(&[u8], &[u8])>
+    ensures some { IfSome result (λ p. Some (p.0.now, p.1.now) ≡ split_once 32 text.now) }
+    ensures uri { IfSome result (λ p. list_all is_uri_byte p.0.now ≡ true) }
+    ensures none { IfNone result (None ≡ where_all is_uri_byte (split_once 32 text.now)) }
+{
+    split_space(text, uri_len(text))
 }
 
 /// Whether each byte may be in a header's value, as in HTTP.
@@ -39,16 +85,21 @@ pub fn is_word(text: &[u8], word: &[u8]) -> bool
     text.len() == word.len() && text == word
 }
 
-/// Whether this may name a method: a token that doesn't begin as a frame does.
-pub fn is_method(bytes: &[u8]) -> bool
-    ensures { result ≡ is_method bytes.now }
+/// Whether bytes of a token may name a method: there is one, and it isn't that of a frame.
+pub fn is_method(token: &[u8]) -> bool
+    requires { list_all is_token_byte token.now ≡ true }
+    ensures { result ≡ is_method token.now }
 {
-    !matches!(bytes, [b'$', ..]) && is_token(bytes)
+    match token {
+        [first, ..] => *first != b'$',
+        [] => false,
+    }
 }
 
-/// Whether this may be a URI: visible ASCII.
+/// Whether bytes of a URI are one: there is one or more.
 pub fn is_uri(bytes: &[u8]) -> bool
+    requires { list_all is_uri_byte bytes.now ≡ true }
     ensures { result ≡ is_uri bytes.now }
 {
-    !bytes.is_empty() && are_uri_bytes(bytes)
+    !bytes.is_empty()
 }
