@@ -15,7 +15,7 @@ use Rattle.rtsp_grammar.specs.Header.{HeaderText}
 use Rattle.rtsp_grammar.specs.HeaderLine.{SpellsHeader}
 use Rattle.rtsp_grammar.specs.HeaderSteps.{named_header}
 use Rattle.rtsp_grammar.specs.Reading.{header_of}
-use Rattle.rtsp_grammar.specs.Span.{IsSpan}
+use Rattle.rtsp_text.specs.Span.{IsSpan}
 use Rattle.rtsp_grammar.specs.declared.fault.MessageFault.{MessageFault}
 use Rattle.rtsp_grammar.specs.declared.fault.MessageFault.TheVariants.{BadHeader}
 use Rattle.rtsp_grammar.proofs.ClassLemmas.{no_blank, token_end}

@@ -9,7 +9,8 @@ use Rattle.std.proofs.lemmas.List.Folds.{list_all_more}
 use Rattle.rtsp_text.specs.Slices.{halves}
 use Rattle.rtsp_text.specs.SplitOnce.{split_once}
 use Rattle.rtsp_text.proofs.ByteLemmas.{other}
-use Rattle.rtsp_grammar.specs.Span.{IsSpan, at_byte, where_all}
+use Rattle.rtsp_text.specs.Span.{IsSpan}
+use Rattle.rtsp_grammar.specs.Splitting.{at_byte, where_all}
 
 -- a span of one byte more
 pub one_longer : (test : ℕ → Bool) (bytes : List ℕ) (i : ℕ) → i < length bytes → list_all test (take i bytes) ≡ true → test (get_or bytes i 0) ≡ true → list_all test (take (i + 1) bytes) ≡ true

@@ -12,7 +12,7 @@ use Rattle.rtsp_text.specs.SplitOnce.{split_once, IsSplitAt}
 use Rattle.rtsp_text.proofs.SplitLemmas.{split_found, split_is}
 use Rattle.rtsp_grammar.specs.Method.{method_name, method_of}
 use Rattle.rtsp_grammar.specs.Reading.{is_version, version_of, request_of, request_of_halves, request_line_of, status_of, status_of_halves, status_line_of, start_of}
-use Rattle.rtsp_grammar.specs.Span.{where_all}
+use Rattle.rtsp_grammar.specs.Splitting.{where_all}
 use Rattle.rtsp_grammar.specs.StartLine.{request_line, SpellsRequestLine, SpellsStatusLine, SpellsStart, HasLongUri, uri_len, StartRule}
 use Rattle.rtsp_grammar.specs.Version.{IsVersion}
 use Rattle.rtsp_grammar.specs.Words.{is_method, is_uri}

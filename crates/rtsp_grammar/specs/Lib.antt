@@ -8,6 +8,7 @@ pub mod Headers
 pub mod HeaderView
 pub mod HeadersBuilder
 pub mod BuiltHeaders
+pub mod Splitting
 pub mod Lines
 pub mod HeadAt
 pub mod HeaderSteps

@@ -6,7 +6,8 @@ ghost use Rattle.rtsp_text.specs.Bytes.{is_token_byte};
 ghost use Rattle.rtsp_text.specs.Slices.{halves};
 ghost use Rattle.rtsp_text.specs.SplitOnce.{split_once};
 ghost use Rattle.rtsp_grammar.specs.Bytes.{is_uri_byte, is_value_byte};
-ghost use Rattle.rtsp_grammar.specs.Span.{IsSpan, at_byte, where_all};
+ghost use Rattle.rtsp_text.specs.Span.{IsSpan};
+ghost use Rattle.rtsp_grammar.specs.Splitting.{at_byte, where_all};
 ghost use Rattle.rtsp_grammar.specs.Words.{is_method, is_uri};
 
 use httparse::is_header_value;
