@@ -11,14 +11,13 @@ use indexmap::IndexMap;
 use rtsp_record::Phase;
 use slab::Slab;
 use std::alloc::{AllocError, Global};
-use std::rt::Clock;
 use std::sync::Wait;
 
 // A play in the wheel, and the key of the play that was linked to its slot before it.
 #[derive(Drop)]
 pub(crate) struct Linked {
-    pub(crate) play: PacedPlay,
     pub(crate) before: Option<usize>,
+    pub(crate) play: PacedPlay,
 }
 
 /// The plays of a pacer, each under a key that it keeps.
@@ -53,7 +52,7 @@ impl PacerPlays {
         ensures room { (n : ℕ) → HasRoom self.old (n + 1) → HasRoom self.new n }
     {
         let session = play.session();
-        let linked = Linked { play, before: None };
+        let linked = Linked { before: None, play };
         let Ok(key) = self.plays.insert(linked) else {
             return None;
         };
@@ -64,18 +63,20 @@ impl PacerPlays {
         Some(key)
     }
 
-    // Takes the turn of the play of a key: which one is linked before it, and when its next turn is.
-    pub(crate) fn turn<R: Wait + Clock>(
+    // Takes the turn of the play of a key, at a moment: which one is linked before it, and when its next
+    // turn is.
+    pub(crate) fn turn<R: Wait>(
         &mut self,
         alloc: Global,
         desk: &mut PacerDesk<'_, R>,
         key: usize,
+        moment: u64,
     ) -> Option<(Option<usize>, Next)>
         ensures turns { IfSome result (λ turned. Turns self.old key turned.0 self.new) }
         ensures none { IfNone result (get self.old.plays key ≡ None) }
     {
         let linked = self.plays.get_mut(key)?;
-        let next = linked.play.turn(alloc, desk);
+        let next = linked.play.turn(alloc, desk, moment);
         Some((linked.before, next))
     }
 
