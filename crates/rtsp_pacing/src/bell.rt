@@ -67,9 +67,15 @@ impl Bell {
 const SPREAD: u64 = 0x9E37_79B9_7F4A_7C15;
 
 /// The bells of all pacers. A session's plays are all sent by one of them.
-#[derive(Drop)]
 pub struct Bells {
     bells: Vec<Bell>,
+}
+
+// Written out, so that whoever lets go of them makes one call, and not one for each of their parts.
+impl Drop for Bells {
+    fn drop(self) {
+        let Self { bells: _bells } = self;
+    }
 }
 
 impl Bells {

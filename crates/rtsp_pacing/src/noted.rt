@@ -32,7 +32,6 @@ pub(crate) struct NewPlay {
 }
 
 /// The plays of a connection that were begun, and are not yet handed over to the pacers.
-#[derive(Drop)]
 pub struct NotedPlays {
     // The one that is not yet settled. There is room for it among those that were begun.
     pub(crate) noted: Option<NotedPlay>,
@@ -40,6 +39,17 @@ pub struct NotedPlays {
     // The session of the play that was handed over last, until it is asked for.
     last: Option<u64>,
     ghost room: { IsSome noted → vec_len begun < vec_capacity begun },
+}
+
+// Written out, so that whoever lets go of them makes one call, and not one for each of their parts.
+impl Drop for NotedPlays {
+    fn drop(self) {
+        let Self {
+            noted: _noted,
+            begun: _begun,
+            last: _,
+        } = self;
+    }
 }
 
 impl NotedPlays {

@@ -21,11 +21,20 @@ pub(crate) struct Linked {
 }
 
 /// The plays of a pacer, each under a key that it keeps.
-#[derive(Drop)]
 pub struct PacerPlays {
     plays: Slab<Linked>,
     // The key of the play of each session that was taken in last.
     latest: IndexMap<u64, usize>,
+}
+
+// Written out, so that whoever lets go of them makes one call, and not one for each of their parts.
+impl Drop for PacerPlays {
+    fn drop(self) {
+        let Self {
+            plays: _plays,
+            latest: _latest,
+        } = self;
+    }
 }
 
 impl PacerPlays {

@@ -7,15 +7,12 @@ ghost use Rattle.rtsp_engine.specs.Serving.{serving_of};
 ghost use Rattle.rtsp_dialect.specs.Understanding.{AnswersUnderstood, GivesUpUnderstood, TakesPiece, FaultsPiece, gathered};
 
 use crate::figures::AnswerCounter;
-use crate::lane_lines::LaneLines;
-use crate::shared::Shared;
+use crate::service::Service;
 use rtsp_book::Receipt;
-use rtsp_content::Table;
 use rtsp_engine::{Asker, Binder, Clock, Connection, PieceAnswerer, Plays, Shares, Words};
 use rtsp_grammar::MessageFault;
 use rtsp_lanes::BookHandle;
-use rtsp_log::{Event, moment};
-use rtsp_metrics::AnswerCounters;
+use rtsp_log::Event;
 use rtsp_pacing::NotedPlays;
 use rtsp_sockets::{Outlet, PieceClock, PortBinder, RandomWords};
 use rtsp_state::Room;
@@ -29,13 +26,7 @@ use std::sync::{Arc, Wait};
 /// What answers the pieces of a connection: its handle of the book, and what its lane lends it.
 #[derive(Drop)]
 pub(crate) struct Front<'a, R> {
-    pub(crate) rt: &'a R,
-    pub(crate) shared: &'a Shared,
-    /// Those of the lane.
-    pub(crate) answers: &'a AnswerCounters,
-    pub(crate) lines: &'a LaneLines,
-    pub(crate) table: &'a Table,
-    pub(crate) now: u64,
+    pub(crate) service: Service<'a, R>,
     pub(crate) handle: &'a mut BookHandle,
     /// The lane's own handle, for the room of the journal and for what an address has.
     pub(crate) lane: &'a mut BookHandle,
@@ -53,12 +44,7 @@ pub(crate) struct Front<'a, R> {
 // with the server's sockets, its clock, which is read once at most, and what addresses have of the
 // sessions, by the lane's handle. Each item is answered as the players of the configuration mean it.
 fn answer_piece<R: Wait + Net + rt::Clock, W: Words, P: Plays>(
-    rt: &R,
-    alloc: Global,
-    shared: &Shared,
-    answers: &AnswerCounters,
-    lines: &LaneLines,
-    table: &Table,
+    service: &Service<'_, R>,
     handle: &mut BookHandle,
     lane: &mut BookHandle,
     asker: Asker,
@@ -73,33 +59,24 @@ fn answer_piece<R: Wait + Net + rt::Clock, W: Words, P: Plays>(
     ensures goes_on { OnOk result (TakesPiece (devices ⟦<PortBinder<'static, R> as Binder>⟧.calls W.calls
         ⟦<PieceClock<'static, R> as Clock>⟧.tells P.calls ⟦<LaneShares<'static, R> as Shares>⟧.calls)
         (input.old ++ piece.now) input.new
-        (gathered table.now asker handle.old.seat room.old) (gathered table.now asker handle.new.seat room.new)) }
+        (gathered service.entry.now.table.now asker handle.old.seat room.old)
+        (gathered service.entry.now.table.now asker handle.new.seat room.new)) }
     ensures undecided { OnOk result (IsUndecided input.new) }
     ensures ends { IfErr result (λ f. FaultsPiece (devices ⟦<PortBinder<'static, R> as Binder>⟧.calls W.calls
         ⟦<PieceClock<'static, R> as Clock>⟧.tells P.calls ⟦<LaneShares<'static, R> as Shares>⟧.calls)
         (input.old ++ piece.now) f
-        (gathered table.now asker handle.old.seat room.old) (gathered table.now asker handle.new.seat room.new)) }
+        (gathered service.entry.now.table.now asker handle.old.seat room.old)
+        (gathered service.entry.now.table.now asker handle.new.seat room.new)) }
 {
+    let rt = service.rt;
+    let shared = service.shared;
     let mut binder = PortBinder::new(rt, &shared.ports, host);
     let mut clock = PieceClock::new(rt, shared.begun);
     let mut shares = LaneShares::new(rt, shared.session_shares.as_ref(), lane);
-    let moment = if shared.log.logs_access() {
-        moment(rt)
-    } else {
-        0
-    };
-    let witness = AnswerCounter {
-        rt,
-        shared,
-        answers,
-        lines,
-        moment,
-        peer: asker.peer,
-        conn: asker.conn,
-    };
+    let witness = AnswerCounter::new(service, asker);
     let pushed = push_lent(
         rt,
-        alloc,
+        service.alloc,
         &mut handle.seat,
         &handle.lock,
         made,
@@ -108,7 +85,7 @@ fn answer_piece<R: Wait + Net + rt::Clock, W: Words, P: Plays>(
         &mut clock,
         plays,
         &mut shares,
-        table,
+        service.table,
         asker,
         &witness,
         input,
@@ -122,7 +99,7 @@ fn answer_piece<R: Wait + Net + rt::Clock, W: Words, P: Plays>(
 }
 
 impl<R: Wait + Net + rt::Clock> PieceAnswerer for Front<'_, R> {
-    ghost serving = { λ f. serving_of f.table.now f.asker f.handle.now.seat };
+    ghost serving = { λ f. serving_of f.service.table.now f.asker f.handle.now.seat };
 
     ghost answers = { AnswersUnderstood (devices ⟦<PortBinder<'static, R> as Binder>⟧.calls
         ⟦<RandomWords as Words>⟧.calls ⟦<PieceClock<'static, R> as Clock>⟧.tells
@@ -134,22 +111,25 @@ impl<R: Wait + Net + rt::Clock> PieceAnswerer for Front<'_, R> {
 
     fn push(
         &mut self,
-        alloc: Global,
+        _alloc: Global,
         input: &mut Connection,
         piece: &[u8],
         room: &mut Room,
     ) -> Result<(), MessageFault> {
-        self.shared.make_room(self.rt, self.table, self.lane);
+        let Service {
+            rt,
+            table,
+            shared,
+            answers,
+            now,
+            ..
+        } = self.service;
+        shared.make_room(rt, table, self.lane);
         let all = input.len().saturating_add(piece.len());
         let given = self.words.given();
-        let unavailable = self.answers.unavailable();
+        let unavailable = answers.unavailable();
         let pushed = answer_piece(
-            self.rt,
-            alloc,
-            self.shared,
-            self.answers,
-            self.lines,
-            self.table,
+            &self.service,
             self.handle,
             self.lane,
             self.asker,
@@ -162,13 +142,13 @@ impl<R: Wait + Net + rt::Clock> PieceAnswerer for Front<'_, R> {
             room,
         );
         let has_setup = self.words.given() != given;
-        self.activity.note(self.now, all, input, has_setup);
+        self.activity.note(now, all, input, has_setup);
         // A session that is refused behind its first words has been opened, and has ended.
         if has_setup {
-            self.shared.note_end();
+            shared.note_end();
         }
-        if self.answers.unavailable() != unavailable {
-            self.shared.note_unavailable(self.rt, self.lane);
+        if answers.unavailable() != unavailable {
+            shared.note_unavailable(rt, self.lane);
         }
         pushed
     }
@@ -180,8 +160,8 @@ impl<R: Wait + Net + rt::Clock> PieceAnswerer for Front<'_, R> {
 
     // A play is handed over after its answer is written, so that no packet comes before it.
     fn has_written(&mut self) -> bool {
-        self.plays
-            .hand_over(self.rt, &self.shared.bells, self.asker.conn);
-        self.outlet.waiting(self.rt) <= PAUSE
+        let Service { rt, shared, .. } = self.service;
+        self.plays.hand_over(rt, &shared.bells, self.asker.conn);
+        self.outlet.waiting(rt) <= PAUSE
     }
 }

@@ -1,11 +1,12 @@
 //! A connection of a lane.
 
+use crate::answering::Front;
 use crate::hearing::Hearing;
 use crate::service::Service;
 use crate::shared::Shared;
 use crate::tools::Tools;
 use crate::unread::UnreadLoan;
-use crate::visiting::{Read, visit_lent};
+use crate::visiting::Read;
 use mio::event::Event;
 use mio::net::TcpStream;
 use rtsp_content::Players;
@@ -215,28 +216,19 @@ impl Client {
             activity,
             ..
         } = self;
-        visit_lent(
-            service.rt,
-            service.alloc,
-            service.shared,
-            service.answers,
-            service.lines,
-            service.table,
-            service.now,
+        let mut front = Front {
+            service: *service,
             handle,
             lane,
-            *asker,
-            *host,
+            asker: *asker,
+            host: *host,
             outlet,
             made,
             words,
             plays,
             activity,
-            input,
-            room,
-            piece.as_mut_slice(),
-            *is_ending,
-        )
+        };
+        front.visit(input, room, piece.as_mut_slice(), *is_ending)
     }
 
     // Where the players are GStreamer, RTCP keeps the session alive that plays over the connection.

@@ -1,12 +1,13 @@
 //! What is counted and shown of a server, for whoever runs it.
 
-use crate::lane_lines::LaneLines;
+use crate::service::Service;
 use crate::shared::Shared;
 use rtsp_content::Table;
+use rtsp_engine::Asker;
 use rtsp_lanes::BookHandle;
 use rtsp_lock::{HandOutFault, Mark, Then};
-use rtsp_log::{Access, Event};
-use rtsp_metrics::{AnswerCounters, BookFigures, Counts, Held, Method, Snapshot};
+use rtsp_log::{Access, Event, moment};
+use rtsp_metrics::{BookFigures, Counts, Held, Method, Snapshot};
 use rtsp_record::Entry;
 use rtsp_status::Source;
 use rtsp_watch::{Told, Witness};
@@ -22,41 +23,59 @@ const NO_MARK: Mark = Mark {
     rounds: u64::MAX,
 };
 
-/// Who is told of a lane's answers to a connection of this number, whose player is at this address.
+/// Who is told of a lane's answers to a player.
 #[derive(Drop)]
 pub(crate) struct AnswerCounter<'a, R> {
-    pub(crate) rt: &'a R,
-    pub(crate) shared: &'a Shared,
-    pub(crate) answers: &'a AnswerCounters,
-    pub(crate) lines: &'a LaneLines,
-    /// The moment of the lines, in milliseconds since 1970: the clock is read once for the requests of a
-    /// piece, which are answered within some milliseconds.
-    pub(crate) moment: u64,
-    pub(crate) peer: u32,
-    pub(crate) conn: u64,
+    service: Service<'a, R>,
+    asker: Asker,
+    // The moment of the lines, in milliseconds since 1970: the clock is read once for the requests of a
+    // piece, which are answered within some milliseconds.
+    moment: u64,
+}
+
+impl<'a, R: rt::Clock> AnswerCounter<'a, R> {
+    pub(crate) fn new(service: &Service<'a, R>, asker: Asker) -> AnswerCounter<'a, R> {
+        let moment = if service.shared.log.logs_access() {
+            moment(service.rt)
+        } else {
+            0
+        };
+        AnswerCounter {
+            service: *service,
+            asker,
+            moment,
+        }
+    }
 }
 
 impl<R: Wait + rt::Clock> Witness for AnswerCounter<'_, R> {
     fn answered(&self, told: &Told<'_>) {
         let method = Method::of(told.method);
-        self.answers.answered(method, told.status);
+        let Service {
+            rt,
+            shared,
+            answers,
+            lines,
+            ..
+        } = self.service;
+        answers.answered(method, told.status);
         if method == Method::Teardown {
-            self.shared.note_end();
+            shared.note_end();
         }
-        let log = &self.shared.log;
+        let log = &shared.log;
         if told.status == OUT_OF_MEMORY {
-            log.event(self.rt, Event::OutOfMemory);
+            log.event(rt, Event::OutOfMemory);
         }
         if log.logs_access() {
             let access = Access {
-                peer: self.peer,
-                conn: self.conn,
+                peer: self.asker.peer,
+                conn: self.asker.conn,
                 method: told.method,
                 uri: told.uri,
                 status: told.status,
                 session: told.session(),
             };
-            self.lines.add(self.rt, log, self.moment, access);
+            lines.add(rt, log, self.moment, access);
         }
     }
 }

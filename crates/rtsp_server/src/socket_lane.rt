@@ -392,31 +392,6 @@ impl Clients {
         self.sweep(service);
         self.end_turn(service)
     }
-
-    // One turn, in which all parts are lent for as long as it takes.
-    fn turn<'a, R: Wait + Net + rt::Clock>(
-        &mut self,
-        rt: &'a R,
-        alloc: Global,
-        table: &'a Table,
-        shared: &'a Shared,
-        answers: &'a AnswerCounters,
-        lines: &'a LaneLines,
-        handle: &mut BookHandle,
-    ) -> LaneTurn {
-        let told = self.wait(rt, lines);
-        self.now = self.now.max(shared.now(rt));
-        let service = Service {
-            rt,
-            alloc,
-            table,
-            shared,
-            answers,
-            lines,
-            now: self.now,
-        };
-        self.serve(&service, handle, told)
-    }
 }
 
 impl Lane for SocketLane {
@@ -438,7 +413,17 @@ impl Lane for SocketLane {
             clients,
             ..
         } = self;
-        let (shared, answers) = (&**shared, &***answers);
-        clients.turn(rt, alloc, table, shared, answers, lines, handle)
+        let told = clients.wait(rt, lines);
+        clients.now = clients.now.max(shared.now(rt));
+        let service = Service {
+            rt,
+            alloc,
+            table,
+            shared: &**shared,
+            answers: &***answers,
+            lines,
+            now: clients.now,
+        };
+        clients.serve(&service, handle, told)
     }
 }

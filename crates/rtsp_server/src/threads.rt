@@ -1,7 +1,5 @@
 //! The threads of a server: what each does until the server ends.
 
-ghost use Rattle.rtsp_lock.specs.Calls.{IsSeatOf};
-
 use crate::fault::ServerFault;
 use crate::figures::Figures;
 use crate::server::Announce;
@@ -11,9 +9,8 @@ use crate::stopping::watch_signals;
 use crate::sweeper::run_sweeper;
 use rtsp_content::Table;
 use rtsp_lanes::{BookHandle, PoolEnd, run_pool};
-use rtsp_lock::{BookLock, BookSeat};
 use rtsp_log::{Event, LogWriter, SleepPause, StderrSink};
-use rtsp_pacing::{Bell, PacerParts, PacerPlays, pace};
+use rtsp_pacing::{PacerParts, PacerPlays, pace};
 use rtsp_sockets::{Media, Reader};
 use rtsp_status::StatusServer;
 use rtsp_threads::{OwnStatus, STANDING_LIMIT, Scribe};
@@ -88,33 +85,6 @@ pub(crate) struct OnePacer {
     pub(crate) handle: BookHandle,
 }
 
-// Lends all parts to a pacer for as long as it runs.
-fn pace_lent<'a, R: Wait + rt::Clock>(
-    rt: &'a R,
-    alloc: Global,
-    lock: &'a BookLock,
-    seat: BookSeat,
-    table: &'a Table,
-    media: &'a Media,
-    shared: &'a Shared,
-    bell: &'a Bell,
-    plays: PacerPlays,
-)
-    requires { IsSeatOf seat lock.now }
-{
-    let parts = PacerParts {
-        lock,
-        table,
-        ports: &shared.ports,
-        outlets: &shared.outlets,
-        media,
-        bell,
-        counters: &shared.counters,
-        begun: shared.begun,
-    };
-    pace(rt, alloc, parts, seat, plays);
-}
-
 impl Parts {
     // The body of a pacer's thread.
     fn pace<R: Wait + rt::Clock>(&self, rt: &R, alloc: Global, pacer: OnePacer) {
@@ -124,18 +94,23 @@ impl Parts {
             handle,
         } = pacer;
         let BookHandle { lock, seat } = handle;
-        if let Some(bell) = self.shared.bells.as_slice().get(number) {
-            pace_lent(
-                rt,
-                alloc,
-                &lock,
-                seat,
-                &self.table,
-                &self.media,
-                &self.shared,
+        let Parts {
+            table,
+            media,
+            shared,
+        } = self;
+        if let Some(bell) = shared.bells.as_slice().get(number) {
+            let parts = PacerParts {
+                lock: &lock,
+                table,
+                ports: &shared.ports,
+                outlets: &shared.outlets,
+                media,
                 bell,
-                plays,
-            );
+                counters: &shared.counters,
+                begun: shared.begun,
+            };
+            pace(rt, alloc, parts, seat, plays);
         }
     }
 

@@ -10,10 +10,16 @@ use url::{Position, Url};
 
 /// The URI of media as it is written, without query and fragment and with one slash at its end: the
 /// names of tracks are joined to it. A contract sees its bytes.
-#[derive(Drop)]
 pub struct MediaBase {
     // Without query and fragment; it may lack the slash.
     bare: Text,
+}
+
+// Written out, so that whoever lets go of one makes one call.
+impl Drop for MediaBase {
+    fn drop(self) {
+        let Self { bare: _bare } = self;
+    }
 }
 
 impl Model for MediaBase {
