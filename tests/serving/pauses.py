@@ -18,16 +18,17 @@ from .server import Presentation, Server, Track
 
 TRACK = Track("a")
 SHORT_UNITS = Presentation("tone", units=8000, unit_ms=5, tracks=(TRACK,))
-# Players at once, and how often each pauses and how often it seeks.
-PLAYERS, PAUSES, SEEKS = 6, 50, 20
+# Players at once, and how often each pauses and how often it seeks. More players that do less would keep all cores busy for
+# less time.
+PLAYERS, PAUSES, SEEKS = 12, 25, 10
 # How long a play goes on, in seconds.
 PLAYED = 0.02, 0.08
 # For how long a server is stopped while it is asked, in seconds. What is late is sent at once, or at twice the pace.
 SHORT_STOP, LONG_STOP = 0.04, 0.2
 # How often it is stopped.
 STOPS = 20
-# How often a player asks for plays and a PAUSE at once.
-AT_ONCE = 60
+# Players that ask for plays and a PAUSE at once, and how often each does.
+ASKERS, AT_ONCE = 6, 30
 
 
 class Begun(NamedTuple):
@@ -133,6 +134,16 @@ class BusyMachine:
             process.join()
 
 
+def server_of(checks: Checks, players: int) -> Server:
+    return Server(checks, SHORT_UNITS, pairs=players, uplink=players * SHORT_UNITS.whole_rate)
+
+
+def players_of(checks: Checks, server: Server, count: int) -> List[Watched]:
+    """So many players, by each way in turn."""
+    ways = Way.UDP, Way.ONE_PORT, Way.TCP
+    return [Watched(checks, server, ways[number % len(ways)]) for number in range(count)]
+
+
 def pauses_and_seeks(watched: Watched) -> None:
     """Plays and pauses, and then seeks."""
     for _ in range(PAUSES):
@@ -149,10 +160,9 @@ def pauses_and_seeks(watched: Watched) -> None:
 
 @serving_test(limit=60)
 def pauses_on_a_busy_machine(checks: Checks) -> None:
-    """Six players pause 300 times and seek 120 times while all cores are busy: no packet is missing or too many."""
-    with BusyMachine(), Server(checks, SHORT_UNITS) as server:
-        ways = Way.UDP, Way.ONE_PORT, Way.TCP
-        players = [Watched(checks, server, ways[number % len(ways)]) for number in range(PLAYERS)]
+    """Twelve players pause 300 times and seek 120 times while all cores are busy: no packet is missing or too many."""
+    with BusyMachine(), server_of(checks, PLAYERS) as server:
+        players = players_of(checks, server, PLAYERS)
         side_by_side(checks, *(lambda it=it: pauses_and_seeks(it) for it in players))
 
 
@@ -201,20 +211,19 @@ def plays_that_are_left_at_once(watched: Watched) -> None:
 
 
 def left_at_once(checks: Checks, server: Server) -> None:
-    """A player for each way."""
-    players = [Watched(checks, server, way) for way in (Way.UDP, Way.ONE_PORT, Way.TCP)]
+    players = players_of(checks, server, ASKERS)
     side_by_side(checks, *(lambda it=it: plays_that_are_left_at_once(it) for it in players))
 
 
 @serving_test(limit=60)
 def plays_left_at_once(checks: Checks) -> None:
     """A PLAY, and a PAUSE or a seek and a PAUSE behind it, in one write: what each play counts comes, once."""
-    with Server(checks, SHORT_UNITS) as server:
+    with server_of(checks, ASKERS) as server:
         left_at_once(checks, server)
 
 
 @serving_test(limit=60)
 def plays_left_at_once_on_a_busy_machine(checks: Checks) -> None:
     """The same while all cores are busy, so that pacers hear of the plays late."""
-    with BusyMachine(), Server(checks, SHORT_UNITS) as server:
+    with BusyMachine(), server_of(checks, ASKERS) as server:
         left_at_once(checks, server)

@@ -1,6 +1,6 @@
 -- What a command has after its subcommands were added in turn.
 use Rattle.std.proofs.Common.{◌≡◌, ◌∙◌, sym, ap, [], ◌∷◌, false}
-use Rattle.clap.specs.Words.{App, AddsSubcommand, AddsInTurn, app_of, shape_of, with_subcommand}
+use Rattle.clap.specs.Words.{App, AddsSubcommand, AddsInTurn, app_of, with_subcommand}
 use Rattle.clap.specs.declared.builder.command.Command.{Command}
 use Rattle.clap.specs.declared.builder.command.Command.TheViews.{out-Command}
 use Rattle.rtsp_command_line.specs.CommandLine.{stdio, audit, serve, alone, rtspd}
