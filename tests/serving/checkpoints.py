@@ -21,7 +21,7 @@ from .witness import Punctuality, Witness
 
 # A minute, so that a play lasts as long as it is asked for.
 MINUTE = Presentation(units=3000)
-PLAYERS, FLOODED_FOR = 50, 5.0
+PLAYERS, FLOODED_FOR = 50, 10.0
 # Beside the players' two streams each there is room for those of the floods.
 SETTINGS = {"pairs": 160, "sessions": 96, "uplink": 200 * MINUTE.whole_rate}
 SESSIONS_OF_A_FLOOD = 8

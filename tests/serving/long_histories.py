@@ -26,7 +26,7 @@ CLIENTS = PROCESSES * CLIENTS_OF_ONE
 PLAYS = 2
 # Clients go on until there are so many files, on a slow machine until the patience is over. What they make is bounded so:
 # reading the files again takes a fast machine longer than making them.
-FILES, PATIENCE = 2, 90.0
+FILES, PATIENCE = 3, 90.0
 OVER_UDP = ("Transport", 'RTP/AVP;unicast;dest_addr=":9"/":9"')
 SESSION = re.compile(rb"(?m)^Session: ([0-9a-f]{32})")
 # What the entries of a session are. A pair that can't be bound yet, since a play has just let go of it, is given back.
@@ -182,7 +182,7 @@ def fifty(checks: Checks, most: int) -> None:
 
 @serving_test(limit=300, is_long=True)
 def fifty_clients(checks: Checks) -> None:
-    """Fifty clients until a file more than two is begun, then a clean end."""
+    """Fifty clients until a file more than three is begun, then a clean end."""
     fifty(checks, FILES)
 
 
