@@ -1,42 +1,122 @@
-//! Words and moments of this host.
+//! What is lent to a server in these tests: ports, words and plays that can be had, or never, and a
+//! clock.
 
-use rtsp_engine::{Clock, Words};
-use rtsp_sockets::{PieceClock, RandomWords, RunningClock, SourceWords};
-use std::test::Fail;
-use std::time::{Duration, Instant};
+use rtsp_engine::{BindFault, Binder, Clock, Plays, Words, WordsFault};
+use rtsp_record::Phase;
+use std::alloc::{AllocError, Global};
 
-// Whether a source has words, and of three ids no two are the same.
-fn has_words<W: Words>(words: &mut W) -> bool {
-    let (first, second, third) = (words.id(), words.id(), words.id());
-    let differ = first != second && second != third && first != third;
-    let others = words.ssrc().is_ok() && words.seq().is_ok() && words.rtptime().is_ok();
-    differ && others && first.is_ok() && second.is_ok() && third.is_ok()
+#[derive(Drop)]
+pub(crate) struct Ports {
+    pub(crate) work: bool,
+    pub(crate) failures: u64,
 }
 
-#[test]
-fn words_differ(rt: HostRuntime) -> Result<(), Fail> {
-    assert!(rt; has_words(&mut RandomWords::open(&rt)?));
-    Ok(())
+impl Binder for Ports {
+    ghost use Rattle.std.specs.Prelude.{⊤};
+
+    ghost calls = { record { binds = λ b a p c. ⊤; fails = λ b a p c. ⊤; unbinds = λ b a p c. ⊤; failures = λ b. b.failures } };
+
+    fn bind(&mut self, _admission: u64, _pair: u16) -> Result<(), BindFault> {
+        if self.work {
+            return Ok(());
+        }
+        self.failures = self.failures.saturating_add(1);
+        Err(BindFault)
+    }
+
+    fn unbind(&mut self, _admission: u64, _pair: u16) {}
+
+    fn bind_port(&mut self, admission: u64, port: u16) -> Result<(), BindFault> {
+        self.bind(admission, port)
+    }
+
+    fn unbind_port(&mut self, admission: u64, port: u16) {
+        self.unbind(admission, port)
+    }
 }
 
-// A first read takes 32 of these bytes, and a second one finds too few.
-#[test]
-fn words_of_a_source(rt: HostRuntime) {
-    let bytes = b"abcdefghijklmnopqrstuvwxyz0123456789ABCD".as_slice();
-    let mut words = SourceWords::new(bytes);
-    assert!(rt; words.ssrc() == Ok(0x6463_6261) && words.seq() == Ok(0x6665));
-    assert!(rt; words.id() == Ok(0x7675_7473_7271_706f_6e6d_6c6b_6a69_6867));
-    assert!(rt; words.id().is_err() && words.seq().is_err() && words.given() == 3);
+/// Ids and SSRCs count the streams for which words are drawn, from 1 on.
+#[derive(Drop)]
+pub(crate) struct Drawing {
+    pub(crate) works: bool,
+    pub(crate) failures: u64,
+    pub(crate) streams: u32,
 }
 
-#[test]
-fn moments(rt: HostRuntime) -> Result<(), Fail> {
-    let mut clock = RunningClock::new(&rt, Instant::now(&rt)?);
-    let early = clock.now();
-    assert!(rt; clock.now() >= early && clock.until(early) == Some(Duration::ZERO));
-    assert!(rt; clock.until(60_000) > Some(Duration::from_secs(50)));
-    let mut once = PieceClock::new(&rt, Instant::now(&rt)?);
-    let moment = once.now();
-    assert!(rt; moment < 1_000 && once.now() == moment);
-    Ok(())
+impl Words for Drawing {
+    ghost use Rattle.std.specs.Prelude.{⊤};
+
+    ghost calls = { record { ids = λ b word c. ⊤; ssrcs = λ b word c. ⊤; seqs = λ b word c. ⊤; rtptimes = λ b word c. ⊤; fails = λ b c. ⊤; failures = λ b. b.failures } };
+
+    fn id(&mut self) -> Result<u128, WordsFault> {
+        Ok(u128::from(self.streams))
+    }
+
+    fn ssrc(&mut self) -> Result<u32, WordsFault> {
+        Ok(self.streams)
+    }
+
+    fn seq(&mut self) -> Result<u16, WordsFault> {
+        Ok(2)
+    }
+
+    // It is the last that is drawn for a stream.
+    fn rtptime(&mut self) -> Result<u32, WordsFault> {
+        if self.works {
+            self.streams = self.streams.wrapping_add(1);
+            return Ok(3);
+        }
+        self.failures = self.failures.saturating_add(1);
+        Err(WordsFault)
+    }
+}
+
+/// A second passes between any two readings.
+#[derive(Drop)]
+pub(crate) struct Ticking {
+    pub(crate) moment: u64,
+}
+
+impl Clock for Ticking {
+    ghost use Rattle.std.specs.Prelude.{⊤};
+
+    ghost tells = { λ b moment c. ⊤ };
+
+    fn now(&mut self) -> u64 {
+        let now = self.moment;
+        self.moment = now.saturating_add(1_000);
+        now
+    }
+}
+
+/// The number of the PLAY noted last, and what came of it: the phase that it began, if any.
+#[derive(Drop)]
+pub(crate) struct Noting {
+    pub(crate) works: bool,
+    pub(crate) noted: Option<u32>,
+    pub(crate) settled: Option<Option<Phase>>,
+}
+
+impl Plays for Noting {
+    ghost use Rattle.std.specs.Prelude.{⊤};
+
+    ghost calls = { record { notes = λ b session cseq uri c. ⊤; lacks = λ b c. ⊤; settles = λ b begun c. ⊤ } };
+
+    fn note(
+        &mut self,
+        _alloc: Global,
+        _session: u64,
+        cseq: u32,
+        _uri: &[u8],
+    ) -> Result<(), AllocError> {
+        if !self.works {
+            return Err(AllocError);
+        }
+        self.noted = Some(cseq);
+        Ok(())
+    }
+
+    fn settle(&mut self, begun: Option<Phase>) {
+        self.settled = Some(begun);
+    }
 }
