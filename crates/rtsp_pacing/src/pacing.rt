@@ -89,8 +89,8 @@ impl<R: Wait + Clock> Pacing<'_, R> {
         }
     }
 
-    // Takes the turns of the plays of one slot at a moment, from the one that was linked last. How many.
-    fn turn_slot(&mut self, last: usize, moment: u64) -> u64
+    // Takes the turns of the plays of one slot, from the one that was linked last. How many.
+    fn turn_slot(&mut self, last: usize) -> u64
         ensures { (keys : List ℕ) → IsChain self.old.plays (Some last) keys → length keys < 2 ^ 64 → result ≡ length keys }
     {
         let mut next = Some(last);
@@ -98,8 +98,7 @@ impl<R: Wait + Clock> Pacing<'_, R> {
             let Some(key) = next else {
                 return turns;
             };
-            let Some((before, then)) = self.plays.turn(self.alloc, &mut self.desk, key, moment)
-            else {
+            let Some((before, then)) = self.plays.turn(self.alloc, &mut self.desk, key) else {
                 return turns;
             };
             next = before;
@@ -118,7 +117,7 @@ impl<R: Wait + Clock> Pacing<'_, R> {
             let Some(last) = self.wheel.take(now) else {
                 return;
             };
-            self.turn_slot(last, now);
+            self.turn_slot(last);
         }
     }
 }

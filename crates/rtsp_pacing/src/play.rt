@@ -16,6 +16,7 @@ use rtsp_content::Presentation;
 use rtsp_record::Phase;
 use rtsp_rtp::{LastTurn, Pacer, Turn, sent_before};
 use std::alloc::Global;
+use std::rt::Clock;
 use std::sync::Wait;
 
 // Within how many milliseconds a pacer hears of a play, unless a thread is kept from running.
@@ -31,24 +32,23 @@ enum Stage {
     Reported,
 }
 
-// A play that a pacer sends: who asked for it, what is sent, where it goes, and how far it is. What each
-// turn looks at stands first, so that of thousands of plays few lines of memory are read.
+// A play that a pacer sends: who asked for it, what is sent, where it goes, and how far it is.
 #[derive(Drop)]
 pub(crate) struct PacedPlay {
-    // The moments of its last turn and of its next one. A wheel that is late comes to it sooner.
-    last: u64,
-    next: u64,
-    stage: Stage,
+    asked: NewPlay,
     // The place of its presentation.
     presentation: u16,
-    renewal: Renewal,
+    pacer: Pacer,
+    ways: Ways,
+    stage: Stage,
     // The phase for which the session has left the play, as it was seen first.
     left: Option<Phase>,
     // Until when it waits to hear of the session's next play.
     waits_until: Option<u64>,
-    pacer: Pacer,
-    ways: Ways,
-    asked: NewPlay,
+    renewal: Renewal,
+    // The moments of its last turn and of its next one. A wheel that is late comes to it sooner.
+    last: u64,
+    next: u64,
 }
 
 // What came of sending: of a turn, with when the next packet is due, unless the unit that is due
@@ -109,25 +109,25 @@ impl PacedPlay {
         let pacer = Pacer::start(view, asked.begun.phase, presentation)?;
         let due = pacer.next_due()?;
         let play = PacedPlay {
-            last: due,
-            next: due,
-            stage: Stage::Sending,
+            asked,
             presentation: place,
-            renewal: Renewal::unseen(),
-            left: None,
-            waits_until: None,
             pacer,
             ways: Ways::of(desk.rt, &desk.parts, view),
-            asked,
+            stage: Stage::Sending,
+            left: None,
+            waits_until: None,
+            renewal: Renewal::unseen(),
+            last: due,
+            next: due,
         };
         Some((play, due))
     }
 
     // The session's number.
     pub(crate) fn session(&self) -> u64
-        ensures { result ≡ self.now.pacer.session }
+        ensures { result ≡ self.now.asked.begun.noted.session }
     {
-        self.pacer.session()
+        self.asked.begun.noted.session
     }
 
     // The session began another play, in this phase: what was counted up to there is this one's.
@@ -148,14 +148,14 @@ impl PacedPlay {
         true
     }
 
-    // Takes the turn of the play, if its moment has come. The moment comes before the look: what is
-    // sent was due while the session was playing.
-    pub(crate) fn turn<R: Wait>(
+    // Takes the turn of the play, if its moment has come.
+    pub(crate) fn turn<R: Wait + Clock>(
         &mut self,
         alloc: Global,
         desk: &mut PacerDesk<'_, R>,
-        moment: u64,
     ) -> Next {
+        // The moment comes before the look: what is sent was due while the session was playing.
+        let moment = desk.now();
         if moment < self.next {
             return Next::At(self.next);
         }
@@ -218,7 +218,7 @@ impl PacedPlay {
 
     // Sends again to ports that have refused all, once the session is renewed: its player is there.
     fn heed_renewal<R: Wait>(&mut self, desk: &mut PacerDesk<'_, R>, moment: u64) {
-        if !self.ways.is_any_spared(moment) {
+        if !self.ways.is_any_spared(desk.rt, moment) {
             self.renewal = Renewal::unseen();
             return;
         }
@@ -228,7 +228,7 @@ impl PacedPlay {
         if let Some(view) = desk.look(self.session())
             && self.renewal.see(view.expires(), moment)
         {
-            self.ways.spare_none();
+            self.ways.spare_none(desk.rt);
         }
     }
 
@@ -248,7 +248,7 @@ impl PacedPlay {
             rt: desk.rt,
             media: desk.parts.media,
             counters: desk.parts.counters,
-            ways: &mut self.ways,
+            ways: &self.ways,
             presentation: usize::from(self.presentation),
             now: moment,
             packets: 0,

@@ -11,13 +11,14 @@ use indexmap::IndexMap;
 use rtsp_record::Phase;
 use slab::Slab;
 use std::alloc::{AllocError, Global};
+use std::rt::Clock;
 use std::sync::Wait;
 
 // A play in the wheel, and the key of the play that was linked to its slot before it.
 #[derive(Drop)]
 pub(crate) struct Linked {
-    pub(crate) before: Option<usize>,
     pub(crate) play: PacedPlay,
+    pub(crate) before: Option<usize>,
 }
 
 /// The plays of a pacer, each under a key that it keeps.
@@ -61,7 +62,7 @@ impl PacerPlays {
         ensures room { (n : ℕ) → HasRoom self.old (n + 1) → HasRoom self.new n }
     {
         let session = play.session();
-        let linked = Linked { before: None, play };
+        let linked = Linked { play, before: None };
         let Ok(key) = self.plays.insert(linked) else {
             return None;
         };
@@ -72,20 +73,18 @@ impl PacerPlays {
         Some(key)
     }
 
-    // Takes the turn of the play of a key, at a moment: which one is linked before it, and when its next
-    // turn is.
-    pub(crate) fn turn<R: Wait>(
+    // Takes the turn of the play of a key: which one is linked before it, and when its next turn is.
+    pub(crate) fn turn<R: Wait + Clock>(
         &mut self,
         alloc: Global,
         desk: &mut PacerDesk<'_, R>,
         key: usize,
-        moment: u64,
     ) -> Option<(Option<usize>, Next)>
         ensures turns { IfSome result (λ turned. Turns self.old key turned.0 self.new) }
         ensures none { IfNone result (get self.old.plays key ≡ None) }
     {
         let linked = self.plays.get_mut(key)?;
-        let next = linked.play.turn(alloc, desk, moment);
+        let next = linked.play.turn(alloc, desk);
         Some((linked.before, next))
     }
 

@@ -15,7 +15,7 @@ pub(crate) struct Refusals {
     // Since when each datagram was refused, if any was.
     since: Option<u64>,
     // Until when none is sent.
-    pub(crate) spared_until: u64,
+    spared_until: u64,
 }
 
 impl Refusals {

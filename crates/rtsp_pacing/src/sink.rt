@@ -16,7 +16,7 @@ pub(crate) struct PacketSink<'a, 'w, R> {
     pub(crate) rt: &'a R,
     pub(crate) media: &'a Media,
     pub(crate) counters: &'a Counters,
-    pub(crate) ways: &'w mut Ways,
+    pub(crate) ways: &'w Ways,
     pub(crate) presentation: usize,
     pub(crate) now: u64,
     pub(crate) packets: u64,

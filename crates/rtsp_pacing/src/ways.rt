@@ -8,7 +8,7 @@ use rtsp_rtp::Packet;
 use rtsp_sockets::{FrameRoom, Outlet, PortSockets, Put};
 use std::io::ErrorKind;
 use std::net::{Ipv4Addr, SocketAddrV4};
-use std::sync::{Arc, Wait};
+use std::sync::{Arc, Mutex, Wait};
 
 // The most tracks of a presentation.
 const TRACKS: usize = 8;
@@ -20,7 +20,8 @@ pub(crate) struct PlayerPort {
     sockets: Arc<PortSockets>,
     // Where RTCP goes.
     rtcp: SocketAddrV4,
-    refusals: Refusals,
+    // The pacer's alone: nobody waits for it.
+    refusals: Mutex<Refusals>,
 }
 
 // A channel of a connection that frames go to.
@@ -46,8 +47,6 @@ pub(crate) enum Way {
 // The ways of a play, by track.
 #[derive(Drop)]
 pub(crate) struct Ways {
-    // Until when one of them is spared, as far as any has been.
-    spared_until: u64,
     ways: [Way; TRACKS],
 }
 
@@ -59,7 +58,7 @@ fn datagrams(sockets: Option<Arc<PortSockets>>, stream: &Stream) -> Way {
             Way::Datagrams(PlayerPort {
                 sockets,
                 rtcp,
-                refusals: Refusals::none(),
+                refusals: Mutex::new(Refusals::none()),
             })
         }
         _ => Way::Nowhere,
@@ -112,21 +111,22 @@ fn connect(sockets: &Arc<PortSockets>, stream: &Stream) -> bool {
 impl PlayerPort {
     // Sends a datagram. Whether it was sent. An error of a connected socket may be that of an earlier
     // datagram, and then this one wasn't sent yet.
-    fn send(&mut self, now: u64, datagram: &[u8]) -> bool {
-        if self.refusals.is_spared(now) {
+    fn send<R: Wait>(&self, rt: &R, now: u64, datagram: &[u8]) -> bool {
+        let mut refusals = self.refusals.lock(rt);
+        if refusals.is_spared(now) {
             return false;
         }
         match self.sockets.rtp.send(datagram) {
             Ok(_) => {
-                self.refusals.note_sent();
+                refusals.note_sent();
                 return true;
             }
             Err(fault) if fault.kind() == ErrorKind::ConnectionRefused => {
-                self.refusals.note_refused(now);
+                refusals.note_refused(now);
             }
             Err(_) => {}
         }
-        !self.refusals.is_spared(now) && self.sockets.rtp.send(datagram).is_ok()
+        !refusals.is_spared(now) && self.sockets.rtp.send(datagram).is_ok()
     }
 
     // Sends RTCP: from a pair's second port, or the one port that RTP has too.
@@ -143,19 +143,19 @@ impl Channel {
 }
 
 impl Way {
-    // Until when its player's port is sent none.
-    fn spared_until(&self) -> u64 {
+    // Whether its player's port is sent none at this moment.
+    fn is_spared<R: Wait>(&self, rt: &R, now: u64) -> bool {
         match self {
-            Way::Datagrams(port) => port.refusals.spared_until,
-            Way::Nowhere | Way::Frames(_) => 0,
+            Way::Datagrams(port) => port.refusals.lock(rt).is_spared(now),
+            Way::Nowhere | Way::Frames(_) => false,
         }
     }
 
     // Sends a packet. Whether it was sent, or waits.
-    fn send<R: Wait>(&mut self, rt: &R, now: u64, packet: &mut Packet) -> bool {
+    fn send<R: Wait>(&self, rt: &R, now: u64, packet: &mut Packet) -> bool {
         match self {
             Way::Nowhere => false,
-            Way::Datagrams(port) => port.send(now, packet.datagram()),
+            Way::Datagrams(port) => port.send(rt, now, packet.datagram()),
             Way::Frames(channel) => {
                 let put = channel.put(rt, now, packet.frame(channel.number));
                 matches!(put, Put::Sent | Put::Kept)
@@ -180,7 +180,6 @@ impl Ways {
     // The ways of the streams that a session has.
     pub(crate) fn of<R: Wait>(rt: &R, parts: &PacerParts<'_>, view: &SessionView) -> Ways {
         let mut ways = Ways {
-            spared_until: 0,
             ways: [
                 Way::Nowhere,
                 Way::Nowhere,
@@ -206,36 +205,30 @@ impl Ways {
     }
 
     // Whether a player's port has refused so much that it is sent none at this moment.
-    pub(crate) fn is_any_spared(&self, now: u64) -> bool {
-        now < self.spared_until
+    pub(crate) fn is_any_spared<R: Wait>(&self, rt: &R, now: u64) -> bool {
+        for way in &self.ways {
+            if way.is_spared(rt, now) {
+                return true;
+            }
+        }
+        false
     }
 
     // Sends to all ports again.
-    pub(crate) fn spare_none(&mut self) {
-        self.spared_until = 0;
-        for way in &mut self.ways {
+    pub(crate) fn spare_none<R: Wait>(&self, rt: &R) {
+        for way in &self.ways {
             if let Way::Datagrams(port) = way {
-                port.refusals = Refusals::none();
+                *port.refusals.lock(rt) = Refusals::none();
             }
         }
     }
 
     // Sends a packet of a track. Whether it was sent, or waits.
-    pub(crate) fn send<R: Wait>(
-        &mut self,
-        rt: &R,
-        now: u64,
-        track: u16,
-        packet: &mut Packet,
-    ) -> bool {
-        let Some(way) = self.ways.get_mut(usize::from(track)) else {
-            return false;
-        };
-        let is_sent = way.send(rt, now, packet);
-        if !is_sent {
-            self.spared_until = self.spared_until.max(way.spared_until());
+    pub(crate) fn send<R: Wait>(&self, rt: &R, now: u64, track: u16, packet: &mut Packet) -> bool {
+        match self.ways.get(usize::from(track)) {
+            Some(way) => way.send(rt, now, packet),
+            None => false,
         }
-        is_sent
     }
 
     // Sends an RTCP packet of a track.
