@@ -47,6 +47,7 @@ pub struct Headers {
 
 // Written out, so that whoever lets go of headers makes one call.
 impl Drop for Headers {
+    #[inline(always)]
     fn drop(self) {
         let Self {
             bytes: _bytes,

@@ -18,6 +18,7 @@ pub struct Request {
 
 // Written out, so that whoever lets go of a request makes one call, and not one for each of its parts.
 impl Drop for Request {
+    #[inline(always)]
     fn drop(self) {
         let Self {
             method: _method,
@@ -43,6 +44,7 @@ pub struct Response {
 
 // Written out, as that of `Request` is.
 impl Drop for Response {
+    #[inline(always)]
     fn drop(self) {
         let Self {
             version: _version,

@@ -17,6 +17,7 @@ pub struct MediaBase {
 
 // Written out, so that whoever lets go of one makes one call.
 impl Drop for MediaBase {
+    #[inline(always)]
     fn drop(self) {
         let Self { bare: _bare } = self;
     }

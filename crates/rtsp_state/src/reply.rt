@@ -47,6 +47,7 @@ pub struct Reply {
 
 // Written out, so that whoever lets go of one makes one call.
 impl Drop for Reply {
+    #[inline(always)]
     fn drop(self) {
         let Self { kind: _kind } = self;
     }
