@@ -1,7 +1,8 @@
 //! How answers are written, each as lines.
 
 use rtsp_book::{Receipt, Refusal};
-use rtsp_record::{Field, Phase, write_line, write_record};
+use rtsp_journal_text::{Field, write_line, write_record};
+use rtsp_record::Phase;
 use std::alloc::{AllocError, Global};
 use std::fmt::Debug;
 

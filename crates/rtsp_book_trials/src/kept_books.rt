@@ -8,10 +8,11 @@ use crate::lines::{Line, read_line};
 use crate::steps::step_of;
 use rtsp_book::{BookRep, Kept, PlainBook, Receipt, Step};
 use rtsp_index::IndexedBook;
-use rtsp_record::{Field, Whole, read_journal, write_journal, write_line, write_record};
+use rtsp_journal_text::{Field, book_text, read_journal, write_journal, write_line, write_record};
+use rtsp_record::Whole;
 use rtsp_undo::{
-    AuditFault, book_text, replay, replay_without_admission, replay_without_session, rewind,
-    same_strands, without_ended, without_session,
+    AuditFault, replay, replay_without_admission, replay_without_session, rewind, same_strands,
+    without_ended, without_session,
 };
 use std::alloc::{AllocError, Global};
 use std::process::Abort;

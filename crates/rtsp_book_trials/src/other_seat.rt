@@ -8,8 +8,8 @@ use crate::answers::{write_number, write_phase, write_word};
 use crate::lines::Line;
 use rtsp_admit::{BindFault, Binder};
 use rtsp_book::Step;
+use rtsp_journal_text::{Field, write_line};
 use rtsp_lock::{BookLock, BookSeat, Name};
-use rtsp_record::{Field, write_line};
 use std::alloc::{AllocError, Global};
 use std::sync::Wait;
 

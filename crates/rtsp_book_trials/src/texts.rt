@@ -1,6 +1,7 @@
 //! The text of a journal: lines that stand for their entries, and lines that are refused.
 
-use rtsp_record::{Entry, JournalFault, read_journal, write_entry, write_journal};
+use rtsp_journal_text::{JournalFault, read_journal, write_entry, write_journal};
+use rtsp_record::Entry;
 use std::alloc::{AllocError, Global};
 
 // A record of each kind, with the least and the greatest numbers.

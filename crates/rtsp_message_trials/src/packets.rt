@@ -3,7 +3,8 @@
 ghost use Rattle.std.specs.Prelude.{◌≡◌};
 
 use rtsp_content::{EXAMPLE, Table};
-use rtsp_record::{Entry, Phase, Stream, Whole, read_journal};
+use rtsp_journal_text::read_journal;
+use rtsp_record::{Entry, Phase, Stream, Whole};
 use rtsp_rtp::*;
 use rtsp_sessions::{BookRep, PlainBook};
 use std::alloc::{AllocError, Global};

@@ -10,11 +10,4 @@ pub mod Strands
 pub mod LastWords
 pub mod SameWords
 pub mod Choices
-pub mod HexLemmas
-pub mod AfterLemmas
-pub mod ReaderLemmas
-pub mod NumberLemmas
-pub mod EntryLemmas
-pub mod JournalLemmas
-pub mod FieldLemmas
-pub mod LineLemmas
+pub mod Ports

@@ -5,10 +5,7 @@ pub mod Sums
 pub mod Choices
 pub mod Rules
 pub mod Sound
+pub mod Ports
 pub mod Moments
 pub mod LastWord
 pub mod Journals
-pub mod JournalText
-pub mod JournalReading
-pub mod JournalAnswers
-pub mod JournalFields

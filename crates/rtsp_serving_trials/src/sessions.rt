@@ -2,7 +2,8 @@
 
 use rtsp_book::{BookRep, PlainBook};
 use rtsp_content::{EXAMPLE, Table};
-use rtsp_record::{Entry, Whole, read_journal};
+use rtsp_journal_text::read_journal;
+use rtsp_record::{Entry, Whole};
 use std::alloc::{AllocError, Global};
 
 // A server with bandwidth for more than the sessions that it takes.

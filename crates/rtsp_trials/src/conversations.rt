@@ -4,8 +4,8 @@
 use crate::devices::NEVER;
 use crate::world::{contains, converse};
 use rtsp_engine::{ServeEnd, TURNS};
-use rtsp_record::write_journal;
-use rtsp_undo::{book_text, rewind};
+use rtsp_journal_text::{book_text, write_journal};
+use rtsp_undo::rewind;
 use rtspd::{Exit, run_words};
 use std::rt::Files;
 use std::sync::Wait;

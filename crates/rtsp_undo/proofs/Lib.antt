@@ -6,7 +6,4 @@ pub mod Steps
 pub mod Fitting
 pub mod Replaying
 pub mod Comparing
-pub mod Pools
-pub mod Counting
-pub mod Walks
 pub mod Living

@@ -1,11 +1,9 @@
-//! Journals replayed, undone and with entries left out, the book printed, and the laws over whole
-//! journals.
+//! Journals replayed, undone and with entries left out, and the laws over whole journals.
 //!
-//! The definitions of `specs/` read in this order: Laws (what holds of every legal journal), Pools
-//! (what is held and what is free, counted), Replays (why a journal is refused, and what is left of
-//! one that is undone), Strands (journals compared session by session), BookText (the book as it is
-//! printed). What a journal is, when it is legal and what is left without some entries is defined
-//! in rtsp_record.
+//! The definitions of `specs/` read in this order: Laws (what holds of every legal journal), Replays
+//! (why a journal is refused, and what is left of one that is undone), Strands (journals compared
+//! session by session). What a journal is, when it is legal, what is left without some entries, and
+//! what is held and free of the ports is defined in rtsp_record.
 
 #![tactic(auto)]
 
@@ -14,7 +12,6 @@ mod omissions;
 mod replays;
 mod rewinds;
 mod strands;
-mod text;
 
 pub use laws::{
     law_admission_fits, law_back, law_checkpoint, law_ended, law_ending_step, law_exchange,
@@ -26,4 +23,3 @@ pub use omissions::{without_admission, without_ended, without_session};
 pub use replays::{AuditFault, replay, replay_without_admission, replay_without_session};
 pub use rewinds::{Cut, rewind};
 pub use strands::same_strands;
-pub use text::book_text;

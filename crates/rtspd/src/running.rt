@@ -11,11 +11,10 @@ use rtsp_content::{EXAMPLE, Operation, Table, TableFault};
 use rtsp_devices::{Conversation, serve_alone};
 use rtsp_engine::{ByteOut, CountedReader, CountedWriter, ServeEnd, StreamFault, TURNS};
 use rtsp_grammar::MessageFault;
-use rtsp_record::{Entry, JournalFault, Whole, read_journal, write_journal};
+use rtsp_journal_text::{JournalFault, book_text, read_journal, write_journal};
+use rtsp_record::{Entry, Whole};
 use rtsp_server::whole_of;
-use rtsp_undo::{
-    AuditFault, book_text, replay, rewind, without_admission, without_ended, without_session,
-};
+use rtsp_undo::{AuditFault, replay, rewind, without_admission, without_ended, without_session};
 use std::alloc::Global;
 use std::fs::File;
 use std::io::{self, Eprint, ErrorKind, Read, Write};
