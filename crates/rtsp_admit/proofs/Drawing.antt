@@ -25,7 +25,7 @@ use Rattle.rtsp_book.specs.declared.steps.Step.TheVariants.{Open, HoldRate, Hold
 use Rattle.rtsp_book.specs.Kept.{entries_by}
 use Rattle.rtsp_record.specs.Choices.{least_pair, least_port, chosen_chan}
 use Rattle.rtsp_sessions.specs.Searches.{first_with}
-use Rattle.rtsp_book.specs.Sessions.{is_ready}
+use Rattle.rtsp_record.specs.Rules.{is_ready}
 use Rattle.rtsp_sessions.specs.Searches.{is_of_track}
 use Rattle.rtsp_book.specs.Made.{hold_chosen, as_pair, as_port, as_chan, adding, binding_to, committing, playing, pausing, finishing, touching, of_living, made}
 use Rattle.rtsp_book.specs.Returns.{dropping, freeing, freeing_rate}

@@ -11,7 +11,7 @@ use Rattle.rtsp_record.specs.declared.changes.Record.{Record}
 use Rattle.rtsp_record.specs.declared.changes.Record.TheVariants.{Open, Close, Hold, Free, Add, Drop, Move, Touch, Bind, Unbind}
 use Rattle.rtsp_record.specs.Records.{frees, adds}
 use Rattle.rtsp_record.specs.Books.{Session, or_bare, under, book_of}
-use Rattle.rtsp_record.specs.Rules.{is_same_thing, if_living}
+use Rattle.rtsp_record.specs.Rules.{is_ready, is_same_thing, if_living}
 use Rattle.rtsp_record.proofs.Trims.{AllFine}
 use Rattle.rtsp_book.specs.declared.asks.Ask.{Ask}
 use Rattle.rtsp_book.specs.declared.steps.Commit.{Commit}
@@ -19,7 +19,7 @@ use Rattle.rtsp_sessions.specs.declared.startups.Startup.{Startup}
 use Rattle.rtsp_book.specs.Replies.{is_wrong_commit, refusals}
 use Rattle.rtsp_book.specs.Returns.{dropping, freeing, freeing_rate}
 use Rattle.rtsp_sessions.specs.Searches.{first_with}
-use Rattle.rtsp_book.specs.Sessions.{has_stream_under, is_ready}
+use Rattle.rtsp_book.specs.Sessions.{has_stream_under}
 use Rattle.rtsp_sessions.specs.Searches.{is_of_track, is_track}
 use Rattle.rtsp_book.specs.Made.{adding, binding_to, committing, of_living, made}
 use Rattle.rtsp_sessions.proofs.FirstRows.{first_passes, first_found}

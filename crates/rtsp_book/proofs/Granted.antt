@@ -28,12 +28,12 @@ use Rattle.rtsp_book.specs.Laws.{IsGranted}
 use Rattle.rtsp_record.specs.declared.holdings.Admission.{Admission}
 use Rattle.rtsp_record.specs.Books.{Session, Book, or_bare, under, after_all, book_of}
 use Rattle.rtsp_record.specs.Sums.{Spot, UdpPort, Channel, covers, covering, of_session, amount, with_id, bindings, streams, elsewhere, other_tracks, owed}
-use Rattle.rtsp_record.specs.Rules.{IsPlaying, alike, Own, IsFree, AllAllowed}
+use Rattle.rtsp_record.specs.Rules.{is_ready, IsPlaying, alike, Own, IsFree, AllAllowed}
 use Rattle.rtsp_record.specs.Choices.{least_pair, least_port, chosen_chan, IsWish}
 use Rattle.rtsp_record.specs.Moments.{point, sent_with_due}
 use Rattle.rtsp_record.specs.Rules.{if_living}
 use Rattle.rtsp_sessions.specs.Searches.{first_with, is_of_track, is_expired, is_channelled, is_on}
-use Rattle.rtsp_book.specs.Sessions.{is_ready, has_stream_under, has_stream}
+use Rattle.rtsp_book.specs.Sessions.{has_stream_under, has_stream}
 use Rattle.rtsp_book.specs.Returns.{giving_back, unbinding, ending}
 use Rattle.rtsp_book.specs.Made.{hold_chosen, adding, binding_to, committing, taking_back, unwinding, begun, playing, pausing, finishing, is_unfinished, touching, giving_back_found, dropping_track, ending_found, hanging_up, of_living, made}
 use Rattle.rtsp_book.specs.Replies.{is_wrong_hold, is_wrong_commit, is_startup_taken, is_unready_commit, is_wrong_play, is_full, Refusals, refusals, answered, AreDifferent, IsAskable}
@@ -46,7 +46,7 @@ use Rattle.rtsp_record.proofs.Strands.{row_after}
 use Rattle.rtsp_book.proofs.Runs.{OwnAll, Lone, Giving, all_lone, lone_allowed, lone_row, owed_given}
 use Rattle.rtsp_book.proofs.Ending.{giving_run, ending_own, giving_under, giving_unbinding, giving_ending}
 use Rattle.rtsp_record.proofs.Choices.{chosen_pair, chosen_port, chosen_chan_free}
-use Rattle.rtsp_book.proofs.Tests.{none_there, some_there, no_more, some_more, ready_is}
+use Rattle.rtsp_book.proofs.Tests.{none_there, some_there, no_more, some_more}
 use Rattle.rtsp_book.proofs.TakenBack.{own_return, two_back}
 use Rattle.rtsp_sessions.proofs.FirstRows.{first_found}
 use Rattle.rtsp_book.proofs.Committing.{MayCommit, Adding, adding_run, lone_adding, lone_bound}
@@ -136,7 +136,7 @@ module _ (w : Whole) (n : ℕ) (b : Book) (ok : Sound w b) (room : n + owed b �
       let parts = or_parts (not (is_ready f.phase)) (has_stream_under f a) first.0 in
       let there = or_parts (is_none (under f a).rate) (is_none (under f a).address) ready in
       record {
-        ready = ready_is f.phase (not-false (is_ready f.phase) parts.0);
+        ready = not-false (is_ready f.phase) parts.0;
         rate = some_there (under f a).rate there.0;
         address = some_there (under f a).address there.1;
         no_stream = none_there (under f a).stream parts.1;
@@ -167,7 +167,7 @@ module _ (w : Whole) (n : ℕ) (b : Book) (ok : Sound w b) (room : n + owed b �
   track_dropped s t f None is ready there = nothing_made
   track_dropped s t f (Some e) is ready there =
       let sound : SoundSession w f = subst (SoundRow w) is (ok.rows s) in
-      let run = giving_run s e.0 f e.1 (record { ready = ready_is f.phase ready; normal = sound.normal; proper = λ a x some. (sound.in_whole a x some).1 }) (there e refl) in
+      let run = giving_run s e.0 f e.1 (record { ready = ready; normal = sound.normal; proper = λ a x some. (sound.in_whole a x some).1 }) (there e refl) in
       giving s (giving_back s e) (giving_under s e) (subst (OwnAll (giving_back s e)) (sym is) run.own)
 
   pub dropped : (s t : ℕ) (f : Session) → get b s ≡ Some f → (not (is_ready f.phase) && nat_lt 0 (of_session (other_tracks t) f)) ≡ false → IsGranted w n b (dropping_track s t f)

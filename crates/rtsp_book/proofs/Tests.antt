@@ -3,12 +3,9 @@ use Rattle.std.proofs.Common.{◌≡◌, ℕ, ◌<◌, true, false, refl, ap, ar
 use Rattle.std.specs.Prelude.{Option, Some, None, IsSome, is_some, is_none, nat_lt}
 use Rattle.std.proofs.lemmas.Bool.Decides.{nat_tests}
 use Rattle.rtsp_record.specs.declared.holdings.Thing.{Thing}
-use Rattle.rtsp_record.specs.declared.phases.Phase.{Phase}
-use Rattle.rtsp_record.specs.declared.phases.Phase.TheVariants.{Ready, Playing, Ended}
 use Rattle.rtsp_record.specs.Books.{Session, under}
-use Rattle.rtsp_record.specs.Rules.{IsReady, alike, is_this, is_held}
+use Rattle.rtsp_record.specs.Rules.{alike, is_this, is_held}
 use Rattle.rtsp_record.proofs.SameWords.{same_thing}
-use Rattle.rtsp_book.specs.Sessions.{is_ready}
 
 pub none_there : {A : Type 0} (o : Option A) → is_some o ≡ false → o ≡ None
 none_there None h = refl
@@ -23,11 +20,6 @@ no_more n h = grind (arith, nat_tests)
 
 pub some_more : (n : ℕ) → nat_lt 0 n ≡ true → 0 < n
 some_more n h = grind (arith, nat_tests)
-
-pub ready_is : (p : Phase) → is_ready p ≡ true → IsReady p
-ready_is (Ready at sent) h = tt
-ready_is (Playing from stop sent since) h = absurd cc
-ready_is (Ended at sent) h = absurd cc
 
 pub held_is : (f : Session) (a : ℕ) (x : Thing) → is_held f a x ≡ true → alike x (under f a) ≡ Some x
 held_is f a x h = elim (alike x (under f a)) as (λ o. is_this x o ≡ true → o ≡ Some x) [ None ↦ λ h. absurd cc | Some y ↦ λ h. ap Some (same_thing y x h) ] h

@@ -19,11 +19,11 @@ use Rattle.rtsp_book.specs.declared.steps.Play.{Play}
 use Rattle.rtsp_record.specs.declared.holdings.Admission.{Admission}
 use Rattle.rtsp_record.specs.Books.{Session, Book}
 use Rattle.rtsp_record.specs.Sums.{of_session, other_tracks}
-use Rattle.rtsp_record.specs.Rules.{is_held}
+use Rattle.rtsp_record.specs.Rules.{is_ready, is_held}
 use Rattle.rtsp_record.specs.Choices.{least_pair, least_port, chosen_chan}
 use Rattle.rtsp_record.specs.Moments.{due, point, sent_with_due}
 use Rattle.rtsp_sessions.specs.Searches.{first_with, is_of_track, is_expired, is_channelled, is_on}
-use Rattle.rtsp_book.specs.Sessions.{has_stream_under, is_ready}
+use Rattle.rtsp_book.specs.Sessions.{has_stream_under}
 use Rattle.rtsp_book.specs.Returns.{dropping, ending, freeing, freeing_rate, giving_back, unbinding}
 
 -- Hold of what was chosen

@@ -17,10 +17,10 @@ use Rattle.rtsp_book.specs.declared.refusals.Refusal.{Refusal}
 use Rattle.rtsp_book.specs.declared.refusals.Refusal.TheVariants.{NoSession, TooManySessions, NoBandwidth, NoPair, NoChannel, WrongState, IdTaken, StartupTaken, NotHeld, JournalFull, NothingDue}
 use Rattle.rtsp_record.specs.Books.{Session, Book, under, after_all, book_of}
 use Rattle.rtsp_record.specs.Sums.{of_session, amount, with_id, bindings, elsewhere, other_tracks, living, held_rate, owed, others_holding}
-use Rattle.rtsp_record.specs.Rules.{alike, is_held, if_living}
+use Rattle.rtsp_record.specs.Rules.{is_ready, is_playing, alike, is_held, if_living}
 use Rattle.rtsp_record.specs.Choices.{least_pair, least_port, chosen_chan, IsWish}
 use Rattle.rtsp_sessions.specs.Searches.{first_with, is_expired, is_of_track, is_on}
-use Rattle.rtsp_book.specs.Sessions.{has_stream, has_stream_under, is_playing, is_ready}
+use Rattle.rtsp_book.specs.Sessions.{has_stream, has_stream_under}
 use Rattle.rtsp_book.specs.Made.{is_unfinished, made, start_of}
 
 -- a stream or such a thing under the admission, or 16 others that hold something

@@ -12,7 +12,6 @@ mod holding;
 mod opening;
 mod playing;
 mod returning;
-mod sessions;
 
 use crate::receipts::Receipt;
 use crate::refusals::Refusal;
@@ -20,7 +19,6 @@ use crate::steps::Step;
 pub(crate) use case::Case;
 pub(crate) use returning::end;
 use rtsp_sessions::BookRep;
-pub(crate) use sessions::is_opening;
 
 impl<'a, B: BookRep> Case<'a, B> {
     /// The reply to a step: its records, or the first refusal that applies.

@@ -5,7 +5,7 @@ ghost use Rattle.std.specs.Prelude.{◌≡◌, ◌++◌, IfOk, OnOk, codes, deci
 ghost use Rattle.rtsp_metrics.specs.Families.{family_text, families_text, sample_line, sample_lines};
 ghost use Rattle.rtsp_metrics.specs.Figures.{server_families, book_families, traffic_families, answer_families, keeping_families};
 ghost use Rattle.rtsp_metrics.specs.Figures.{journal_family, requests_family, refusals_family, lateness_family, families, metrics_text};
-ghost use Rattle.rtsp_metrics.specs.Figures.{method_samples, first_samples, other_samples, early_buckets, late_buckets, lateness_sum, request_mark, early, all_packets};
+ghost use Rattle.rtsp_metrics.specs.Figures.{method_samples, first_samples, other_samples, early_buckets, late_buckets, lateness_sum, request_mark, early};
 
 use crate::families::{Figure, write_counter, write_gauge, write_head, write_held, write_samples};
 use crate::snapshot::{BookFigures, ByMethod, ByOutcome, Counts, Lateness, Refusals, Snapshot};
@@ -197,6 +197,7 @@ fn write_late(out: &mut Vec<u8>, of: &Lateness) -> Result<(), AllocError>
     let forty = twenty + u128::from(of.within_40_ms);
     let hundred = forty + u128::from(of.within_100_ms);
     let four_hundred = hundred + u128::from(of.within_400_ms);
+    let all = four_hundred + u128::from(of.later);
     write_samples(
         out,
         LATENESS,
@@ -205,22 +206,10 @@ fn write_late(out: &mut Vec<u8>, of: &Lateness) -> Result<(), AllocError>
             Figure::wide(b"_bucket{le=\"0.04\"}", forty),
             Figure::wide(b"_bucket{le=\"0.1\"}", hundred),
             Figure::wide(b"_bucket{le=\"0.4\"}", four_hundred),
-            Figure::wide(b"_bucket{le=\"+Inf\"}", all_packets(of)),
-            Figure::wide(b"_count", all_packets(of)),
+            Figure::wide(b"_bucket{le=\"+Inf\"}", all),
+            Figure::wide(b"_count", all),
         ],
     )
-}
-
-// All packets that were sent.
-fn all_packets(of: &Lateness) -> u128
-    ensures { result ≡ all_packets of.now }
-{
-    early(of)
-        + u128::from(of.within_20_ms)
-        + u128::from(of.within_40_ms)
-        + u128::from(of.within_100_ms)
-        + u128::from(of.within_400_ms)
-        + u128::from(of.later)
 }
 
 // How late all packets were together, in seconds.

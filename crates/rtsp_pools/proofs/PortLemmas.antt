@@ -1,9 +1,6 @@
 -- Ports and pairs as bits.
-use Rattle.std.proofs.Common.{◌≡◌, ◌≢◌, ◌==◌, ℕ, ◌+◌, ◌-◌, ◌*◌, ◌/◌, ◌%◌, ◌<◌, ◌≤◌, Bool, true, false, ◌&&◌, ◌||◌, not, cond, List, refl, sym, ◌∙◌, ap, inl, inr, arith}
-use Rattle.std.specs.Prelude.{IsTrue}
+use Rattle.std.proofs.Common.{◌≡◌, ◌≢◌, ◌==◌, ℕ, ◌+◌, ◌-◌, ◌*◌, ◌/◌, ◌<◌, ◌≤◌, Bool, true, false, ◌&&◌, ◌||◌, not, cond, List, refl, sym, ◌∙◌, ap, inl, inr, arith}
 use Rattle.std.proofs.lemmas.Bool.{eq-eqb, ne_eqb, cases_eq, cases_lt, and_right}
-use Rattle.rtsp_record.specs.declared.holdings.Thing.TheVariants.{Pair}
-use Rattle.rtsp_record.specs.Rules.{InWhole}
 use Rattle.rtsp_pools.specs.declared.pair_pool.PairPool.{PairPool}
 use Rattle.rtsp_pools.specs.Bits.{has, IsPut, ArePairsOf}
 use Rattle.rtsp_pools.specs.Pools.{is_free_port, is_free_pair}
@@ -25,15 +22,6 @@ pair_is pool p i at = ap (is_free_pair pool) at ∙ pair_at pool i
 
 pub port_is : (pool : PairPool) (p i : ℕ) → p ≡ pool.whole.first_port + i → is_free_port pool p ≡ has pool.ports.words.items i
 port_is pool p i at = ap (is_free_port pool) at ∙ port_at pool i
-
--- a pair that is even, of the whole and free
-pub pair_shown : (pool : PairPool) (p : ℕ) (r : Bool) → pool.whole.first_port ≤ p → (p - pool.whole.first_port) % 2 ≡ 0 → (p - pool.whole.first_port) / 2 < pool.whole.pairs
-    → r ≡ has pool.free.words.items ((p - pool.whole.first_port) / 2)
-    → (IsTrue r → InWhole pool.whole (Pair p) × (is_free_pair pool p ≡ true)) × (InWhole pool.whole (Pair p) × (is_free_pair pool p ≡ true) → IsTrue r)
-pair_shown pool p r from even below is =
-    let i = (p - pool.whole.first_port) / 2 in
-    let at : p ≡ pool.whole.first_port + 2 * ((p - pool.whole.first_port) / 2) = omega (arith, from, even) in
-    (λ h. ((i, below, at), pair_is pool p i at ∙ sym is ∙ h), λ h. is ∙ sym (pair_is pool p i at) ∙ h.1)
 
 -- all numbers below a limit make all pairs
 pub all_paired : (numbers pairs : List ℕ) (n m : ℕ) → m ≡ 2 * n → ((k : ℕ) → k < n → has pairs k ≡ true) → ((k : ℕ) → k < m → has numbers k ≡ true)

@@ -62,22 +62,14 @@ impl PairPool {
     pub fn is_free(&self, first: u16) -> bool
         ensures { IsTrue result ↔ InWhole self.now.whole (Pair first) × (is_free_pair self.now first ≡ true) }
     {
-        if first < self.whole.first_port {
-            return false;
-        }
-        let past = first - self.whole.first_port;
-        past % 2 == 0 && past / 2 < self.whole.pairs && self.free.contains(usize::from(past / 2))
+        self.whole.has_pair(first) && self.free.contains(self.index(first))
     }
 
     /// Whether it is a port of the whole, and free.
     pub fn is_free_port(&self, port: u16) -> bool
         ensures { IsTrue result ↔ InWhole self.now.whole (Port port) × (is_free_port self.now port ≡ true) }
     {
-        if port < self.whole.first_port {
-            return false;
-        }
-        let past = port - self.whole.first_port;
-        past / 2 < self.whole.pairs && self.ports.contains(usize::from(past))
+        self.whole.has_port(port) && self.ports.contains(self.place(port))
     }
 
     /// The least free pair not below a port.

@@ -99,9 +99,9 @@ pub stream_counts : (m : Measure) (f : Session) (a : ℕ) (v : Stream) → (unde
 stream_counts m f a v there = omega (arith, total-under (λ e. of_admission m e.1) f a bare refl, ap (if_there m.stream) there)
 
 not_both : (p : Phase) → IsReady p → IsPlaying p → ⊥
-not_both (Ready at sent) h g = g
-not_both (Playing from stop sent since) h g = h
-not_both (Ended at sent) h g = g
+not_both (Ready at sent) h g = absurd cc
+not_both (Playing from stop sent since) h g = absurd cc
+not_both (Ended at sent) h g = absurd cc
 
 -- a stream that may be added clashes with none
 apart_new : (f : Session) (a : ℕ) (v u : Stream) → of_session (clashing v) f ≡ 0 → (under f a).stream ≡ Some u → one_if (clash u v) ≡ 0
@@ -113,7 +113,7 @@ opened_sound w id c e =
       normal = λ a. ap (λ o. kept (or_bare o)) (get-none a) ∙ sym (get-none a);
       based = λ a v is. absurd (bare_stream _ v (under_opened id c e a) is);
       apart = λ a v is. absurd (bare_stream _ v (under_opened id c e a) is);
-      playing = λ p. absurd p;
+      playing = λ p. absurd cc;
       few = omega (arith, total-empty (λ (e : ℕ × Admission). one_if (is_holding e.1)));
       in_whole = λ a x is. absurd (bare_address _ x (under_opened id c e a) is);
     }

@@ -1,5 +1,9 @@
 //! What the server has, and what a session may hold of it.
 
+ghost use Rattle.std.specs.Prelude.{◌↔◌, IsTrue};
+ghost use Rattle.rtsp_record.specs.Rules.{InWhole};
+ghost use Rattle.rtsp_record.specs.declared.holdings.Thing.TheVariants.{Pair, Port};
+
 use crate::streams::Stream;
 
 /// What a session may hold under an admission: bits of the uplink, or an address for its packets.
@@ -40,4 +44,27 @@ pub struct Whole {
     pub sessions: u16,
     /// The limit on entries and owed returns together, 1 to 1,000,000.
     pub journal: u32,
+}
+
+impl Whole {
+    /// Whether this port and the next are one of its pairs.
+    pub fn has_pair(&self, first: u16) -> bool
+        ensures { IsTrue result ↔ InWhole self.now (Pair first) }
+    {
+        if first < self.first_port {
+            return false;
+        }
+        let past = first - self.first_port;
+        if past % 2 == 1 {
+            return false;
+        }
+        past / 2 < self.pairs
+    }
+
+    /// Whether the port is in one of its pairs.
+    pub fn has_port(&self, port: u16) -> bool
+        ensures { IsTrue result ↔ InWhole self.now (Port port) }
+    {
+        port >= self.first_port && u32::from(port - self.first_port) < 2 * u32::from(self.pairs)
+    }
 }

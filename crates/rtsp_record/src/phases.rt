@@ -2,6 +2,8 @@
 
 ghost use Rattle.std.specs.Prelude.{◌≡◌, ◌<◌};
 ghost use Rattle.rtsp_record.specs.Moments.{due, point, sent_before, sent_with_due};
+ghost use Rattle.rtsp_record.specs.Rules.{is_ready, is_playing};
+ghost use Rattle.rtsp_record.specs.Sums.{is_opening};
 
 /// Where a session is in its play. `at`, `from` and `stop` are units of media, `stop` exclusive;
 /// `sent` counts the units sent in earlier plays, modulo 2^32.
@@ -27,6 +29,30 @@ pub enum Phase {
 }
 
 impl Phase {
+    /// The phase of a session that has just been opened.
+    pub const OPENING: Phase = Phase::Ready { at: 0, sent: 0 };
+
+    /// Whether it is the opening phase.
+    pub fn is_opening(&self) -> bool
+        ensures { result ≡ is_opening self.now }
+    {
+        matches!(self, Phase::Ready { at: 0, sent: 0 })
+    }
+
+    /// Whether the session is Ready.
+    pub fn is_ready(&self) -> bool
+        ensures { result ≡ is_ready self.now }
+    {
+        matches!(self, Phase::Ready { .. })
+    }
+
+    /// Whether the session is Playing.
+    pub fn is_playing(&self) -> bool
+        ensures { result ≡ is_playing self.now }
+    {
+        matches!(self, Phase::Playing { .. })
+    }
+
     /// How many units of the present play are due at a moment, both in milliseconds: one at once,
     /// and one more each `unit_ms`. A moment before the play counts as its beginning.
     pub fn due(&self, unit_ms: u32, moment: u64) -> u32

@@ -7,7 +7,8 @@ use Rattle.std.proofs.Math.Arith.{lt_of_le-ne}
 use Rattle.rtsp_record.specs.declared.phases.Phase.{Phase}
 use Rattle.rtsp_record.specs.declared.phases.Phase.TheVariants.{Ready, Playing, Ended}
 use Rattle.rtsp_record.specs.Moments.{due}
-use Rattle.rtsp_rtp.specs.Pacing.{Pacing, is_playing, begun_at, units_in, packets_in, IsPacing}
+use Rattle.rtsp_record.specs.Rules.{is_playing}
+use Rattle.rtsp_rtp.specs.Pacing.{Pacing, begun_at, units_in, packets_in, IsPacing}
 use Rattle.rtsp_rtp.proofs.Scheduling.{right_pos}
 use Rattle.rtsp_rtp.specs.Moments.{HasDue, IsNextDue, IsNeverDue}
 

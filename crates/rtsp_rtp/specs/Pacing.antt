@@ -1,10 +1,11 @@
 -- What a pacer knows of its play.
-use Rattle.std.specs.Prelude.{◌≡◌, ℕ, ◌+◌, ◌-◌, ◌*◌, ◌<◌, ◌≤◌, zero, suc, Bool, true, false, if◌then◌else◌, List, [], ◌∷◌, ◌++◌, length, map, All, option_map, option_and_then, Option, Some, None}
+use Rattle.std.specs.Prelude.{◌≡◌, ℕ, ◌+◌, ◌-◌, ◌*◌, ◌<◌, ◌≤◌, zero, suc, true, if◌then◌else◌, List, [], ◌∷◌, ◌++◌, length, map, All, option_map, option_and_then, Option, Some, None}
 use Rattle.std.specs.FinMap.{entries}
 use Rattle.rtsp_record.specs.declared.phases.Phase.{Phase}
 use Rattle.rtsp_record.specs.declared.phases.Phase.TheVariants.{Ready, Playing, Ended}
 use Rattle.rtsp_record.specs.declared.holdings.Admission.{Admission}
 use Rattle.rtsp_record.specs.Books.{Session}
+use Rattle.rtsp_record.specs.Rules.{is_playing}
 use Rattle.rtsp_sessions.specs.Searches.{first_with, is_of_track}
 use Rattle.rtsp_content.specs.TrackValue.{TrackValue}
 use Rattle.rtsp_content.specs.PresentationValue.{PresentationValue}
@@ -21,12 +22,6 @@ pub record Pacing : Type 0 where
   pub done : ℕ
 
 -- The parts of a play; without one, nothing.
-
--- the session plays
-abbrev pub is_playing : Phase → Bool
-is_playing (Ready at sent) = false
-is_playing (Playing from stop sent since) = true
-is_playing (Ended at sent) = false
 
 -- the moment at which it began
 abbrev pub begun_at : Phase → ℕ

@@ -1,8 +1,8 @@
 //! Conversations: a response of each kind, and what devices that fail and a full journal change.
 
-use crate::devices::{Drawing, Noting, Ports, Ticking};
+use crate::devices::{Drawing, Noting, Ticking};
 use crate::server::{SERVER, Server, Talk, as_sent, converse};
-use rtsp_devices::NoShares;
+use rtsp_devices::{NoShares, PortSet};
 use rtsp_engine::law_served_grows;
 use rtsp_record::Phase;
 use std::alloc::Global;
@@ -237,10 +237,7 @@ CSeq: 2
 ",
     ),
     (
-        Server {
-            ports: false,
-            ..SERVER
-        },
+        Server { pairs: 0, ..SERVER },
         "\
 RTSP/2.0 503 Service Unavailable
 CSeq: 1
@@ -371,5 +368,5 @@ fn a_renewal_that_gains_less_than_the_step_is_left_out(rt: HostRuntime) {
 
 #[test]
 fn the_law_is_called() {
-    law_served_grows::<HostRuntime, Ports, Drawing, Ticking, Noting, NoShares>();
+    law_served_grows::<HostRuntime, PortSet, Drawing, Ticking, Noting, NoShares>();
 }

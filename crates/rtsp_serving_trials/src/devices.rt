@@ -1,39 +1,8 @@
-//! What is lent to a server in these tests: ports, words and plays that can be had, or never, and a
-//! clock.
+//! What is lent to a server in these tests: words and plays that can be had, or never, and a clock.
 
-use rtsp_engine::{BindFault, Binder, Clock, Plays, Words, WordsFault};
+use rtsp_engine::{Clock, Plays, Words, WordsFault};
 use rtsp_record::Phase;
 use std::alloc::{AllocError, Global};
-
-#[derive(Drop)]
-pub(crate) struct Ports {
-    pub(crate) work: bool,
-    pub(crate) failures: u64,
-}
-
-impl Binder for Ports {
-    ghost use Rattle.std.specs.Prelude.{⊤};
-
-    ghost calls = { record { binds = λ b a p c. ⊤; fails = λ b a p c. ⊤; unbinds = λ b a p c. ⊤; failures = λ b. b.failures } };
-
-    fn bind(&mut self, _admission: u64, _pair: u16) -> Result<(), BindFault> {
-        if self.work {
-            return Ok(());
-        }
-        self.failures = self.failures.saturating_add(1);
-        Err(BindFault)
-    }
-
-    fn unbind(&mut self, _admission: u64, _pair: u16) {}
-
-    fn bind_port(&mut self, admission: u64, port: u16) -> Result<(), BindFault> {
-        self.bind(admission, port)
-    }
-
-    fn unbind_port(&mut self, admission: u64, port: u16) {
-        self.unbind(admission, port)
-    }
-}
 
 /// Ids and SSRCs count the streams for which words are drawn, from 1 on.
 #[derive(Drop)]

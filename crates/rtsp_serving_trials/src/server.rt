@@ -2,10 +2,10 @@
 
 ghost use Rattle.rtsp_lock.specs.Calls.{IsSeatOf, SameSeat};
 
-use crate::devices::{Drawing, Noting, Ports, Ticking};
+use crate::devices::{Drawing, Noting, Ticking};
 use rtsp_book::Receipt;
 use rtsp_content::Table;
-use rtsp_devices::NoShares;
+use rtsp_devices::{NoShares, PortSet};
 use rtsp_engine::{Asker, Connection, fault_response};
 use rtsp_grammar::MessageFault;
 use rtsp_lock::{BookLock, BookSeat, open};
@@ -16,12 +16,13 @@ use std::alloc::{AllocError, Global};
 use std::cell::Cell;
 use std::sync::Wait;
 
-/// Further lines of the configuration, how long the journal may be, and which devices work.
+/// Further lines of the configuration, how long the journal may be, how many pairs of ports can be
+/// bound, and which other devices work.
 #[derive(Clone, Copy)]
 pub(crate) struct Server {
     pub(crate) lines: &'static str,
     pub(crate) journal: u32,
-    pub(crate) ports: bool,
+    pub(crate) pairs: u16,
     pub(crate) words: bool,
     pub(crate) plays: bool,
 }
@@ -30,7 +31,7 @@ pub(crate) struct Server {
 pub(crate) const SERVER: Server = Server {
     lines: "",
     journal: 1_000,
-    ports: true,
+    pairs: 2,
     words: true,
     plays: true,
 };
@@ -91,19 +92,16 @@ impl Witness for Watcher {
 // What is lent to a connection.
 #[derive(Drop)]
 struct Devices {
-    ports: Ports,
+    ports: PortSet,
     words: Drawing,
     clock: Ticking,
     plays: Noting,
 }
 
 impl Devices {
-    fn of(server: Server) -> Devices {
-        Devices {
-            ports: Ports {
-                work: server.ports,
-                failures: 0,
-            },
+    fn of(alloc: Global, server: Server) -> Result<Devices, AllocError> {
+        Ok(Devices {
+            ports: PortSet::open(alloc, 5000, server.pairs)?,
             words: Drawing {
                 works: server.words,
                 failures: 0,
@@ -115,7 +113,7 @@ impl Devices {
                 noted: None,
                 settled: None,
             },
-        }
+        })
     }
 }
 
@@ -233,7 +231,7 @@ fn answered<R: AllocGlobal + Wait>(
     requires { IsSeatOf seat.old lock.now }
     ensures { SameSeat seat.old seat.new }
 {
-    let mut devices = Devices::of(server);
+    let mut devices = Devices::of(rt.alloc(), server).ok()?;
     let mut room = Room::new(rt.alloc());
     let pushed = answer(
         rt,

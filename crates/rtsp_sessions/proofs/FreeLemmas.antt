@@ -1,7 +1,7 @@
 -- What is in the whole and free, as tests.
-use Rattle.std.proofs.Common.{◌≡◌, ◌==◌, ℕ, ◌+◌, ◌-◌, ◌/◌, ◌%◌, ◌<◌, ◌≤◌, Bool, true, ◌&&◌, ◌||◌, refl, sym, ◌∙◌, ap, arith}
-use Rattle.std.specs.Prelude.{IsTrue, nat_eq, nat_lt}
-use Rattle.std.proofs.lemmas.Bool.{ltb-true, lt-ltb, eqb-true, eq-eqb, and_from, or_left, or_right}
+use Rattle.std.proofs.Common.{◌≡◌, ◌==◌, ℕ, ◌+◌, ◌/◌, ◌%◌, ◌<◌, Bool, true, ◌&&◌, ◌||◌, refl, sym, ◌∙◌, ap, arith}
+use Rattle.std.specs.Prelude.{IsTrue, nat_eq}
+use Rattle.std.proofs.lemmas.Bool.{eqb-true, eq-eqb, and_from, or_left, or_right}
 use Rattle.std.proofs.lemmas.Bool.Decides.{nat_tests}
 use Rattle.rtsp_record.specs.declared.holdings.Thing.TheVariants.{Pair, Port, Chan}
 use Rattle.rtsp_record.specs.declared.holdings.Whole.{Whole}
@@ -24,12 +24,6 @@ pub even_chan : (w : Whole) (c k : ℕ) → k < 256 → (IsTrue (nat_eq (k % 2) 
 even_chan w c k small = (
   λ h. let even : k % 2 ≡ 0 = eqb-true (k % 2) 0 h in (k / 2, omega (arith, even), omega (arith, even)),
   λ h. let at = h.1 in eq-eqb (k % 2) 0 (omega (arith, at)),
-)
-
-pub pair_in : (w : Whole) (p : ℕ) → w.first_port ≤ p → (p - w.first_port) % 2 ≡ 0 → (IsTrue (nat_lt ((p - w.first_port) / 2) w.pairs) → InWhole w (Pair p)) × (InWhole w (Pair p) → IsTrue (nat_lt ((p - w.first_port) / 2) w.pairs))
-pair_in w p le even = (
-  λ h. ((p - w.first_port) / 2, ltb-true _ _ h, omega (arith, even)),
-  λ h. let at = h.2 in lt-ltb _ _ (omega (arith, at, h.1)),
 )
 
 pub free_pair : (w : Whole) (b : Book) (p : ℕ) (r : Bool) → InWhole w (Pair p) → r ≡ is_pair_free b p → (IsTrue r → IsFree w b (Pair p)) × (IsFree w b (Pair p) → IsTrue r)

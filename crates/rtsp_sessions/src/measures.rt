@@ -51,7 +51,7 @@ pub(crate) fn of_phase(measure: &Measure, phase: &Phase) -> u128
     ensures small { result ≤ 1 }
 {
     match *measure {
-        Measure::Returns => u128::from(!matches!(phase, Phase::Ready { at: 0, sent: 0 })),
+        Measure::Returns => u128::from(!phase.is_opening()),
         _ => 0,
     }
 }

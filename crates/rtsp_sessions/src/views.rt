@@ -53,7 +53,7 @@ impl SessionView {
             id: life.id.number(),
             conn: life.conn,
             expires: life.expires,
-            phase: Phase::Ready { at: 0, sent: 0 },
+            phase: Phase::OPENING,
             binding: None,
             admissions: Admissions::new(),
         }

@@ -5,7 +5,7 @@ use Rattle.std.specs.List.{list_any}
 use Rattle.std.proofs.lemmas.List.{append-nil}
 use Rattle.rtsp_grammar.specs.Header.{HeaderText}
 use Rattle.rtsp_grammar.specs.declared.message.Response.{Response}
-use Rattle.rtsp_book.specs.Sessions.{is_ready}
+use Rattle.rtsp_record.specs.Rules.{is_ready}
 use Rattle.rtsp_state.specs.declared.words.Field.TheVariants as fields
 use Rattle.rtsp_state.specs.declared.method.Method.{Method}
 use Rattle.rtsp_state.specs.declared.method.Method.TheVariants as methods

@@ -20,7 +20,7 @@ use Rattle.rtsp_transport.specs.declared.picks.Pick.TheVariants as picks
 use Rattle.rtsp_content.specs.PresentationValue.{PresentationValue}
 use Rattle.rtsp_content.specs.TrackValue.{TrackValue}
 use Rattle.rtsp_content.specs.Rate.{rate_of}
-use Rattle.rtsp_book.specs.Sessions.{is_ready}
+use Rattle.rtsp_record.specs.Rules.{is_ready}
 use Rattle.rtsp_state.specs.declared.request.Name.{Name}
 use Rattle.rtsp_state.specs.declared.request.Name.TheVariants as names
 use Rattle.rtsp_state.specs.Values.{joined_in, specs_in}

@@ -9,7 +9,7 @@ use Rattle.rtsp_state.specs.declared.plan.Plan.{Plan}
 use Rattle.rtsp_state.specs.declared.plan.Plan.TheVariants as plans
 use Rattle.rtsp_text.specs.Results.{◌>>=◌}
 use Rattle.rtsp_state.specs.Fault.{must}
-use Rattle.rtsp_book.specs.Sessions.{is_ready}
+use Rattle.rtsp_record.specs.Rules.{is_ready}
 use Rattle.rtsp_book.specs.declared.steps.Step.TheVariants as steps
 use Rattle.rtsp_state.specs.declared.step_plan.Details.TheVariants as details
 use Rattle.rtsp_state.specs.Response.{without_session}

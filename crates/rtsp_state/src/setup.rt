@@ -17,7 +17,6 @@ use crate::status::Status;
 use crate::values::{joined_in, specs_in};
 use rtsp_book::SessionView;
 use rtsp_grammar::Headers;
-use rtsp_record::Phase;
 use rtsp_transport::{Pick, Spec, pick};
 use std::alloc::Global;
 
@@ -27,7 +26,7 @@ fn may_set_up(alloc: Global, presentation: u16, view: Option<&SessionView>) -> R
     let Some(view) = view else {
         return Ok(());
     };
-    let ready = matches!(view.phase(), Phase::Ready { .. });
+    let ready = view.phase().is_ready();
     must(ready, Status::MethodNotValid)?;
     let streams = streams_of(alloc, view)?;
     must(

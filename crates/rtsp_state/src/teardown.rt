@@ -15,7 +15,6 @@ use crate::request::Target;
 use crate::status::Status;
 use crate::step_plan::{Details, StepPlan};
 use rtsp_book::{SessionView, Step};
-use rtsp_record::Phase;
 use std::alloc::Global;
 
 fn teardown_presentation(
@@ -53,7 +52,7 @@ fn teardown_track(
     must(!is_other(presentation, &streams), Status::SessionNotFound)?;
     must(has_track(track, &streams), Status::MethodNotValid)?;
     let only = streams.len() <= 1;
-    let ready = matches!(view.phase(), Phase::Ready { .. });
+    let ready = view.phase().is_ready();
     must(ready || only, Status::MethodNotValid)?;
     let done = if only {
         context.start.without_session()

@@ -11,7 +11,6 @@ use crate::receipts::Receipt;
 use crate::refusals::Refusal;
 use crate::reply::case::Case;
 use crate::reply::returning::{drop_stream, free_address, free_rate};
-use crate::reply::sessions::is_ready;
 use crate::steps::{Commit, Step};
 use rtsp_record::{Binding, Record, Setup, Stream};
 use rtsp_sessions::{BookRep, Measure, SessionView, Startup};
@@ -20,7 +19,7 @@ use rtsp_sessions::{BookRep, Measure, SessionView, Startup};
 fn is_wrong(view: &SessionView, admission: u64, stream: Stream) -> bool
     ensures { result ≡ is_wrong_commit admission stream view.now.1 }
 {
-    !is_ready(&view.phase())
+    !view.phase().is_ready()
         || view.under(admission).stream.is_some()
         || view.count(&Measure::Elsewhere(stream)) > 0
 }

@@ -11,7 +11,6 @@ use crate::refusals::Refusal;
 use crate::reply::case::Case;
 use crate::reply::holding::has_this;
 use crate::reply::returning::{end, give_back, unbind};
-use crate::reply::sessions::is_ready;
 use crate::steps::{Chain, Step};
 use rtsp_record::{Holding, Record, Thing};
 use rtsp_sessions::{BookRep, Measure, SessionView};
@@ -88,7 +87,7 @@ impl<'a, B: BookRep> Case<'a, B> {
     {
         let view = self.living(session)?;
         let is_only = view.count(&Measure::OtherTracks(track)) == 0;
-        if !is_only && !is_ready(&view.phase()) {
+        if !is_only && !view.phase().is_ready() {
             return Err(Refusal::WrongState);
         }
         let Some((admission, held)) = view.with_track(track) else {

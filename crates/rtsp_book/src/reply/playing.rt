@@ -9,7 +9,6 @@ ghost use Rattle.rtsp_book.specs.Replies.{answer};
 use crate::receipts::Receipt;
 use crate::refusals::Refusal;
 use crate::reply::case::Case;
-use crate::reply::sessions::is_ready;
 use crate::steps::{Play, Step};
 use rtsp_record::{Phase, Record, Renewal, Transition};
 use rtsp_sessions::{BookRep, Measure, SessionView};
@@ -73,7 +72,7 @@ impl<'a, B: BookRep> Case<'a, B> {
             return Err(Refusal::WrongState);
         }
         let old = view.phase();
-        if is_ready(&old) {
+        if old.is_ready() {
             return Ok(());
         }
         let new = Phase::Ready {

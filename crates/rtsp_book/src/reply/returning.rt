@@ -6,7 +6,6 @@ ghost use Rattle.rtsp_sessions.specs.Lookups.{as_binding};
 ghost use Rattle.rtsp_book.specs.Returns.{dropping, freeing, freeing_rate, giving_back, resetting, unbinding, ending};
 
 use crate::receipts::Receipt;
-use crate::reply::sessions::is_opening;
 use rtsp_record::{
     Admission, Binding, Holding, Id, Life, Phase, Record, Setup, Stream, Thing, Transition,
 };
@@ -76,11 +75,11 @@ fn reset(made: &mut Receipt, session: u64, phase: Phase)
     requires { length made.old + length (resetting session phase) ≤ 51 }
     ensures { made.new ≡ made.old ++ resetting session phase }
 {
-    if !is_opening(&phase) {
+    if !phase.is_opening() {
         made.push(Record::Move(Transition {
             session,
             from: phase,
-            to: Phase::Ready { at: 0, sent: 0 },
+            to: Phase::OPENING,
         }));
     }
 }

@@ -4,7 +4,7 @@ ghost use Rattle.std.specs.Prelude.{◌≡◌, ◌<◌, ◌↔◌, Some, None, I
 ghost use Rattle.std.specs.FinMap.{empty};
 ghost use Rattle.rtsp_record.specs.Books.{opening, opened};
 ghost use Rattle.rtsp_record.specs.Sums.{of_session, streams, is_opening};
-ghost use Rattle.rtsp_record.specs.Rules.{alike, IsReady, IsPlaying, Own, MayHold, MayFree, MayAdd, MayDrop, MayMove};
+ghost use Rattle.rtsp_record.specs.Rules.{alike, Own, MayHold, MayFree, MayAdd, MayDrop, MayMove};
 ghost use Rattle.rtsp_sessions.specs.Plain.{session_in};
 
 use crate::admissions::Admissions;
@@ -54,10 +54,7 @@ fn is_opened(view: &SessionView, life: &Life) -> bool
     if view.id() != id || view.conn() != life.conn || view.expires() != life.expires {
         return false;
     }
-    if view.phase() != (Phase::Ready { at: 0, sent: 0 }) {
-        return false;
-    }
-    if view.binding().is_some() {
+    if !view.phase().is_opening() || view.binding().is_some() {
         return false;
     }
     is_empty(view.admissions())
@@ -90,23 +87,11 @@ fn may_free(view: &SessionView, admission: u64, thing: &Thing) -> bool
     alike(thing, &held) == Some(*thing) && held.stream.is_none()
 }
 
-fn is_ready(phase: &Phase) -> bool
-    ensures { IsTrue result ↔ IsReady phase.now }
-{
-    matches!(phase, Phase::Ready { .. })
-}
-
-fn is_playing(phase: &Phase) -> bool
-    ensures { IsTrue result ↔ IsPlaying phase.now }
-{
-    matches!(phase, Phase::Playing { .. })
-}
-
 fn may_add(view: &SessionView, admission: u64, stream: &Stream) -> bool
     ensures { IsTrue result ↔ MayAdd view.now.1 admission stream.now }
 {
     let held = view.under(admission);
-    is_ready(&view.phase())
+    view.phase().is_ready()
         && held.rate.is_some()
         && held.address.is_some()
         && held.stream.is_none()
@@ -117,11 +102,11 @@ fn may_drop(view: &SessionView, admission: u64, stream: &Stream) -> bool
     ensures { IsTrue result ↔ MayDrop view.now.1 admission stream.now }
 {
     let held = view.under(admission);
-    is_ready(&view.phase()) && held.stream == Some(*stream)
+    view.phase().is_ready() && held.stream == Some(*stream)
 }
 
 fn may_move(view: &SessionView, from: &Phase, to: &Phase) -> bool
     ensures { IsTrue result ↔ MayMove view.now.1 from.now to.now }
 {
-    view.phase() == *from && (!is_playing(to) || view.count(&Measure::Streams) > 0)
+    view.phase() == *from && (!to.is_playing() || view.count(&Measure::Streams) > 0)
 }

@@ -54,13 +54,13 @@ impl Rows {
     fn is_free_pair(&self, whole: &Whole, first: u16) -> bool
         ensures { IsTrue result ↔ IsFree whole.now self.now (Pair first) }
     {
-        has_pair(whole, first) && self.is_pair_free(u32::from(first))
+        whole.has_pair(first) && self.is_pair_free(u32::from(first))
     }
 
     fn is_free_port(&self, whole: &Whole, port: u16) -> bool
         ensures { IsTrue result ↔ IsFree whole.now self.now (Port port) }
     {
-        has_port(whole, port) && self.is_port_free(u32::from(port))
+        whole.has_port(port) && self.is_port_free(u32::from(port))
     }
 
     fn is_free_chan(&self, whole: &Whole, conn: u64, first: u8) -> bool
@@ -77,27 +77,6 @@ impl Rows {
         let held = self.amount(&Measure::Rates);
         held <= uplink && u128::from(bits) <= uplink - held
     }
-}
-
-// Whether the pair is one of the whole.
-fn has_pair(whole: &Whole, first: u16) -> bool
-    ensures { IsTrue result ↔ InWhole whole.now (Pair first) }
-{
-    if first < whole.first_port {
-        return false;
-    }
-    let past = first - whole.first_port;
-    if past % 2 == 1 {
-        return false;
-    }
-    past / 2 < whole.pairs
-}
-
-// Whether the port is one of the whole.
-fn has_port(whole: &Whole, port: u16) -> bool
-    ensures { IsTrue result ↔ InWhole whole.now (Port port) }
-{
-    port >= whole.first_port && u32::from(port - whole.first_port) < 2 * u32::from(whole.pairs)
 }
 
 // Whether channels begin at an even number.
