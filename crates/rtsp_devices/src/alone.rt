@@ -12,8 +12,8 @@ use crate::standing_clock::StandingClock;
 use rtsp_book::{Kept, Receipt};
 use rtsp_content::Table;
 use rtsp_engine::{Asker, ByteIn, ByteOut, Desk, ServeEnd, law_owns_all, law_served_grows};
-use rtsp_lanes::whole_of;
 use rtsp_lock::{LockBook, open};
+use rtsp_threads::whole_of;
 use std::alloc::{AllocError, Global};
 use std::sync::Wait;
 

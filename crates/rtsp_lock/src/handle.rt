@@ -5,7 +5,9 @@ ghost use Rattle.std.specs.Arc.{arc_value};
 ghost use Rattle.rtsp_lock.specs.Calls.{IsSeatOf, SameSeat, Looked, LookedAndMade, Drew, Forgot, Checked, Relieved, Made, seat_view};
 ghost use Rattle.rtsp_lock.specs.Tallies.{IsTallyOf};
 
-use rtsp_lock::{BookLock, BookSeat, Tally};
+use crate::lock::BookLock;
+use crate::seat::BookSeat;
+use crate::tally::Tally;
 use std::sync::{Arc, Wait};
 
 /// A seat together with the lock that it is of. It may go to another thread.

@@ -3,9 +3,8 @@
 ghost use Rattle.std.specs.Arc.{arc_value};
 ghost use Rattle.rtsp_lock.specs.Calls.{IsSeatOf, SameSeat};
 
-use crate::handle::BookHandle;
 use rtsp_content::Table;
-use rtsp_lock::{BookLock, BookSeat};
+use rtsp_lock::{BookHandle, BookLock, BookSeat};
 use std::alloc::Global;
 use std::net::{Net, TcpListener, TcpStream};
 use std::rt::Clock;
