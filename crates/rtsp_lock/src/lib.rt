@@ -1,8 +1,9 @@
 //! One book for any number of threads, with one history.
 //!
-//! A `BookLock` has the book, and each thread has a `BookSeat` of it. A call of a seat finds a
-//! journal, is answered as an object of one thread is answered there, and leaves its entries behind
-//! it under the seat's actor. Whenever the lock is free, the book is the replay of its journal.
+//! A `BookLock` has the book, and each thread has a `BookSeat` of it; a `BookHandle` is the two in one.
+//! A call of a seat finds a journal, is answered as an object of one thread is answered there, and
+//! leaves its entries behind it under the seat's actor. Whenever the lock is free, the book is the
+//! replay of its journal.
 //!
 //! The history has every entry that a seat ever made, in order. It exists in contracts only. The
 //! journal has its book, and is shorter: `forget` leaves the sessions out that have ended, and
@@ -17,6 +18,7 @@
 
 #![tactic(auto)]
 
+mod handle;
 mod laws;
 mod lock;
 mod marks;
@@ -27,6 +29,7 @@ mod seat;
 mod tally;
 mod view;
 
+pub use handle::BookHandle;
 pub use laws::{
     law_abreast, law_acted, law_actors_differ, law_checked, law_draws_differ, law_first_stood,
     law_forgot, law_handed_out, law_history, law_history_answers, law_history_lasts, law_later,
@@ -36,7 +39,7 @@ pub use laws::{
 pub use lock::BookLock;
 pub use marks::{HandOutFault, Mark, Then};
 pub use names::Name;
-pub use opening::open;
+pub use opening::{open, open_book};
 pub use rule::LockBook;
 pub use seat::BookSeat;
 pub use tally::Tally;

@@ -11,7 +11,7 @@ use crate::service::Service;
 use rtsp_book::Receipt;
 use rtsp_engine::{Asker, Binder, Clock, Connection, PieceAnswerer, Plays, Shares, Words};
 use rtsp_grammar::MessageFault;
-use rtsp_lanes::BookHandle;
+use rtsp_lock::BookHandle;
 use rtsp_log::Event;
 use rtsp_pacing::NotedPlays;
 use rtsp_sockets::{Outlet, PieceClock, PortBinder, RandomWords};

@@ -12,7 +12,7 @@ use mio::net::TcpStream;
 use rtsp_content::Players;
 use rtsp_engine::{Asker, Connection, PieceIn, PieceReader, Reading, VisitEnd};
 use rtsp_grammar::MessageFault;
-use rtsp_lanes::BookHandle;
+use rtsp_lock::BookHandle;
 use rtsp_log::Event as LogEvent;
 use rtsp_sockets::{Loan, Outlet, prepare};
 use rtsp_threads::{Activity, PAUSE, PIECES, take_leave};

@@ -1,7 +1,7 @@
 //! Hears the RTCP that comes on a connection.
 
 use crate::service::Service;
-use rtsp_lanes::BookHandle;
+use rtsp_lock::BookHandle;
 use rtsp_pacing::{Report, hear, report_step};
 use std::sync::Wait;
 

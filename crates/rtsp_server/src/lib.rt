@@ -32,6 +32,7 @@ mod visiting;
 mod writing;
 
 pub use fault::ServerFault;
-pub use rtsp_lanes::{BookHandle, Lane, LaneTurn, PoolEnd, run_pool, whole_of};
+pub use rtsp_lock::BookHandle;
+pub use rtsp_threads::{Lane, LaneTurn, PoolEnd, run_pool, whole_of};
 pub use server::{Announce, Server, ServerEnd};
 pub use socket_lane::SocketLane;

@@ -6,7 +6,7 @@ use crossbeam_utils::CachePadded;
 use mio::Waker;
 use mio::net::TcpListener;
 use rtsp_content::{Operation, Server, Table};
-use rtsp_lanes::BookHandle;
+use rtsp_lock::BookHandle;
 use rtsp_log::{BATCH_LINES, Event, Log};
 use rtsp_metrics::{AnswerCounters, Counters, Counts};
 use rtsp_pacing::Bells;

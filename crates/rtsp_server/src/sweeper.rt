@@ -1,7 +1,7 @@
 //! The thread that ends sessions whose time is over, and keeps the journal as long as what lives.
 
 use crate::shared::Shared;
-use rtsp_lanes::BookHandle;
+use rtsp_lock::BookHandle;
 use rtsp_log::Event;
 use rtsp_sockets::PortBinder;
 use rtsp_threads::{HELD_TOLD_AFTER, SWEEP_EVERY, end_next_expired};

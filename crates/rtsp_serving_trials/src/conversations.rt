@@ -2,9 +2,9 @@
 
 use crate::devices::{Drawing, Noting, Ticking};
 use crate::server::{SERVER, Server, Talk, as_sent, converse};
-use rtsp_devices::{NoShares, PortSet};
 use rtsp_engine::law_served_grows;
 use rtsp_record::Phase;
+use rtsp_traits::{NoShares, PortSet};
 use std::alloc::Global;
 use std::sync::Wait;
 

@@ -4,7 +4,7 @@ use crate::history::SMALL;
 use crate::tone::tone;
 use rtsp_content::{Operation, Table};
 use rtsp_engine::{ShareSpent, Shares};
-use rtsp_lanes::{BookHandle, open_book};
+use rtsp_lock::{BookHandle, open_book};
 use rtsp_shares::ShareTable;
 use rtsp_sockets::{PortBinder, PortTable};
 use rtsp_threads::{

@@ -5,7 +5,7 @@ ghost use Rattle.rtsp_lock.specs.Calls.{seat_view};
 ghost use Rattle.rtsp_threads.specs.Looks.{TellsOf};
 
 use rtsp_engine::{ShareSpent, Shares};
-use rtsp_lanes::BookHandle;
+use rtsp_lock::BookHandle;
 use rtsp_shares::{Living, ShareTable};
 use std::sync::{Mutex, Wait};
 

@@ -8,8 +8,7 @@ use crate::limits::SWEEP_SESSIONS;
 use rtsp_book::Kept;
 use rtsp_engine::Binder;
 use rtsp_expiry::{Swept, end_all, hang_up, sweep};
-use rtsp_lanes::BookHandle;
-use rtsp_lock::LockBook;
+use rtsp_lock::{BookHandle, LockBook};
 use std::sync::{Arc, Wait};
 
 // Takes leave of a connection, in a few steps.

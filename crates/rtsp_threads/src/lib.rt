@@ -1,8 +1,9 @@
 //! What the threads of a server go by, beside the sockets of their players.
 //!
 //! `limits` has the numbers, `descriptors` what the system allows. `acceptor` is where connections come from, `gate` says which are let in,
-//! `activity` when one was heard of, `hearing_reader` what it begins with. `lane_shares` is what an
-//! address may have of the sessions, `relieving` keeps the journal from filling, `leaving` ends
+//! `activity` when one was heard of, `hearing_reader` what it begins with. `pool` runs a thread for each
+//! lane, whatever a lane does, and `holdings` is what their book is opened over. `lane_shares` is what
+//! an address may have of the sessions, `relieving` keeps the journal from filling, `leaving` ends
 //! sessions. `signals` and `stop_bell` are how threads are asked to end.
 
 #![tactic(auto)]
@@ -12,9 +13,11 @@ mod activity;
 mod descriptors;
 mod gate;
 mod hearing_reader;
+mod holdings;
 mod lane_shares;
 mod leaving;
 mod limits;
+mod pool;
 mod relieving;
 mod scribe;
 mod scribe_bell;
@@ -26,6 +29,7 @@ pub use activity::Activity;
 pub use descriptors::{connections_for, descriptor_limit};
 pub use gate::{Gate, Refused};
 pub use hearing_reader::HearingReader;
+pub use holdings::whole_of;
 pub use lane_shares::LaneShares;
 pub use leaving::{close_book, end_expired, end_next_expired, take_leave};
 pub use limits::{
@@ -33,6 +37,7 @@ pub use limits::{
     MESSAGE_LIMIT, PAUSE, PIECE, PIECES, SIGNALS_EVERY, SILENCE_LIMIT, STANDING_LIMIT, STOP_LIMIT,
     SWEEP_EVERY, SWEEP_SESSIONS, TURN_EVERY, WAITS,
 };
+pub use pool::{Lane, LaneTurn, PoolEnd, run_pool};
 pub use relieving::{ask_for_room, make_room};
 pub use scribe::Scribe;
 pub use scribe_bell::ScribeBell;

@@ -4,11 +4,11 @@
 ghost use Rattle.std.specs.Prelude.{IfOk};
 ghost use Rattle.rtsp_record.specs.Choices.{HasPorts};
 
+use crate::devices::{Conversation, serve_alone};
 use crate::serving::run_serve;
 use rtsp_book::PlainBook;
 use rtsp_command_line::{CommandLine, Exit, read_words};
 use rtsp_content::{EXAMPLE, Operation, Table, TableFault};
-use rtsp_devices::{Conversation, serve_alone};
 use rtsp_engine::{ByteOut, CountedReader, CountedWriter, ServeEnd, StreamFault, TURNS};
 use rtsp_grammar::MessageFault;
 use rtsp_journal_text::{JournalFault, book_text, read_journal, write_journal};

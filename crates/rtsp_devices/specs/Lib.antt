@@ -1,5 +1,0 @@
-pub mod Alone
-pub mod CountedWords
-pub mod Has
-pub mod NoShares
-pub mod PortSet

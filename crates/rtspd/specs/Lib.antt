@@ -1,0 +1,4 @@
+pub mod Alone
+pub mod CountedWords
+pub mod Has
+pub mod PortSet
