@@ -14,13 +14,13 @@ use Rattle.rtsp_engine.specs.DeskAnswers.{EndsAt}
 use Rattle.rtsp_engine.specs.Numbers.{EndsCleanly}
 use Rattle.rtsp_engine.specs.Served.{line, parts}
 use Rattle.rtsp_content.specs.TableValue.{TableValue}
-use Rattle.rtspd.specs.declared.devices.port_set.PortSet.{PortSet}
+use Rattle.rtsp_traits.specs.declared.port_set.PortSet.{PortSet}
 use Rattle.rtspd.specs.declared.devices.counted_words.CountedWords.{CountedWords}
 use Rattle.rtspd.specs.declared.devices.standing_clock.StandingClock.{StandingClock}
 use Rattle.rtspd.specs.declared.devices.no_plays.NoPlays.{NoPlays}
 use Rattle.rtsp_traits.specs.declared.no_shares.NoShares.{NoShares}
 use Rattle.rtspd.specs.Alone.{stdio_devices, IsWholeOf, IsFresh, ServedAlone}
-use Rattle.rtspd.specs.PortSet.{NoneBound}
+use Rattle.rtsp_traits.specs.PortSet.{NoneBound}
 
 -- a seat that has just opened a lock and drawn a number
 pub record IsNew (w : Whole) (v : View) : Type 0 where

@@ -17,13 +17,13 @@ use Rattle.rtsp_engine.specs.Served.{line, parts}
 use Rattle.rtsp_engine.specs.declared.desk.Asker.{Asker}
 use Rattle.rtsp_engine.specs.declared.desk.Desk.{Desk}
 use Rattle.rtsp_engine.specs.declared.serving.ServeEnd.{ServeEnd}
-use Rattle.rtspd.specs.declared.devices.port_set.PortSet.{PortSet}
+use Rattle.rtsp_traits.specs.declared.port_set.PortSet.{PortSet}
 use Rattle.rtspd.specs.declared.devices.counted_words.CountedWords.{CountedWords}
 use Rattle.rtspd.specs.declared.devices.standing_clock.StandingClock.{StandingClock}
 use Rattle.rtspd.specs.declared.devices.no_plays.NoPlays.{NoPlays}
 use Rattle.rtsp_traits.specs.declared.no_shares.NoShares.{NoShares}
-use Rattle.rtspd.specs.PortSet as port_set
-use Rattle.rtspd.specs.PortSet.{NoneBound}
+use Rattle.rtsp_traits.specs.PortSet as port_set
+use Rattle.rtsp_traits.specs.PortSet.{NoneBound}
 use Rattle.rtspd.specs.CountedWords as counted_words
 use Rattle.rtsp_traits.specs.NoShares as no_shares
 

@@ -1,4 +1,2 @@
 pub mod Alone
 pub mod CountedWords
-pub mod Has
-pub mod PortSet

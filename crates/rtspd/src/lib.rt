@@ -4,9 +4,8 @@
 //! `running` runs a command line of rtsp_command_line: the server behind standard input and output
 //! is that of `devices`; `serving` is that of a socket, and `reasons` tells why there is none.
 //!
-//! The definitions of `specs/` are those of `devices`, and read in this order: PortSet (which ports
-//! are bound), Has (what of that an admission changes), CountedWords (words that are counted), Alone
-//! (how one connection is served from a book of its own).
+//! The definitions of `specs/` are those of `devices`, and read in this order: CountedWords (words
+//! that are counted), Alone (how one connection is served from a book of its own).
 
 #![tactic(auto)]
 
@@ -16,10 +15,11 @@ mod running;
 mod serving;
 
 pub use devices::{
-    Conversation, CountedWords, NoPlays, PEER, PortSet, StandingClock, law_admitted_gains_ports,
-    law_alone_has_places, law_ports_show, law_refused_keeps_ports, serve_alone,
+    Conversation, CountedWords, NoPlays, PEER, StandingClock, law_alone_has_places, serve_alone,
 };
 pub use reasons::tell_reasons;
 pub use rtsp_command_line::{CommandLine, Exit, read_words};
-pub use rtsp_traits::NoShares;
+pub use rtsp_traits::{
+    NoShares, PortSet, law_admitted_gains_ports, law_ports_show, law_refused_keeps_ports,
+};
 pub use running::{run_program, run_words};

@@ -6,14 +6,13 @@ ghost use Rattle.rtspd.specs.Alone.{ServedAlone};
 
 use crate::devices::counted_words::CountedWords;
 use crate::devices::no_plays::NoPlays;
-use crate::devices::port_set::PortSet;
 use crate::devices::standing_clock::StandingClock;
 use rtsp_book::{Kept, Receipt};
 use rtsp_content::Table;
 use rtsp_engine::{Asker, ByteIn, ByteOut, Desk, ServeEnd, law_owns_all, law_served_grows};
 use rtsp_lock::{LockBook, open};
 use rtsp_server::whole_of;
-use rtsp_traits::NoShares;
+use rtsp_traits::{NoShares, PortSet};
 use std::alloc::{AllocError, Global};
 use std::sync::Wait;
 

@@ -1,5 +1,5 @@
-use Rattle.rtspd.specs.Has.{has}
-use Rattle.rtspd.proofs.devices.laws.law_admitted_gains_ports.Goals as goal
+use Rattle.rtsp_traits.specs.Has.{has}
+use Rattle.rtsp_traits.proofs.laws.law_admitted_gains_ports.Goals as goal
 
 pub returns : goal.returns
 returns c = λ granted s t run.

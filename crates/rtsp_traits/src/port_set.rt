@@ -1,9 +1,9 @@
 //! A binder that opens no socket.
 
 ghost use Rattle.std.specs.Prelude.{◌≡◌, ◌↔◌, IfOk, IsTrue, Some, None, slice_get};
-ghost use Rattle.rtspd.specs.PortSet.{calls, IsOwnPair, IsOwnPort, pair_place, port_place, NoneBound, IsOpenPair, IsOpenPort};
+ghost use Rattle.rtsp_traits.specs.PortSet.{calls, IsOwnPair, IsOwnPort, pair_place, port_place, NoneBound, IsOpenPair, IsOpenPort};
 
-use rtsp_engine::{BindFault, Binder};
+use rtsp_admit::{BindFault, Binder};
 use std::alloc::{AllocError, Global};
 
 /// The ports that are bound, pairs and single ones, each with its admission. No socket is opened.

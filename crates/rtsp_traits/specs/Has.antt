@@ -8,8 +8,8 @@ use Rattle.rtsp_book.specs.declared.refusals.Refusal.{Refusal}
 use Rattle.rtsp_admit.specs.Runs.{State, Admits}
 use Rattle.rtsp_admit.specs.Addresses.{is_among, Committed, has_after}
 use Rattle.rtsp_admit.specs.Binder.{freed_addresses}
-use Rattle.rtspd.specs.declared.devices.port_set.PortSet.{PortSet}
-use Rattle.rtspd.specs.PortSet.{calls, slot}
+use Rattle.rtsp_traits.specs.declared.port_set.PortSet.{PortSet}
+use Rattle.rtsp_traits.specs.PortSet.{calls, slot}
 
 -- the address is one of the set's, where it has so many ports
 abbrev pub is_own : ℕ → Thing → Bool

@@ -3,7 +3,7 @@ use Rattle.std.specs.Prelude.{◌≡◌, ◌≢◌, ◌≤◌, ℕ, ◌+◌, ◌
 use Rattle.rtsp_record.specs.declared.holdings.Thing.{Thing}
 use Rattle.rtsp_record.specs.declared.holdings.Thing.TheVariants.{Pair, Port, Chan, Rate}
 use Rattle.rtsp_admit.specs.Binder.{Calls, raised}
-use Rattle.rtspd.specs.declared.devices.port_set.PortSet.{PortSet}
+use Rattle.rtsp_traits.specs.declared.port_set.PortSet.{PortSet}
 
 -- a pair of the set begins at its first port, or some pairs above it
 abbrev pub IsOwnPair : ℕ → ℕ → Type 0

@@ -8,9 +8,9 @@ use Rattle.rtsp_record.specs.declared.holdings.Thing.TheVariants.{Pair, Port, Ch
 use Rattle.rtsp_record.specs.Rules.{is_same_thing}
 use Rattle.rtsp_record.proofs.SameWords.{same_thing}
 use Rattle.rtsp_admit.specs.Addresses.{is_address, ShowsAddresses}
-use Rattle.rtspd.specs.declared.devices.port_set.PortSet.{PortSet}
-use Rattle.rtspd.specs.PortSet.{calls, IsOwnPair, IsOwnPort, pair_place, port_place, slot, IsBoundUnder, OnlyAt, Binds, Fails, Unbinds}
-use Rattle.rtspd.specs.Has.{is_own, is_of, has}
+use Rattle.rtsp_traits.specs.declared.port_set.PortSet.{PortSet}
+use Rattle.rtsp_traits.specs.PortSet.{calls, IsOwnPair, IsOwnPort, pair_place, port_place, slot, IsBoundUnder, OnlyAt, Binds, Fails, Unbinds}
+use Rattle.rtsp_traits.specs.Has.{is_own, is_of, has}
 
 -- Tests.
 
