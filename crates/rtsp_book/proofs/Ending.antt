@@ -132,7 +132,7 @@ resetting_run : (s : ℕ) (f : Session) → Run (resetting s f.phase) f (record 
 resetting_run s f =
     elim (is_opening f.phase) as (λ t. is_opening f.phase ≡ t → Run (cond t [] (moves s f.phase opening ∷ [])) f (record f { phase = opening })) [
       | true ↦ λ is. run-to [] f f (record f { phase = opening }) (ap (λ p. record f { phase = p }) (is_at_opening f.phase is)) (run-none f)
-      | false ↦ λ off. record { own = (record { phase = refl; stream = λ p. absurd p }, tt); ends = refl }
+      | false ↦ λ off. record { own = (record { phase = refl; stream = λ p. absurd cc }, tt); ends = refl }
     ] refl
 
 unbinding_run : (s : ℕ) (f : Session) → Run (unbinding s f.binding) f (record f { binding = None })
@@ -150,7 +150,7 @@ ending_own w s f ok =
     let f2 : Session = record f1 { binding = None } in
     let es = flat_map (giving_back s) (entries f.admissions) in
     let close = closes s f.id f.conn f.expires ∷ [] in
-    let givable : Givable f0 = record { ready = tt; normal = ok.normal; proper = λ a x some. (ok.in_whole a x some).1 } in
+    let givable : Givable f0 = record { ready = refl; normal = ok.normal; proper = λ a x some. (ok.in_whole a x some).1 } in
     let run = run-append (resetting s f.phase) (es ++ unbinding s f.binding) f f0 f2 (resetting_run s f)
     (run-append es (unbinding s f.binding) f0 f1 f2 (giving_all s f0 (entries f.admissions) givable (entries_sorted f.admissions) (λ a. get-entries f.admissions a)) (unbinding_run s f1)) in
     closed (resetting s f.phase) es (unbinding s f.binding) run

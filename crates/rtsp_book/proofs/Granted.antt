@@ -202,14 +202,14 @@ module _ (w : Whole) (n : ℕ) (b : Book) (ok : Sound w b) (room : n + owed b �
       let q = Ready (point f.phase unit_ms now) (sent_with_due f.phase unit_ms now) in
       elim (is_ready f.phase) as (λ t. is_full w n b (cond t [] (moves s f.phase q ∷ [])) ≡ false → IsGranted w n b (cond t [] (moves s f.phase q ∷ []))) [
         | true ↦ λ _. nothing_made
-        | false ↦ λ full. lone_one s (moves s f.phase q) refl (own_move s f q is (λ p. absurd p)) full
+        | false ↦ λ full. lone_one s (moves s f.phase q) refl (own_move s f q is (λ p. absurd cc)) full
       ] full
 
   finished : (s unit_ms now : ℕ) (f : Session) (p : Phase) → get b s ≡ Some f → f.phase ≡ p → is_full w n b (finishing s unit_ms now p) ≡ false → IsGranted w n b (finishing s unit_ms now p)
   finished s unit_ms now f (Ready at sent) is same full = nothing_made
   finished s unit_ms now f (Playing from stop sent since) is same full =
       lone_one s (moves s (Playing from stop sent since) (Ended stop (sent_with_due (Playing from stop sent since) unit_ms now))) refl
-      (subst (Own (moves s (Playing from stop sent since) (Ended stop (sent_with_due (Playing from stop sent since) unit_ms now)))) (sym is) (record { phase = same; stream = λ p. absurd p })) full
+      (subst (Own (moves s (Playing from stop sent since) (Ended stop (sent_with_due (Playing from stop sent since) unit_ms now)))) (sym is) (record { phase = same; stream = λ p. absurd cc })) full
   finished s unit_ms now f (Ended at sent) is same full = nothing_made
 
   touched : (s until : ℕ) (f : Session) → get b s ≡ Some f → is_full w n b (touching s f.expires until) ≡ false → IsGranted w n b (touching s f.expires until)

@@ -1,5 +1,6 @@
 //! What requests and answers are counted by.
 
+ghost use Rattle.std.specs.Prelude.{◌≡◌, ◌↔◌, IsTrue};
 ghost use Rattle.rtsp_metrics.specs.Kinds.{IsMethodOf, IsOutcomeOf, IsRefusalOf};
 
 /// The method of a request, as the figures name it.
@@ -37,22 +38,43 @@ pub enum Refusal {
     Other,
 }
 
+// Whether a text is this word.
+fn is_word(text: &[u8], word: &[u8]) -> bool
+    ensures { IsTrue result ↔ (text.now ≡ word.now) }
+{
+    text == word
+}
+
 impl Method {
     /// The method of this name; any other name is `Other`.
     pub fn of(name: &[u8]) -> Method
         ensures { IsMethodOf name.now result }
     {
-        match name {
-            b"OPTIONS" => Method::Options,
-            b"DESCRIBE" => Method::Describe,
-            b"SETUP" => Method::Setup,
-            b"PLAY" => Method::Play,
-            b"PAUSE" => Method::Pause,
-            b"TEARDOWN" => Method::Teardown,
-            b"GET_PARAMETER" => Method::GetParameter,
-            b"SET_PARAMETER" => Method::SetParameter,
-            _ => Method::Other,
+        if is_word(name, b"OPTIONS") {
+            return Method::Options;
         }
+        if is_word(name, b"DESCRIBE") {
+            return Method::Describe;
+        }
+        if is_word(name, b"SETUP") {
+            return Method::Setup;
+        }
+        if is_word(name, b"PLAY") {
+            return Method::Play;
+        }
+        if is_word(name, b"PAUSE") {
+            return Method::Pause;
+        }
+        if is_word(name, b"TEARDOWN") {
+            return Method::Teardown;
+        }
+        if is_word(name, b"GET_PARAMETER") {
+            return Method::GetParameter;
+        }
+        if is_word(name, b"SET_PARAMETER") {
+            return Method::SetParameter;
+        }
+        Method::Other
     }
 }
 
