@@ -1,5 +1,5 @@
 use Rattle.std.proofs.Common.{rules, refl}
-use Rattle.rtspd.proofs.Serving.{drawn_new, whole_is, bound_none, alone_served}
+use Rattle.rtspd.proofs.ServedAlone.{drawn_new, whole_is, bound_none, alone_served}
 use Rattle.rtspd.proofs.devices.alone.serve_alone.Goals as goal
 
 pub returns-clause-served : goal.returns-clause-served
