@@ -52,7 +52,6 @@ pub enum Front {
 }
 
 // The frame after this many bytes of empty lines.
-#[inline(never)]
 fn frame_front(alloc: Global, bytes: &[u8], blank: usize) -> Result<Front, MessageFault>
     requires front { IsBlank bytes.now blank }
     requires few { blank < 8192 }
