@@ -1,7 +1,6 @@
 -- What the replies rest on: look-ups as counts, and how long an end is.
-use Rattle.std.proofs.Common.{◌≡◌, ℕ, ◌+◌, ◌≤◌, ◌<◌, Bool, false, ◌||◌, List, [], ◌∷◌, ◌++◌, length, drop, flat_map, refl, sym, ◌∙◌, ap, subst, arith, add-one, drop-cons, append_assoc, length-append}
-use Rattle.std.specs.Prelude.{Option, Some, None, Ok, is_some, nat_lt, option_map, slice_get}
-use Rattle.std.proofs.lemmas.Bool.{or_parts}
+use Rattle.std.proofs.Common.{◌≡◌, ℕ, ◌+◌, ◌≤◌, Bool, false, List, [], ◌∷◌, ◌++◌, length, drop, flat_map, refl, sym, ◌∙◌, ap, subst, arith, add-one, drop-cons, append_assoc, length-append}
+use Rattle.std.specs.Prelude.{Option, Some, None, is_some, option_map, slice_get}
 use Rattle.std.proofs.lemmas.Option.{slice_get_within, get_or_from_slice_get}
 use Rattle.std.specs.FinMap.{get, entries, entries_sorted, get-entries}
 use Rattle.rtsp_record.specs.declared.holdings.Whole.{Whole}
@@ -10,25 +9,21 @@ use Rattle.rtsp_book.specs.declared.steps.Commit.{Commit}
 use Rattle.rtsp_record.specs.declared.changes.Record.{Record}
 use Rattle.rtsp_record.specs.declared.changes.Record.TheVariants.{Open, Hold, Add, Bind}
 use Rattle.rtsp_record.specs.Records.{holds}
-use Rattle.rtsp_record.specs.declared.payloads.Life.{Life}
 use Rattle.rtsp_record.specs.Books.{Session, Book}
-use Rattle.rtsp_record.specs.Sums.{living, amount, with_id, owed}
+use Rattle.rtsp_record.specs.Sums.{owed}
 use Rattle.rtsp_record.specs.Rules.{Own, AllAllowed, IsFree}
 use Rattle.rtsp_sessions.specs.Searches.{first_with}
 use Rattle.rtsp_sessions.specs.Lookups.{TakesNone, TakesNoMemory, session_at, number_of}
 use Rattle.rtsp_book.specs.Made.{committing, made}
-use Rattle.rtsp_book.specs.declared.steps.Step.{Step}
-use Rattle.rtsp_book.specs.Replies.{is_wrong_hold, is_wrong_commit, is_startup_taken, is_unready_commit, refusals, answer, is_growing, IsAskable}
-use Rattle.rtsp_book.specs.Laws.{IsGranted, GivesBack}
+use Rattle.rtsp_book.specs.Replies.{is_wrong_hold, is_wrong_commit, is_startup_taken, is_unready_commit}
 use Rattle.rtsp_record.proofs.Trims.{AllFine}
 use Rattle.rtsp_sessions.proofs.FirstRows.{first_found}
-use Rattle.rtsp_book.proofs.Tests.{none_there, no_more}
-use Rattle.rtsp_book.proofs.Granted.{accepted, made_granted, own_hold, committed}
+use Rattle.rtsp_book.proofs.Granted.{own_hold, committed}
 use Rattle.rtsp_record.specs.Sound.{SoundRow, Sound}
 use Rattle.rtsp_book.specs.Returns.{ending}
 use Rattle.rtsp_book.proofs.Runs.{OwnAll, Giving, all_lone, lone_allowed}
 use Rattle.rtsp_book.proofs.Ending.{ending_own, giving_ending}
-use Rattle.rtsp_book.proofs.Giving.{gives_few, gives_back, made_gives}
+use Rattle.rtsp_book.proofs.Giving.{gives_few}
 
 -- Look-ups.
 
@@ -84,15 +79,6 @@ seen : (s : ℕ) (o : Option Session) (q : Option (ℕ × Session)) → q ≡ op
 seen s None q is = ap is_some is
 seen s (Some f) q is = ap is_some is
 
--- a session has the number where its row is there
-pub lives_at : (b : Book) (s : ℕ) → is_some (session_at b s) ≡ is_some (get b s)
-lives_at b s = seen s (get b s) (session_at b s) refl
-
-pub open_allowed : (w : Whole) (b : Book) (l : Life) (rs : List Record) → (is_some (get b l.session) || nat_lt 0 (amount (with_id l.id) b)) ≡ false → living b < w.sessions → rs ≡ Open l ∷ [] → AllAllowed w b rs
-open_allowed w b l rs free few is =
-    let parts = or_parts (is_some (get b l.session)) (nat_lt 0 (amount (with_id l.id) b)) free in
-    subst (AllAllowed w b) (sym is) ((none_there (get b l.session) parts.0, record { id_free = no_more (amount (with_id l.id) b) parts.1; few = few }), tt)
-
 module _ (w : Whole) (n : ℕ) (b : Book) (ok : Sound w b) (room : n + owed b ≤ w.journal) where
   pub hold_allowed : (s a : ℕ) (x : Thing) (f : Session) (rs : List Record) → get b s ≡ Some f → is_wrong_hold a x f ≡ false → IsFree w b x → rs ≡ holds s a x ∷ [] → AllAllowed w b rs
   hold_allowed s a x f rs there right free is =
@@ -102,12 +88,6 @@ module _ (w : Whole) (n : ℕ) (b : Book) (ok : Sound w b) (room : n + owed b �
   commit_allowed c f rs there right free ready is = subst (AllAllowed w b) (sym is) (committed w n b ok room c f there right free ready)
 
 -- Answers of records, over any sound book.
-
--- what is answered may be recorded
-pub answer_granted : (w : Whole) (n : ℕ) (b : Book) (step : Step) (rs : List Record) → Sound w b → n + owed b ≤ w.journal → IsAskable step → answer w n b step ≡ Ok rs → IsGranted w n b rs
-answer_granted w n b step rs ok room ask is =
-    let h = accepted (refusals w n b step) (made w b step) rs is in
-    subst (IsGranted w n b) h.1 (made_granted w n b ok room step ask h.0)
 
 giving_frees : (s : ℕ) (r : Record) → Giving s r → TakesNone r
 giving_frees s (Open l) h = absurd h
@@ -119,11 +99,3 @@ giving_frees s r h = tt
 all_free : (s : ℕ) (rs : List Record) → AllFine (Giving s) rs → TakesNoMemory rs
 all_free s [] h = tt
 all_free s (r ∷ rs) h = (giving_frees s r h.0, all_free s rs h.1)
-
--- a step that isn't growing takes no memory, and each of its records is a return that was owed
-pub answer_gives : (w : Whole) (n : ℕ) (b : Book) (step : Step) (rs : List Record) → Sound w b → n + owed b ≤ w.journal → IsAskable step → is_growing step ≡ false → answer w n b step ≡ Ok rs → TakesNoMemory rs × GivesBack b rs
-answer_gives w n b step rs ok room ask grows is =
-    let h = accepted (refusals w n b step) (made w b step) rs is in
-    let allowed = (made_granted w n b ok room step ask h.0).allowed in
-    let gave = made_gives w b step grows in
-    subst (λ rs. TakesNoMemory rs × GivesBack b rs) h.1 (all_free gave.0 (made w b step) gave.1, gives_back w gave.0 b (made w b step) ok gave.1 allowed)

@@ -1,8 +1,7 @@
 -- Headers, one after another.
-use Rattle.std.proofs.Common.{◌≡◌, ℕ, suc, ◌+◌, ◌≤◌, Bool, true, false, List, [], ◌∷◌, ◌++◌, length, map, drop, slice_get, Some, sym, ap, ◌∙◌, arith, append_assoc, append-nil}
+use Rattle.std.proofs.Common.{◌≡◌, ℕ, suc, ◌+◌, Bool, true, false, List, [], ◌∷◌, ◌++◌, map, drop, slice_get, Some, sym, ap, ◌∙◌, arith, append_assoc}
 use Rattle.std.specs.Prelude.{◌||◌}
 use Rattle.std.specs.List.{list_any}
-use Rattle.std.proofs.lemmas.List.{drop_all}
 use Rattle.rtsp_grammar.specs.Header.{HeaderText}
 use Rattle.rtsp_grammar.proofs.PlaceLemmas.{drop_by}
 
@@ -16,14 +15,8 @@ module _ (test : HeaderText → Bool) (hs : List HeaderText) where
   pub needs_behind : (i : ℕ) (h : HeaderText) → slice_get hs i ≡ Some h → test h ≡ false → list_any test (drop i hs) ≡ list_any test hs → list_any test (drop (i + 1) hs) ≡ list_any test hs
   needs_behind i h at t so_far = sym (ap (λ (b : Bool). b || list_any test (drop (i + 1) hs)) t) ∙ sym (ap (list_any test) (drop_header hs i h at)) ∙ so_far
 
-  pub needs_none : (i : ℕ) → length hs ≤ i → list_any test (drop i hs) ≡ list_any test hs → false ≡ list_any test hs
-  needs_none i le so_far = sym (ap (list_any test) (drop_all i hs le)) ∙ so_far
-
 module _ (f : HeaderText → HeaderText) (hs : List HeaderText) where
   pub pushed_more : (i : ℕ) (h : HeaderText) (built next : List HeaderText) → slice_get hs i ≡ Some h → next ≡ built ++ f h ∷ [] → built ++ map f (drop i hs) ≡ map f hs → next ++ map f (drop (i + 1) hs) ≡ map f hs
   pushed_more i h built next at n so_far =
       ap (λ (xs : List HeaderText). xs ++ map f (drop (i + 1) hs)) n ∙ append_assoc built (f h ∷ []) (map f (drop (i + 1) hs))
       ∙ sym (ap (λ (xs : List HeaderText). built ++ map f xs) (drop_header hs i h at)) ∙ so_far
-
-  pub pushed_all : (i : ℕ) (built : List HeaderText) → length hs ≤ i → built ++ map f (drop i hs) ≡ map f hs → built ≡ map f hs
-  pushed_all i built le so_far = sym (append-nil built) ∙ sym (ap (λ (xs : List HeaderText). built ++ map f xs) (drop_all i hs le)) ∙ so_far

@@ -10,6 +10,4 @@ pub mod Quoted
 pub mod Spoken
 pub mod Lawful
 pub mod Along
-pub mod SameDesk
 pub mod NameLengths
-pub mod Lent

@@ -7,4 +7,3 @@ pub mod PartParameter
 pub mod Within
 pub mod Laws
 pub mod Repairing
-pub mod Understanding

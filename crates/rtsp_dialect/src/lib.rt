@@ -2,13 +2,12 @@
 //!
 //! GStreamer draws the number of Pipelined-Requests below 2^31, where the grammar has eight digits,
 //! and names its ports over UDP as RTSP 1.0 does, by `client_port`. `repair` makes of such a request
-//! the one that says the same by the grammar; `push_repaired` and `serve_repaired` have that
-//! answered, and `push_understood` and `push_lent` do so where the configuration's players are such.
+//! the one that says the same by the grammar, and `push_repaired` has that answered.
 //!
 //! The definitions of `specs/` read in this order: Startup (a number that is too long), ClientPort
 //! (ports in the terms of 1.0 and of 2.0), PartText and ClientPortText (the same in the text of a
 //! Transport header), Repair (a request), Within (what is within RFC 7826), Laws, Repairing (how
-//! repaired items are answered), Understanding (items at a desk, by the players).
+//! repaired items are answered).
 
 #![tactic(auto)]
 
@@ -20,10 +19,7 @@ mod repairing;
 mod request;
 mod startup;
 mod transport;
-mod understanding;
-mod visits;
 
 pub use laws::{law_repaired_is_within, law_repairs_to_itself, law_rest_stays, law_says_the_same};
-pub use repairing::{push_repaired, serve_repaired};
+pub use repairing::push_repaired;
 pub use request::repair;
-pub use understanding::{push_lent, push_understood};

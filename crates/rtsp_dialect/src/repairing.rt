@@ -3,12 +3,11 @@
 ghost use Rattle.std.specs.Prelude.{◌≡◌, ◌++◌, IfErr, OnOk, OnErr};
 ghost use Rattle.rtsp_grammar.specs.Answer.{IsUndecided};
 ghost use Rattle.rtsp_grammar.specs.declared.message.Item.{Item};
-ghost use Rattle.rtsp_engine.specs.Causes.{ReadFails, WriteFails, ClosesAtEnd, SpendsTurns};
-ghost use Rattle.rtsp_engine.specs.Served.{Puts, at, parts};
-ghost use Rattle.rtsp_dialect.specs.Repairing.{AnswersBehind, GivesUpBehind, TakesBehind, FaultsBehind, EndsBehind, TakesRepaired, FaultsRepaired, EndsRepaired};
+ghost use Rattle.rtsp_engine.specs.Served.{Puts, at};
+ghost use Rattle.rtsp_dialect.specs.Repairing.{AnswersBehind, GivesUpBehind, TakesBehind, FaultsBehind, TakesRepaired, FaultsRepaired};
 
 use crate::request::repair;
-use rtsp_engine::{Answerer, ByteIn, ByteOut, Connection, ServeEnd, serve_turns};
+use rtsp_engine::{Answerer, Connection};
 use rtsp_grammar::{Item, MessageFault, Request};
 use rtsp_state::Room;
 use std::alloc::{AllocError, Global};
@@ -66,24 +65,6 @@ impl<A: Answerer> Repairing<'_, A> {
     {
         connection.push(alloc, self, piece, room)
     }
-
-    // Serves a connection to its end. The other one stays the same one.
-    fn serve<I: ByteIn, O: ByteOut>(
-        &mut self,
-        alloc: Global,
-        reader: &mut I,
-        writer: &mut O,
-        turns: u64,
-    ) -> ServeEnd
-        ensures kept { self.new.answerer.ghost_name ≡ self.old.answerer.ghost_name }
-        ensures served { EndsBehind A.answers A.gives_up I.remaining O.contents result (parts reader.old writer.old self.old) (parts reader.new writer.new self.new) }
-        ensures read_fault { ReadFails result (I.failures reader.old) (I.failures reader.new) }
-        ensures write_fault { WriteFails result (O.failures writer.old) (O.failures writer.new) }
-        ensures closed { ClosesAtEnd result (I.remaining reader.new) }
-        ensures spent { SpendsTurns result turns (I.remaining reader.old) (I.remaining reader.new) }
-    {
-        serve_turns(alloc, self, reader, writer, turns)
-    }
 }
 
 /// Takes a piece of a connection's input as `Connection::push` does, and has the repaired items
@@ -103,24 +84,4 @@ pub fn push_repaired<A: Answerer>(
 {
     let mut repairing = Repairing { answerer };
     repairing.push(alloc, connection, piece, room)
-}
-
-/// Serves a connection to its end, with at most this many reads, as `serve_turns` does: what has
-/// been written is, in order, the answers to the repaired items that the bytes read spell.
-pub fn serve_repaired<A: Answerer, I: ByteIn, O: ByteOut>(
-    alloc: Global,
-    answerer: &mut A,
-    reader: &mut I,
-    writer: &mut O,
-    turns: u64,
-) -> ServeEnd
-    ensures served { EndsRepaired A.answers A.gives_up I.remaining O.contents result
-        (parts reader.old writer.old answerer.old) (parts reader.new writer.new answerer.new) }
-    ensures read_fault { ReadFails result (I.failures reader.old) (I.failures reader.new) }
-    ensures write_fault { WriteFails result (O.failures writer.old) (O.failures writer.new) }
-    ensures closed { ClosesAtEnd result (I.remaining reader.new) }
-    ensures spent { SpendsTurns result turns (I.remaining reader.old) (I.remaining reader.new) }
-{
-    let mut repairing = Repairing { answerer };
-    repairing.serve(alloc, reader, writer, turns)
 }

@@ -1,6 +1,6 @@
 -- A seat's entries grow by the records of the replies to the requests of its connection.
 use Rattle.std.proofs.Common.{◌≡◌, ℕ, List, [], ◌∷◌, ◌++◌, sym, ap, subst, append-nil, inl, inr, Ok, Err}
-use Rattle.std.specs.Prelude.{Option, Some, None, Result, OnOk, IfErr}
+use Rattle.std.specs.Prelude.{Option, Some, None}
 use Rattle.rtsp_grammar.specs.declared.fault.MessageFault.{MessageFault}
 use Rattle.rtsp_grammar.specs.declared.message.Item.{Item}
 use Rattle.rtsp_grammar.specs.declared.message.Item.TheVariants as items
@@ -32,7 +32,7 @@ use Rattle.rtsp_traits.specs.Devices.{Devices}
 use Rattle.rtsp_engine.specs.Drawing.{DrawsNumbers, LacksNumber}
 use Rattle.rtsp_engine.specs.Renewing.{Looks, LooksAgain, RenewsBy, Renews, renewal_at}
 use Rattle.rtsp_engine.specs.Served.{Output, Line, Served, Faulted, Gathered, BreaksOff, EndsFrom, with_text, answered_by}
-use Rattle.rtsp_engine.specs.Additions.{touch_records, renewal_records, setup_records, plan_records, found_records, response_records, lack_records, screen_records, item_records, lost_records, served_records, answered_records, fault_records, faulted_records, gathered_records, cut_records, end_records, GrowsBy, ServedGrows, Grows}
+use Rattle.rtsp_engine.specs.Additions.{touch_records, renewal_records, setup_records, plan_records, found_records, response_records, lack_records, screen_records, item_records, lost_records, served_records, answered_records, fault_records, faulted_records, gathered_records, cut_records, end_records, GrowsBy, ServedGrows}
 use Rattle.rtsp_engine.specs.declared.conducting.SetUp.{SetUp}
 use Rattle.rtsp_engine.specs.declared.conducting.SetUp.TheVariants.{NoShare, NoWord, NoNumber, Tried}
 use Rattle.rtsp_engine.specs.declared.desk.Asker.{Asker}
@@ -191,10 +191,3 @@ module _ {B W C P S : Type 0} (d : Devices B W C P S) where
 
     pub served_grows : ServedGrows d R
     served_grows = record { answered = grown_answered; faulted = grown_faulted; ended = grown_end }
-
-module _ {B W C P S : Type 0} (d : Devices B W C P S) (R : Type 0) where
-  -- a piece that was taken
-  pub pushed_grows : (pushed : Result (Unit {0}) MessageFault) (bytes rest : List ℕ) (s t : Output (Desk R B W C P S)) → ServedGrows d R
-      → OnOk pushed (Takes d bytes rest s t) → IfErr pushed (λ f. Faults d bytes f s t) → Grows d R s.answerer t.answerer
-  pushed_grows (Ok done) bytes rest s t law ok err = (answered_records d bytes rest s t ok, law.answered bytes rest s t ok)
-  pushed_grows (Err fault) bytes rest s t law ok err = (faulted_records d bytes fault s t err, law.faulted bytes fault s t err)

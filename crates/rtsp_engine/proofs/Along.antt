@@ -1,13 +1,9 @@
 -- What was answered by somebody is answered, too, by whatever of that stays from one item to the next.
-use Rattle.std.proofs.Common.{◌≡◌, ℕ, List, [], ◌∷◌, Some, Result, Ok, Err, OnOk, IfErr, refl, ◌∙◌, ap, subst, inl, inr}
+use Rattle.std.proofs.Common.{ℕ, List, [], ◌∷◌, ap, inl, inr}
 use Rattle.rtsp_grammar.specs.declared.fault.MessageFault.{MessageFault}
 use Rattle.rtsp_grammar.specs.declared.message.Item.{Item}
-use Rattle.rtsp_engine.specs.Desk.{service, served, state, SameParts}
-use Rattle.rtsp_engine.specs.DeskAnswers.{AnswersAt, GivesUpAt, Takes, Faults}
-use Rattle.rtsp_traits.specs.Devices.{Devices}
+use Rattle.rtsp_engine.specs.Desk.{served}
 use Rattle.rtsp_engine.specs.Served.{Output, Served, Answered, Faulted, FaultedAfter}
-use Rattle.rtsp_engine.specs.Serving.{Serving, AnswersFrom, GivesUpFrom, desk_serving}
-use Rattle.rtsp_engine.specs.declared.desk.Desk.{Desk}
 
 -- what stays of the answerer
 abbrev pub along : {S T : Type 0} → (S → T) → Output S → Output T
@@ -54,22 +50,3 @@ module _ {S T : Type 0} (R : S → Item → List ℕ → S → Type 0) (L : S �
     answered = answered_along bytes h.rest s (record { text = t.text; answerer = h.mid }) h.answered;
     faulted = faulted_along h.rest fault h.mid t.answerer h.faulted;
   }
-
-module _ {R B W C P S : Type 0} where
-  same_service : (s t : Desk R B W C P S) → SameParts s t → service t ≡ service s
-  same_service s t h = ap (λ z. served z.now t.asker) h.table ∙ ap (λ z. served s.table.now z) h.asker
-
-  module _ (d : Devices B W C P S) where
-    answers_from : (s t : Desk R B W C P S) (item : Item) (bytes : List ℕ) → AnswersAt d s item bytes t → AnswersFrom d (desk_serving s) item bytes (desk_serving t)
-    answers_from s t item bytes h = record { before = state s; after = state t; seen = refl; sees = refl; same = same_service s t h.1; answers = h.0 }
-
-    gives_up_from : (s t : Desk R B W C P S) (item : Item) → GivesUpAt d s item t → GivesUpFrom d (desk_serving s) item (desk_serving t)
-    gives_up_from s t item h = record { before = state s; after = state t; seen = refl; sees = refl; same = same_service s t h.1; gives_up = h.0 }
-
-    -- a piece that was taken from a desk
-    pub takes_from : (bytes rest : List ℕ) (s t : Output (Desk R B W C P S)) → Takes d bytes rest s t → Answered (AnswersFrom d) (GivesUpFrom d) bytes rest (along desk_serving s) (along desk_serving t)
-    takes_from bytes rest s t h = answered_along (AnswersAt d) (GivesUpAt d) (AnswersFrom d) (GivesUpFrom d) desk_serving answers_from gives_up_from bytes rest s t h
-
-    -- one with a fault
-    pub faults_from : (bytes : List ℕ) (fault : MessageFault) (s t : Output (Desk R B W C P S)) → Faults d bytes fault s t → FaultedAfter (AnswersFrom d) (GivesUpFrom d) bytes fault (along desk_serving s) (along desk_serving t)
-    faults_from bytes fault s t h = fault_along (AnswersAt d) (GivesUpAt d) (AnswersFrom d) (GivesUpFrom d) desk_serving answers_from gives_up_from bytes fault s t h

@@ -1,14 +1,14 @@
 -- How a visit to a connection goes on: what has been read since answers were last written, and what they are.
-use Rattle.std.proofs.Common.{◌≡◌, ◌<◌, ℕ, List, [], ◌++◌, Option, refl, sym, subst, ◌∙◌, append_assoc, append-nil, inl, inr}
-use Rattle.std.specs.Prelude.{None, Some, Result, Ok, Err, OnOk, OnErr, IfErr}
-use Rattle.std.specs.Io.KnownBytes.{Appends, Consumes, Keeps, IsAtEnd}
+use Rattle.std.proofs.Common.{◌≡◌, ℕ, List, [], ◌++◌, Option, refl, sym, subst, ◌∙◌, append_assoc, append-nil, inl, inr}
+use Rattle.std.specs.Prelude.{Some, Result, Ok, Err, OnOk, OnErr}
+use Rattle.std.specs.Io.KnownBytes.{Appends, Consumes, Keeps}
 use Rattle.rtsp_grammar.specs.Answer.{IsUndecided}
 use Rattle.rtsp_grammar.specs.declared.fault.MessageFault.{MessageFault}
 use Rattle.rtsp_grammar.specs.declared.message.Item.{Item}
-use Rattle.rtsp_engine.specs.Served.{Output, Line, Answered, Progress, FaultedAfter, LastBreaksOff, EndsFrom, Written, with_text, with_output, answered_by}
+use Rattle.rtsp_engine.specs.Served.{Line, Answered, Progress, FaultedAfter, LastBreaksOff, EndsFrom, Written, with_text, with_output}
 use Rattle.rtsp_engine.specs.Serving.{Serving}
-use Rattle.rtsp_engine.specs.Streams.{HasCause, WritesPart}
-use Rattle.rtsp_engine.specs.Visiting.{Goes, Visits, VisitsChain, Moves, Delivers, CountsRead, CountsWrite, ClosesAtEnd, ended, serve_end}
+use Rattle.rtsp_engine.specs.Streams.{WritesPart}
+use Rattle.rtsp_engine.specs.Visiting.{Goes, Visits, VisitsChain, Moves, Delivers, ended, serve_end}
 use Rattle.rtsp_engine.specs.declared.serving.ServeEnd.{ServeEnd}
 use Rattle.rtsp_engine.specs.declared.visiting.VisitEnd.{VisitEnd}
 use Rattle.rtsp_engine.specs.declared.visiting.VisitEnd.TheVariants.{More, Waits, Closed, ReadFault, WriteFault, Fault}
@@ -156,50 +156,3 @@ module _ (R : Serving → Item → List ℕ → Serving → Type 0) (L : Serving
     faulted = k.faulted;
     told = k.told;
   }
-
--- counts at an end once the last answers are written
-pub ended_counts_write : {E : Type 0} (r : Result (Unit {0}) E) (end : VisitEnd) (old new : ℕ) → HasCause old new r → (new ≡ old → CountsWrite end old new) → CountsWrite (ended r end) old new
-ended_counts_write (Ok done) end old new cause counts = counts cause
-ended_counts_write (Err fault) end old new cause counts = cause
-
-pub ended_counts_read : {E : Type 0} (r : Result (Unit {0}) E) (end : VisitEnd) (old new : ℕ) → CountsRead end old new → CountsRead (ended r end) old new
-ended_counts_read (Ok done) end old new counts = counts
-ended_counts_read (Err fault) end old new counts = tt
-
-pub ended_closes : {E : Type 0} (r : Result (Unit {0}) E) (end : VisitEnd) (room : ℕ) (left : Option (List ℕ)) → ClosesAtEnd end room left → ClosesAtEnd (ended r end) room left
-ended_closes (Ok done) end room left closes = closes
-ended_closes (Err fault) end room left closes = tt
-
--- and at one with answers that were delivered
-pub delivered_counts_read : (end : VisitEnd) (old new : ℕ) (text left : List ℕ) (a b : Option (List ℕ)) → Delivers (Some end) a text b left → new ≡ old → CountsRead end old new
-delivered_counts_read More old new text left a b d same = same
-delivered_counts_read WriteFault old new text left a b d same = tt
-delivered_counts_read Waits old new text left a b d same = absurd d
-delivered_counts_read Closed old new text left a b d same = absurd d
-delivered_counts_read ReadFault old new text left a b d same = absurd d
-delivered_counts_read (Fault fault) old new text left a b d same = absurd d
-
-pub delivered_closes : (end : VisitEnd) (room : ℕ) (rest : Option (List ℕ)) (text left : List ℕ) (a b : Option (List ℕ)) → Delivers (Some end) a text b left → ClosesAtEnd end room rest
-delivered_closes More room rest text left a b d = tt
-delivered_closes WriteFault room rest text left a b d = tt
-delivered_closes Waits room rest text left a b d = absurd d
-delivered_closes Closed room rest text left a b d = absurd d
-delivered_closes ReadFault room rest text left a b d = absurd d
-delivered_closes (Fault fault) room rest text left a b d = absurd d
-
--- and at one with a fault that was told
-pub told_counts_read : (end : VisitEnd) (old new : ℕ) (fault : MessageFault) (text : List ℕ) (a b : Option (List ℕ)) → Written (Some (serve_end end)) (Err fault) text a b → new ≡ old → CountsRead end old new
-told_counts_read More old new fault text a b told same = absurd told
-told_counts_read Waits old new fault text a b told same = absurd told
-told_counts_read Closed old new fault text a b told same = absurd told
-told_counts_read ReadFault old new fault text a b told same = absurd told
-told_counts_read WriteFault old new fault text a b told same = tt
-told_counts_read (Fault other) old new fault text a b told same = same
-
-pub told_closes : (end : VisitEnd) (room : ℕ) (rest : Option (List ℕ)) (fault : MessageFault) (text : List ℕ) (a b : Option (List ℕ)) → Written (Some (serve_end end)) (Err fault) text a b → ClosesAtEnd end room rest
-told_closes More room rest fault text a b told = absurd told
-told_closes Waits room rest fault text a b told = absurd told
-told_closes Closed room rest fault text a b told = absurd told
-told_closes ReadFault room rest fault text a b told = absurd told
-told_closes WriteFault room rest fault text a b told = tt
-told_closes (Fault other) room rest fault text a b told = tt

@@ -1,19 +1,15 @@
 -- A connection's seat keeps to the numbers that it drew; and where it is the only one of its lock, nothing is left of a refused SETUP.
-use Rattle.std.proofs.Common.{◌≡◌, ℕ, List, refl, sym, ◌∙◌, inl, inr, Result, Ok, Err}
-use Rattle.std.specs.Prelude.{Option, Some, None, OnOk, IfErr}
+use Rattle.std.proofs.Common.{◌≡◌, ℕ, List, refl, sym, ◌∙◌, inl, inr, Ok, Err}
+use Rattle.std.specs.Prelude.{Option, None}
 use Rattle.std.proofs.lemmas.Option.{none-some}
-use Rattle.rtsp_grammar.specs.declared.fault.MessageFault.{MessageFault}
 use Rattle.rtsp_grammar.specs.declared.message.Item.{Item}
 use Rattle.rtsp_grammar.specs.declared.message.Item.TheVariants as items
 use Rattle.rtsp_grammar.specs.declared.message.Request.{Request}
 use Rattle.rtsp_grammar.specs.declared.message.Response.{Response}
 use Rattle.rtsp_grammar.specs.Writing.{response_text}
-use Rattle.rtsp_record.specs.declared.changes.Record.{Record}
 use Rattle.rtsp_record.specs.Books.{Session}
-use Rattle.rtsp_book.specs.declared.refusals.Refusal.{Refusal}
 use Rattle.rtsp_book.specs.declared.steps.Step.{Step}
 use Rattle.rtsp_lock.specs.declared.view.View.{View}
-use Rattle.rtsp_lock.specs.Entries.{Has}
 use Rattle.rtsp_admit.specs.Numbers.{admission_of, UsesDrawn, NamesDrawn, IsUnused, OwnsAll}
 use Rattle.rtsp_admit.proofs.Drawing.{acts_use_drawn, looks_use_drawn, draws_give_unused, admissions_keep_drawn}
 use Rattle.rtsp_admit.proofs.Alone.{owns_all_lasts, admissions_keep_all, leaves_nothing_alone}
@@ -31,10 +27,9 @@ use Rattle.rtsp_state.specs.StateTable.{decide}
 use Rattle.rtsp_engine.specs.Conducting.{drawn_with, SetsUp, Conducts}
 use Rattle.rtsp_engine.specs.Conversing.{RespondsFound, RespondsScreened, Answers}
 use Rattle.rtsp_engine.specs.Desk.{Service, State, state, service}
-use Rattle.rtsp_engine.specs.DeskAnswers.{AnswersAt, GivesUpAt, Takes, Faults}
+use Rattle.rtsp_engine.specs.DeskAnswers.{AnswersAt, GivesUpAt}
 use Rattle.rtsp_traits.specs.Devices.{Devices}
 use Rattle.rtsp_engine.specs.Drawing.{DrawsNumbers}
-use Rattle.rtsp_engine.specs.Served.{Output}
 use Rattle.rtsp_engine.specs.Numbers.{SeatOwnsAll, DeskKeepsNumbers, SetupLeaves, PlanLeaves, FoundLeaves, ResponseLeaves, ItemLeaves, AnswersCleanly, ServedKeepsNumbers, ServedCleanly}
 use Rattle.rtsp_engine.specs.declared.conducting.SetUp.{SetUp}
 use Rattle.rtsp_engine.specs.declared.conducting.SetUp.TheVariants.{NoShare, NoWord, NoNumber, Tried}
@@ -142,10 +137,3 @@ module _ {B W C P S : Type 0} (d : Devices B W C P S) where
       faulted = λ bytes fault s t own run. fault_more (AnswersAt d) (AnswersCleanly d) (GivesUpAt d) SeatOwnsAll cleanly all_lost bytes fault s t own run;
       ended = λ start end s t own run. ends_more (AnswersAt d) (AnswersCleanly d) (GivesUpAt d) SeatOwnsAll cleanly all_lost end start s t own run;
     }
-
-module _ {B W C P S : Type 0} (d : Devices B W C P S) (R : Type 0) where
-  -- a piece that was taken
-  pub pushed_numbers : (pushed : Result (Unit {0}) MessageFault) (bytes rest : List ℕ) (s t : Output (Desk R B W C P S)) → ServedKeepsNumbers d R
-      → OnOk pushed (Takes d bytes rest s t) → IfErr pushed (λ f. Faults d bytes f s t) → DeskKeepsNumbers s.answerer t.answerer
-  pushed_numbers (Ok done) bytes rest s t law ok err = law.answered bytes rest s t ok
-  pushed_numbers (Err fault) bytes rest s t law ok err = law.faulted bytes fault s t err

@@ -131,16 +131,6 @@ module _ {S : Type 0} (R : S → Item → List ℕ → S → Type 0) (L : S → 
     faulted = elim takes [ inl wants ↦ inr (wants.0, inl refl) | inr has ↦ inl (has.0, refl) ];
   }
 
-  -- there was no memory for the answer to the item that was taken
-  pub gives_up_next : (bytes : List ℕ) (feed new : Feeding) (item : Item) (s t u : Output S)
-      → Answered R L bytes feed.unread s t → Takes feed.unread new (Ok (Some item)) → L t.answerer item u.answerer → u.text ≡ t.text → FaultedAfter R L bytes OutOfMemory s u
-  gives_up_next bytes feed new item s t u h takes left mute = record {
-    rest = feed.unread;
-    mid = t.answerer;
-    answered = subst (λ z. Answered R L bytes feed.unread s (record { text = z; answerer = t.answerer })) (sym mute) h;
-    faulted = inr (refl, inr (record { item = item; size = takes.0; stands = takes.1; left = left }));
-  }
-
   -- a fault that was met before
   fault_before : (held more : List ℕ) (fault : MessageFault) (s : Output S) → Stays → HasFault held fault → FaultedAfter R L (held ++ more) fault s s
   fault_before held more fault s stays h = record { rest = held ++ more; mid = s.answerer; answered = answered_rest (held ++ more) s; faulted = inl (stays held more (Err fault) h, refl) }

@@ -10,10 +10,10 @@ use Rattle.rtsp_engine.specs.declared.serving.ServeEnd.{ServeEnd}
 use Rattle.rtsp_engine.proofs.Keeping.{answered_keeps, fault_keeps, ends_keep}
 
 module _ {R B W C P S : Type 0} where
-  same_parts : (s : Desk R B W C P S) → SameParts s s
+  pub same_parts : (s : Desk R B W C P S) → SameParts s s
   same_parts s = record { seat = refl; binder = refl; words = refl; clock = refl; plays = refl; shares = refl; table = refl; asker = refl; same = (refl, refl) }
 
-  same_again : (s t u : Desk R B W C P S) → SameParts s t → SameParts t u → SameParts s u
+  pub same_again : (s t u : Desk R B W C P S) → SameParts s t → SameParts t u → SameParts s u
   same_again s t u h k = record {
     seat = k.seat ∙ h.seat;
     binder = k.binder ∙ h.binder;

@@ -1,52 +1,24 @@
 //! The engine over a desk.
 
-ghost use Rattle.std.specs.Prelude.{◌≡◌, ◌++◌, IfErr, OnOk};
-ghost use Rattle.rtsp_grammar.specs.Answer.{IsUndecided};
+ghost use Rattle.std.specs.Prelude.{◌≡◌};
 ghost use Rattle.rtsp_engine.specs.Additions.{Grows};
 ghost use Rattle.rtsp_engine.specs.Causes.{ReadFails, WriteFails, ClosesAtEnd, SpendsTurns};
 ghost use Rattle.rtsp_engine.specs.Desk.{SameParts};
-ghost use Rattle.rtsp_engine.specs.DeskAnswers.{Takes, Faults, EndsAt};
+ghost use Rattle.rtsp_engine.specs.DeskAnswers.{EndsAt};
 ghost use Rattle.rtsp_traits.specs.Devices.{devices};
 ghost use Rattle.rtsp_engine.specs.Numbers.{SeatOwnsAll, DeskKeepsNumbers, EndsCleanly};
-ghost use Rattle.rtsp_engine.specs.Served.{at, parts};
+ghost use Rattle.rtsp_engine.specs.Served.{parts};
 
-use crate::connection::Connection;
 use crate::desk::Desk;
 use crate::laws::{law_served_cleanly, law_served_grows, law_served_keeps_numbers};
 use crate::serving::{ServeEnd, serve_turns};
 use crate::streams::{ByteIn, ByteOut};
 use rtsp_admit::Binder;
-use rtsp_grammar::MessageFault;
-use rtsp_state::Room;
 use rtsp_traits::{Clock, Plays, Shares, Words};
 use std::alloc::Global;
 use std::sync::Wait;
 
 impl<R: Wait, B: Binder, W: Words, C: Clock, P: Plays, S: Shares> Desk<'_, R, B, W, C, P, S> {
-    /// Takes a piece of a connection's input as `Connection::push` does. The entries of the seat
-    /// grow by what is recorded for the requests that are answered, as `law_served_grows` has it.
-    pub fn push(
-        &mut self,
-        alloc: Global,
-        connection: &mut Connection,
-        piece: &[u8],
-        room: &mut Room,
-    ) -> Result<(), MessageFault>
-        ensures same { SameParts self.old self.new }
-        ensures seat { self.new.seat.ghost_name ≡ self.old.seat.ghost_name }
-        ensures grows { Grows (devices B.calls W.calls C.tells P.calls S.calls) R self.old self.new }
-        ensures goes_on { OnOk result (Takes (devices B.calls W.calls C.tells P.calls S.calls)
-            (connection.old ++ piece.now) connection.new (at room.old self.old) (at room.new self.new)) }
-        ensures undecided { OnOk result (IsUndecided connection.new) }
-        ensures ends { IfErr result (λ f. Faults (devices B.calls W.calls C.tells P.calls S.calls)
-            (connection.old ++ piece.now) f (at room.old self.old) (at room.new self.new)) }
-        ensures numbers { DeskKeepsNumbers self.old self.new }
-    {
-        law_served_grows::<R, B, W, C, P, S>();
-        law_served_keeps_numbers::<R, B, W, C, P, S>();
-        connection.push(alloc, self, piece, room)
-    }
-
     /// Serves a connection to its end, with at most this many reads, as `serve_turns` does. The
     /// entries of the seat grow by what is recorded for its requests, as `law_served_grows` has it.
     pub fn serve<I: ByteIn, O: ByteOut>(

@@ -4,10 +4,10 @@ use Rattle.std.specs.Prelude.{IfSome, IfNone, OnOk, nat_lt}
 use Rattle.std.specs.Bool.{OnTrue}
 use Rattle.std.proofs.lemmas.Bool.{OnTrue_from, ltb-true}
 use Rattle.std.proofs.lemmas.List.{length-append, length-drop, append-nil, drop-append-le, take-append-drop}
-use Rattle.rtsp_grammar.specs.Frame.{BeginsFrame, IsShortFrame, frame_len}
+use Rattle.rtsp_grammar.specs.Frame.{BeginsFrame}
 use Rattle.rtsp_grammar.specs.Head.{HeadRule}
-use Rattle.rtsp_grammar.specs.Item.{IsBlank, HasBlank}
-use Rattle.rtsp_grammar.specs.Lines.{blank_text, IsHead}
+use Rattle.rtsp_grammar.specs.Item.{HasBlank}
+use Rattle.rtsp_grammar.specs.Lines.{IsHead}
 use Rattle.rtsp_grammar.specs.Reading.{head_of}
 use Rattle.rtsp_grammar.specs.Answer.{Decides, HasFault, IsUndecided}
 use Rattle.rtsp_grammar.specs.Scan.{IsShortOf, HasProgress}
@@ -19,39 +19,12 @@ use Rattle.rtsp_grammar.specs.declared.message.Item.{Item}
 use Rattle.rtsp_grammar.specs.declared.fault.MessageFault.{MessageFault}
 use Rattle.rtsp_grammar.specs.declared.fault.MessageFault.TheVariants.{BadLine, BadHeader, HeadTooLong, UriTooLong, BodyTooLong, BadLength, OutOfMemory}
 use Rattle.rtsp_grammar.proofs.HeadRules.{head_reads}
-use Rattle.rtsp_grammar.proofs.ItemLemmas.{begins_more, head_found}
+use Rattle.rtsp_grammar.proofs.ItemLemmas.{head_found}
 use Rattle.rtsp_grammar.proofs.LongerLemmas.{stays}
 use Rattle.rtsp_grammar.proofs.ScanLemmas.{place_more}
 use Rattle.rtsp_grammar.proofs.StreamLemmas.{keeps_items, goes_on}
 
 -- ---- a length that is missing
-
-short_of : (frame more : List ℕ) → length (frame ++ more) < frame_len frame → IsShortFrame (frame ++ more)
-short_of [] [] lt = tt
-short_of [] (a ∷ []) lt = tt
-short_of [] (a ∷ b ∷ []) lt = tt
-short_of [] (a ∷ b ∷ c ∷ []) lt = tt
-short_of [] (a ∷ b ∷ c ∷ d ∷ more) lt = absurd (omega (arith, lt))
-short_of (a ∷ []) [] lt = tt
-short_of (a ∷ []) (b ∷ []) lt = tt
-short_of (a ∷ []) (b ∷ c ∷ []) lt = tt
-short_of (a ∷ []) (b ∷ c ∷ d ∷ more) lt = absurd (omega (arith, lt))
-short_of (a ∷ b ∷ []) [] lt = tt
-short_of (a ∷ b ∷ []) (c ∷ []) lt = tt
-short_of (a ∷ b ∷ []) (c ∷ d ∷ more) lt = absurd (omega (arith, lt))
-short_of (a ∷ b ∷ c ∷ []) [] lt = tt
-short_of (a ∷ b ∷ c ∷ []) (d ∷ more) lt = absurd (omega (arith, lt))
-short_of (a ∷ b ∷ c ∷ d ∷ frame) more lt = omega (arith, lt)
-
-pub frame_short : (text : List ℕ) (n : ℕ) → IsBlank text n → n < 8192 → BeginsFrame (drop n text) → IsShortOf text (n + frame_len (drop n text))
-frame_short text n b lt begins more short = inl (inl (record {
-  blank = b.count;
-  few = omega (arith, b.twice, lt);
-  message = drop n text ++ more;
-  parts = ap (λ (t : List ℕ). t ++ more) b.parts ∙ append_assoc (blank_text b.count) (drop n text) more;
-  begins = begins_more (drop n text) more begins;
-  short = short_of (drop n text) more (omega (arith, short, length-append text more, length-append (drop n text) more, length-drop n text, b.within));
-}))
 
 pub body_short : (text message : List ℕ) (n : ℕ) (lines : List (List ℕ)) (len : ℕ) (head : Head) (announced : ℕ) → HasBlank (take 8192 text) n → message ≡ drop n (take 8192 text) → ¬ BeginsFrame message → IsHead message lines len
     → head_of lines ≡ Ok (head, announced) → IsShortOf text (n + len + announced)

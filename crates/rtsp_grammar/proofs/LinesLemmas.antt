@@ -1,7 +1,7 @@
 -- The first of the lines of a text.
-use Rattle.std.proofs.Common.{◌≡◌, ℕ, ◌+◌, ◌-◌, ◌<◌, ◌≤◌, List, [], ◌∷◌, ◌++◌, length, take, refl, sym, ap, subst, ◌∙◌, append_assoc, arith, true, Option, Some, None}
+use Rattle.std.proofs.Common.{◌≡◌, ℕ, ◌+◌, ◌-◌, ◌<◌, ◌≤◌, List, [], ◌∷◌, ◌++◌, length, refl, sym, ap, subst, ◌∙◌, append_assoc, arith, true, Option, Some, None}
 use Rattle.std.specs.List.{AllByRecursion}
-use Rattle.std.proofs.lemmas.List.{length-append, append-nil, take_at, length-drop}
+use Rattle.std.proofs.lemmas.List.{length-append, append-nil, length-drop}
 use Rattle.rtsp_text.proofs.ByteLemmas.{all_other}
 use Rattle.rtsp_text.specs.Bytes.{is_line_byte}
 use Rattle.rtsp_grammar.specs.Folds.{begins_blank}
@@ -74,13 +74,6 @@ one_line_before text lines left line rest h some b = record {
   parts = h.parts ∙ ap (λ (t : List ℕ). line ++ 13 ∷ 10 ∷ t) b.parts ∙ sym (append_assoc line (13 ∷ 10 ∷ []) (lines_text lines ++ left)) ∙ sym (append_assoc (line_text line) (lines_text lines) left);
   each = ((h.plain, some), b.each);
 }
-
--- the front that a text begins with, by the length of what follows
-pub front_lines : (text : List ℕ) (lines : List (List ℕ)) (left : List ℕ) → BeginsLines text lines left → AreLines (take (length text - length left) text) lines
-front_lines text lines left b =
-    let n : length text ≡ length (lines_text lines) + length left = ap length b.parts ∙ length-append (lines_text lines) left in
-    let k : length (lines_text lines) ≡ length text - length left = omega arith in
-    record { parts = ap (take (length text - length left)) b.parts ∙ take_at (lines_text lines) left (length text - length left) k; each = b.each }
 
 -- a text that begins with no empty line has a first line that isn't empty
 pub first_some : (text line rest : List ℕ) → ¬ BeginsBlank text → HasLine text line rest → 0 < length line

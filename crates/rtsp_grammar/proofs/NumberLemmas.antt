@@ -2,7 +2,7 @@
 use Rattle.std.proofs.Common.{◌≡◌, ℕ, ◌+◌, ◌-◌, ◌*◌, ◌<◌, ◌≤◌, min, List, [], ◌∷◌, length, get_or, drop, sym, ap, ◌∙◌, arith}
 use Rattle.std.proofs.Common.{inl, inr}
 use Rattle.std.proofs.lemmas.Bool.{cases_lt}
-use Rattle.std.proofs.lemmas.List.{drop_more, drop_all}
+use Rattle.std.proofs.lemmas.List.{drop_more}
 use Rattle.rtsp_grammar.specs.Number.{number_after}
 
 number_grows : (n : ℕ) (cs : List ℕ) → n ≤ number_after n cs
@@ -27,8 +27,3 @@ pub step_number : (digits : List ℕ) (i value new total : ℕ) → i < length d
 step_number digits i value new total lt e so_far =
     ap (λ (k : ℕ). min (number_after k (drop (i + 1) digits)) 100000) e ∙ cut_off 100000 (10 * value + (get_or digits i 0 - 48)) (drop (i + 1) digits)
     ∙ ap (λ (ds : List ℕ). min (number_after value ds) 100000) (sym (drop_more digits i 0 lt)) ∙ so_far
-
-pub done_number : (digits : List ℕ) (i value total : ℕ) → length digits ≤ i → value ≤ 100000 → min (number_after value (drop i digits)) 100000 ≡ total → value ≡ total
-done_number digits i value total le small so_far =
-    let e : min value 100000 ≡ total = ap (λ (ds : List ℕ). min (number_after value ds) 100000) (sym (drop_all i digits le)) ∙ so_far in
-    omega arith

@@ -1,7 +1,5 @@
 -- A head that comes in pieces, scanned from the place where the scan stopped.
 use Rattle.std.proofs.Common.{◌≡◌, ◌≢◌, ℕ, suc, ◌+◌, ◌-◌, ◌<◌, ◌≤◌, List, [], ◌∷◌, ◌++◌, length, drop, refl, sym, ap, subst, ◌∙◌, append_assoc, arith, inl, inr, Bool, true, false, eqb, Some}
-use Rattle.std.specs.Prelude.{nat_eq}
-use Rattle.std.specs.List.{starts_with}
 use Rattle.std.proofs.lemmas.Bool.{eqb-true, and_from}
 use Rattle.std.proofs.lemmas.List.{take_all, length-append, append-nil, drop_at, drop-append-le}
 use Rattle.std.proofs.lemmas.List.Folds.{list_all-append}
@@ -18,12 +16,6 @@ use Rattle.rtsp_grammar.proofs.BlankLemmas.{blank_more}
 use Rattle.rtsp_grammar.proofs.ItemLemmas.{not_empty}
 use Rattle.rtsp_grammar.proofs.LinesLemmas.{lines_more, each_more}
 use Rattle.rtsp_grammar.proofs.LongerLemmas.{no_frame_more}
-
-pub starts_no_frame : (left : List ℕ) → starts_with nat_eq left (36 ∷ []) ≡ false → ¬ BeginsFrame left
-starts_no_frame [] e h = h
-starts_no_frame (x ∷ xs) e h = absurd (go x h e) where
-  go : (b : ℕ) → b ≡ 36 → starts_with nat_eq (b ∷ xs) (36 ∷ []) ≡ false → ⊥
-  go b p q = let r : starts_with nat_eq (36 ∷ xs) (36 ∷ []) ≡ false = subst (λ (k : ℕ). starts_with nat_eq (k ∷ xs) (36 ∷ []) ≡ false) p q in absurd cc
 
 plain_more : (xs ys : List ℕ) → IsPlain xs → IsPlain ys → IsPlain (xs ++ ys)
 plain_more xs ys p q = list_all-append is_line_byte xs ys ∙ and_from _ _ p q

@@ -1,30 +1,14 @@
 -- A text split after the bytes at its front that pass a test.
-use Rattle.std.proofs.Common.{◌≡◌, ℕ, zero, suc, ◌+◌, ◌<◌, ◌≤◌, Bool, true, false, cond, eqb, List, [], ◌∷◌, ◌++◌, length, get_or, take, drop, refl, sym, ap, ◌∙◌, arith, Bor, Option, Some, None}
+use Rattle.std.proofs.Common.{◌≡◌, ℕ, zero, suc, ◌+◌, ◌<◌, Bool, true, false, cond, eqb, List, [], ◌∷◌, ◌++◌, length, get_or, take, drop, refl, sym, ap, ◌∙◌, arith, Bor, Option, Some, None}
 use Rattle.std.specs.Prelude.{IfSome, IfNone}
 use Rattle.std.specs.List.{list_all}
 use Rattle.std.specs.Option.{option_map}
-use Rattle.std.proofs.lemmas.Bool.{and_parts, and_from, not-true, both_ways}
-use Rattle.std.proofs.lemmas.List.{take_all}
-use Rattle.std.proofs.lemmas.List.Folds.{list_all_more}
+use Rattle.std.proofs.lemmas.Bool.{and_parts, not-true, both_ways}
 use Rattle.rtsp_text.specs.Slices.{halves}
 use Rattle.rtsp_text.specs.SplitOnce.{split_once}
 use Rattle.rtsp_text.proofs.ByteLemmas.{other}
 use Rattle.rtsp_text.specs.Span.{IsSpan}
 use Rattle.rtsp_grammar.specs.Splitting.{at_byte, where_all}
-
--- a span of one byte more
-pub one_longer : (test : ℕ → Bool) (bytes : List ℕ) (i : ℕ) → i < length bytes → list_all test (take i bytes) ≡ true → test (get_or bytes i 0) ≡ true → list_all test (take (i + 1) bytes) ≡ true
-one_longer test bytes i lt front next = list_all_more test bytes i 0 lt ∙ and_from _ _ front next
-
-pub span_ends : (test : ℕ → Bool) (bytes : List ℕ) (i : ℕ) → i < length bytes → list_all test (take i bytes) ≡ true → test (get_or bytes i 0) ≡ false → IsSpan test bytes i
-span_ends test bytes i lt front next = record { within = omega arith; passes = front; stops = λ _. next }
-
-pub span_whole : (test : ℕ → Bool) (bytes : List ℕ) (i : ℕ) → length bytes ≤ i → list_all test (take i bytes) ≡ true → IsSpan test bytes (length bytes)
-span_whole test bytes i le front = record {
-  within = omega arith;
-  passes = ap (list_all test) (take_all (length bytes) bytes (omega arith) ∙ sym (take_all i bytes le)) ∙ front;
-  stops = λ lt. absurd (omega arith);
-}
 
 -- ---- a split by a span
 

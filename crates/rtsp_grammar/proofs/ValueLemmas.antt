@@ -17,14 +17,6 @@ pub no_values : (name : List ℕ) (hs : List HeaderText) (i : ℕ) → length hs
 unfolding values_of
 no_values name hs i le = ap (values_of name) (drop_all i hs le)
 
-pub values_short : (name : List ℕ) (hs : List HeaderText) → length (values_of name hs) ≤ length hs
-unfolding values_of
-values_short name [] = omega arith
-values_short name (h ∷ hs) = go (is_named h.name name) (values_short name hs) refl where
-  go : (b : Bool) → length (values_of name hs) ≤ length hs → is_named h.name name ≡ b → length (values_of name (h ∷ hs)) ≤ length (h ∷ hs)
-  go true le e = rw e (omega arith)
-  go false le e = rw e (omega arith)
-
 -- ---- one header more
 
 pub count_named : (name : List ℕ) (hs : List HeaderText) (i : ℕ) (h : HeaderText) (count new total : ℕ) → slice_get hs i ≡ Some h → is_named h.name name ≡ true → new ≡ count + 1

@@ -11,7 +11,7 @@ ghost use Rattle.rtsp_grammar.specs.Writing.{request_text, response_text};
 use crate::header::{Header, Headers};
 use crate::message::{Frame, Request, Response};
 use crate::written_len::{request_line_len, rest_len, status_line_len};
-use rtsp_text::three_digits;
+use rtsp_text::{append_all, three_digits};
 use std::alloc::AllocError;
 
 const DOLLAR: u8 = 0x24;
@@ -21,10 +21,7 @@ fn put_header(out: &mut Vec<u8>, header: Header<'_>) -> Result<(), AllocError>
     ensures capacity { vec_capacity out.old ≤ vec_capacity out.new }
     ensures succeeds { HasRoom out.old (header_text (shown header.entry)) → IsOk result }
 {
-    out.extend_from_slice(header.name)?;
-    out.extend_from_slice(b": ")?;
-    out.extend_from_slice(header.value)?;
-    out.extend_from_slice(b"\r\n")
+    append_all(out, &[header.name, b": ", header.value, b"\r\n"])
 }
 
 fn put_headers(out: &mut Vec<u8>, headers: &Headers) -> Result<(), AllocError>
@@ -44,8 +41,7 @@ fn put_rest(out: &mut Vec<u8>, headers: &Headers, body: &[u8]) -> Result<(), All
     ensures succeeds { HasRoom out.old (headers_and_body_text headers.now body.now) → IsOk result }
 {
     put_headers(out, headers)?;
-    out.extend_from_slice(b"\r\n")?;
-    out.extend_from_slice(body)
+    append_all(out, &[b"\r\n", body])
 }
 
 fn put_request_line(out: &mut Vec<u8>, request: &Request) -> Result<(), AllocError>
@@ -53,12 +49,10 @@ fn put_request_line(out: &mut Vec<u8>, request: &Request) -> Result<(), AllocErr
     ensures capacity { vec_capacity out.old ≤ vec_capacity out.new }
     ensures succeeds { HasRoom out.old (start_line_text (request_head request.now).start) → IsOk result }
 {
-    out.extend_from_slice(request.method.as_bytes())?;
-    out.push(b' ')?;
-    out.extend_from_slice(request.uri.as_bytes())?;
-    out.push(b' ')?;
-    out.extend_from_slice(request.version.as_bytes())?;
-    out.extend_from_slice(b"\r\n")
+    let method = request.method.as_bytes();
+    let uri = request.uri.as_bytes();
+    let version = request.version.as_bytes();
+    append_all(out, &[method, b" ", uri, b" ", version, b"\r\n"])
 }
 
 fn put_status_line(out: &mut Vec<u8>, response: &Response) -> Result<(), AllocError>
@@ -66,12 +60,10 @@ fn put_status_line(out: &mut Vec<u8>, response: &Response) -> Result<(), AllocEr
     ensures capacity { vec_capacity out.old ≤ vec_capacity out.new }
     ensures succeeds { HasRoom out.old (start_line_text (response_head response.now).start) → IsOk result }
 {
-    out.extend_from_slice(response.version.as_bytes())?;
-    out.push(b' ')?;
-    out.extend_from_slice(&three_digits(u64::from(response.status)))?;
-    out.push(b' ')?;
-    out.extend_from_slice(response.reason.as_bytes())?;
-    out.extend_from_slice(b"\r\n")
+    let version = response.version.as_bytes();
+    let status = three_digits(u64::from(response.status));
+    let reason = response.reason.as_bytes();
+    append_all(out, &[version, b" ", &status, b" ", reason, b"\r\n"])
 }
 
 /// Writes a request. A refused write leaves the buffer as it was.
@@ -116,7 +108,5 @@ pub fn write_frame(out: &mut Vec<u8>, frame: &Frame) -> Result<(), AllocError>
     let payload = frame.payload.as_bytes();
     out.reserve(4 + payload.len())?;
     let [high, low] = (payload.len() as u16).to_be_bytes();
-    out.extend_from_slice(&[DOLLAR, frame.channel, high, low])?;
-    out.extend_from_slice(payload)?;
-    Ok(())
+    append_all(out, &[&[DOLLAR, frame.channel, high, low], payload])
 }

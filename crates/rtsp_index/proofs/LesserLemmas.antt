@@ -1,7 +1,7 @@
 -- The lesser of each two: what a write leaves, and that the first is the least.
 use Rattle.std.proofs.Common.{◌≡◌, ◌≢◌, ℕ, zero, suc, ◌+◌, ◌-◌, ◌*◌, ◌/◌, ◌%◌, ◌<◌, ◌≤◌, min, List, length, get_or, set, ◌∙◌, ap, inl, inr, arith}
 use Rattle.std.proofs.lemmas.Bool.{cases_eq, cases_lt}
-use Rattle.std.proofs.lemmas.List.{get_or-set_same, get_or-set_other, length-set}
+use Rattle.std.proofs.lemmas.List.{get_or-set_other, length-set}
 use Rattle.rtsp_index.specs.Lessers.{AreLessers}
 
 -- each but the one above an index is the lesser of two
@@ -24,43 +24,6 @@ begun places ms index x ok low high =
           let two : get_or (set ms index x) (2 * i + 1) 0 ≡ get_or ms (2 * i + 1) 0 = get_or-set_other ms index (2 * i + 1) x 0 (λ e. apart (omega (arith, e))) in
           omega (arith, here, one, two, ok.lesser i from lt);
     }
-
-module _ (places : ℕ) (ms : List ℕ) (below : ℕ) (ok : AreWritten places ms below) where
-  -- the lesser above it is written
-  pub risen : (x : ℕ) → 1 < below → x ≡ min (get_or ms (2 * (below / 2)) 0) (get_or ms (2 * (below / 2) + 1) 0) → AreWritten places (set ms (below / 2) x) (below / 2)
-  risen x more is =
-      record {
-        long = length-set ms (below / 2) x ∙ ok.long;
-        from = omega (arith, more);
-        within = omega (arith, ok.within);
-        lesser = λ i from lt apart. elim (cases_eq i (below / 2)) [
-          | inl same ↦
-              let here : get_or (set ms (below / 2) x) i 0 ≡ x = ap (λ n. get_or (set ms (below / 2) x) n 0) same ∙ get_or-set_same ms (below / 2) x 0 (omega (arith, ok.within, ok.long)) in
-              let one : get_or (set ms (below / 2) x) (2 * i) 0 ≡ get_or ms (2 * i) 0 = get_or-set_other ms (below / 2) (2 * i) x 0 (λ e. absurd (omega (arith, e, same, from))) in
-              let two : get_or (set ms (below / 2) x) (2 * i + 1) 0 ≡ get_or ms (2 * i + 1) 0 = get_or-set_other ms (below / 2) (2 * i + 1) x 0 (λ e. absurd (omega (arith, e, same, from))) in
-              omega (arith, here, one, two, is, ap (λ n. get_or ms (2 * n) 0) same, ap (λ n. get_or ms (2 * n + 1) 0) same)
-          | inr other ↦
-              let here : get_or (set ms (below / 2) x) i 0 ≡ get_or ms i 0 = get_or-set_other ms (below / 2) i x 0 other in
-              let one : get_or (set ms (below / 2) x) (2 * i) 0 ≡ get_or ms (2 * i) 0 = get_or-set_other ms (below / 2) (2 * i) x 0 (λ e. apart (omega (arith, e))) in
-              let two : get_or (set ms (below / 2) x) (2 * i + 1) 0 ≡ get_or ms (2 * i + 1) 0 = get_or-set_other ms (below / 2) (2 * i + 1) x 0 (λ e. apart (omega (arith, e))) in
-              omega (arith, here, one, two, ok.lesser i from lt other)
-        ];
-      }
-
-  -- nothing is above it
-  pub risen_all : below ≤ 1 → AreLessers places ms
-  risen_all low = record { long = ok.long; lesser = λ i from lt. ok.lesser i from lt (λ e. absurd (omega (arith, e, from, low))) }
-
-  -- the lesser above it stands there
-  pub risen_enough : get_or ms (below / 2) 0 ≡ min (get_or ms (2 * (below / 2)) 0) (get_or ms (2 * (below / 2) + 1) 0) → AreLessers places ms
-  risen_enough is =
-      record {
-        long = ok.long;
-        lesser = λ i from lt. elim (cases_eq i (below / 2)) [
-          | inl same ↦ omega (arith, is, ap (λ n. get_or ms n 0) same, ap (λ n. get_or ms (2 * n) 0) same, ap (λ n. get_or ms (2 * n + 1) 0) same)
-          | inr apart ↦ ok.lesser i from lt apart
-        ];
-      }
 
 module _ (places : ℕ) (ms : List ℕ) (ok : AreLessers places ms) where
   -- the first is at most each

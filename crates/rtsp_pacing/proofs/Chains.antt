@@ -115,14 +115,3 @@ walk_ends p last q turns keys walked = go walked.rest walked.chain walked.count
     go : (rest : List ℕ) → IsChain q None rest → turns + length rest ≡ length keys → turns ≡ length keys
     go [] chain count = omega (arith, count)
     go (k ∷ ks) chain count = absurd chain
-
--- there is a next one where the chain goes on
-pub walk_there : (p : PacerPlays) (last : ℕ) (q : PacerPlays) (key turns : ℕ) (keys : List ℕ) → get q.plays key ≡ None → Walked p last q (Some key) turns keys → ⊥
-walk_there p last q key turns keys absent walked = go walked.rest walked.chain
-  where
-    go : (rest : List ℕ) → IsChain q (Some key) rest → ⊥
-    go [] chain = absurd chain
-    go (k ∷ ks) chain = no (sym absent ∙ chain.2)
-      where
-        no : None ≡ Some chain.1 → ⊥
-        no e = cc

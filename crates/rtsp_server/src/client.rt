@@ -3,7 +3,7 @@
 use crate::answering::Front;
 use crate::hearing::Hearing;
 use crate::service::Service;
-use crate::shared::Shared;
+use crate::shared::{Lent, Shared};
 use crate::tools::Tools;
 use crate::unread::UnreadLoan;
 use crate::visiting::Read;
@@ -13,9 +13,11 @@ use rtsp_content::Players;
 use rtsp_engine::{Asker, Connection, PieceIn, PieceReader, Reading, VisitEnd};
 use rtsp_grammar::MessageFault;
 use rtsp_lock::BookHandle;
-use rtsp_log::Event as LogEvent;
+use rtsp_log::{Event as LogEvent, Log};
+use rtsp_metrics::Counters;
 use rtsp_sockets::{Loan, Outlet, prepare};
 use rtsp_threads::{Activity, PAUSE, PIECES, take_leave};
+use std::alloc::Global;
 use std::net::{Ipv4Addr, Net, SocketAddr};
 use std::os::fd::{AsRawFd, RawFd};
 use std::rt;
@@ -75,15 +77,15 @@ fn host_of(stream: &TcpStream) -> Ipv4Addr {
 }
 
 // Where answers are put, and what else is put for the player.
-fn open_outlet<R>(service: &Service<'_, R>, stream: TcpStream) -> Option<Arc<Outlet>> {
-    let loan = Loan::of(&service.shared.lent.frames)?;
-    Arc::new(service.alloc, Outlet::new(service.alloc, stream, loan)).ok()
+fn open_outlet(alloc: Global, lent: &Lent, stream: TcpStream) -> Option<Arc<Outlet>> {
+    let loan = Loan::of(&lent.frames)?;
+    Arc::new(alloc, Outlet::new(alloc, stream, loan)).ok()
 }
 
 // Tells that there was no memory for a message, where that was its fault.
-fn tell_fault<R: Wait + rt::Clock>(service: &Service<'_, R>, fault: MessageFault) {
+fn tell_fault<R: Wait + rt::Clock>(rt: &R, log: &Log, fault: MessageFault) {
     if matches!(&fault, MessageFault::OutOfMemory) {
-        service.shared.log.event(service.rt, LogEvent::OutOfMemory);
+        log.event(rt, LogEvent::OutOfMemory);
     }
 }
 
@@ -99,8 +101,9 @@ impl Client {
             return None;
         }
         let host = host_of(&stream);
-        let outlet = open_outlet(service, stream)?;
-        let unread = UnreadLoan::of(&service.shared.lent.unread)?;
+        let lent = &service.shared.lent;
+        let outlet = open_outlet(service.alloc, lent, stream)?;
+        let unread = UnreadLoan::of(&lent.unread)?;
         let mut handle = lane.split(service.rt)?;
         let conn = handle.draw(service.rt)?;
         Some(Client {
@@ -163,7 +166,7 @@ impl Client {
         if self.is_over {
             return Visit::Ended;
         }
-        if self.is_writable && !self.flush(service) {
+        if self.is_writable && !self.flush(service.rt, service.now) {
             return Visit::Ended;
         }
         if !self.is_readable || self.stage != Stage::Open {
@@ -175,9 +178,9 @@ impl Client {
     }
 
     // Writes what waits. Whether the connection goes on.
-    fn flush<R: Wait>(&mut self, service: &Service<'_, R>) -> bool {
+    fn flush<R: Wait>(&mut self, rt: &R, now: u64) -> bool {
         self.is_writable = false;
-        let Some(left) = self.outlet.flush(service.rt, service.now) else {
+        let Some(left) = self.outlet.flush(rt, now) else {
             return false;
         };
         match self.stage {
@@ -266,17 +269,18 @@ impl Client {
         tools: &mut Tools,
         read: Read,
     ) -> Visit {
+        let Service { rt, shared, .. } = *service;
         match read.end {
-            VisitEnd::More => self.go_on(service, read.is_kept, Visit::More),
+            VisitEnd::More => self.go_on(rt, &shared.counters, read.is_kept, Visit::More),
             VisitEnd::Waits => {
                 self.is_readable = false;
-                self.go_on(service, read.is_kept, Visit::Done)
+                self.go_on(rt, &shared.counters, read.is_kept, Visit::Done)
             }
-            VisitEnd::Closed => self.drain(service),
+            VisitEnd::Closed => self.drain(rt),
             VisitEnd::Fault(fault) => {
-                tell_fault(service, fault);
+                tell_fault(rt, &shared.log, fault);
                 self.drop_rest(tools);
-                self.drain(service)
+                self.drain(rt)
             }
             VisitEnd::WriteFault => {
                 self.drop_rest(tools);
@@ -288,13 +292,13 @@ impl Client {
 
     // The connection goes on with what is left to be done, unless it holds more of a message than it
     // may; while too much waits to be written it isn't read.
-    fn go_on<R: Wait>(&mut self, service: &Service<'_, R>, is_kept: bool, left: Visit) -> Visit {
+    fn go_on<R: Wait>(&mut self, rt: &R, counters: &Counters, is_kept: bool, left: Visit) -> Visit {
         let (unread, memory) = (self.input.len(), self.input.capacity());
         if !self.unread.covers(unread, memory) {
-            service.shared.counters.turned_away();
+            counters.turned_away();
             return Visit::Ended;
         }
-        if is_kept && self.outlet.waiting(service.rt) > PAUSE {
+        if is_kept && self.outlet.waiting(rt) > PAUSE {
             self.stage = Stage::Paused;
             return Visit::Done;
         }
@@ -302,9 +306,9 @@ impl Client {
     }
 
     // The connection is read no more, and ends once what waits is written.
-    fn drain<R: Wait>(&mut self, service: &Service<'_, R>) -> Visit {
+    fn drain<R: Wait>(&mut self, rt: &R) -> Visit {
         self.stage = Stage::Draining;
-        if self.outlet.drain(service.rt) == 0 {
+        if self.outlet.drain(rt) == 0 {
             Visit::Ended
         } else {
             Visit::Done
@@ -321,19 +325,19 @@ impl Client {
         self.is_writable = true;
         self.is_readable = true;
         match self.visit(service, tools, lane) {
-            Visit::Done => self.drain(service),
+            Visit::Done => self.drain(service.rt),
             goes_on => goes_on,
         }
     }
 
     /// Closes the connection where up to a moment the player took nothing of what waits for it; then
     /// the system tells of its end. Whether it has to be put into the queue: it is over, or what
-    /// waits is to be offered to the system, which tells late that it takes some.
-    pub(crate) fn sweep<R: Wait>(&mut self, service: &Service<'_, R>, moment: u64) -> bool {
-        self.outlet.close_stalled(service.rt, moment);
-        let timeout = u64::from(service.table.server().timeout).saturating_mul(1_000);
+    /// waits is to be offered to the system, which tells late that it takes some. The timeout is in
+    /// milliseconds.
+    pub(crate) fn sweep<R: Wait>(&mut self, rt: &R, timeout: u64, moment: u64) -> bool {
+        self.outlet.close_stalled(rt, moment);
         self.is_over = self.is_overdue(moment, timeout);
-        let waits = self.outlet.waiting(service.rt) > 0;
+        let waits = self.outlet.waiting(rt) > 0;
         self.is_writable = self.is_writable || waits;
         (self.is_over || waits) && self.queue()
     }

@@ -1,7 +1,6 @@
 //! The connections of a lane.
 
 use crate::client::Client;
-use crate::service::Service;
 use mio::event::Event;
 use slab::Slab;
 use std::alloc::Global;
@@ -73,9 +72,9 @@ impl Roster {
 
     /// Closes the connection where it is stalled, and puts it into the queue where it is silent or late,
     /// or bytes wait for its player.
-    pub(crate) fn sweep<R: Wait>(&mut self, service: &Service<'_, R>, key: usize, moment: u64) {
+    pub(crate) fn sweep<R: Wait>(&mut self, rt: &R, key: usize, timeout: u64, moment: u64) {
         if let Some(client) = self.of.get_mut(key)
-            && client.sweep(service, moment)
+            && client.sweep(rt, timeout, moment)
         {
             let _ = self.ready.push_back(key);
         }

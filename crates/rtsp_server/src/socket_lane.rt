@@ -14,6 +14,7 @@ use rtsp_content::Table;
 use rtsp_lock::BookHandle;
 use rtsp_log::Event;
 use rtsp_metrics::AnswerCounters;
+use rtsp_sockets::Outlets;
 use rtsp_threads::{ACCEPTS, Accepted, Acceptor, Lane, LaneTurn, SWEEP_EVERY, TURN_EVERY};
 use std::alloc::Global;
 use std::fs::File;
@@ -219,7 +220,7 @@ impl Clients {
             service.shared.wake_lanes(service.rt);
         }
         let is_taken_in = match Client::open(service, handle, stream, peer) {
-            Some(client) => self.take_in(service, client),
+            Some(client) => self.take_in(service.rt, &service.shared.outlets, client),
             None => false,
         };
         if !is_taken_in {
@@ -229,14 +230,13 @@ impl Clients {
     }
 
     // Whether there was memory for the connection.
-    fn take_in<R: Wait>(&mut self, service: &Service<'_, R>, client: Client) -> bool {
+    fn take_in<R: Wait>(&mut self, rt: &R, outlets: &Outlets, client: Client) -> bool {
         let conn = client.conn();
         let fd = client.fd();
         let Some(outlet) = client.outlet() else {
             return false;
         };
-        let outlets = &service.shared.outlets;
-        if outlets.insert(service.rt, conn, outlet).is_err() {
+        if outlets.insert(rt, conn, outlet).is_err() {
             return false;
         }
         let is_taken_in = match self.roster.place(client) {
@@ -244,7 +244,7 @@ impl Clients {
             None => false,
         };
         if !is_taken_in {
-            outlets.remove(service.rt, conn);
+            outlets.remove(rt, conn);
         }
         is_taken_in
     }
@@ -348,8 +348,9 @@ impl Clients {
         self.swept = service.now;
         self.acceptor.restore();
         let moment = service.shared.swept_until(service.rt, service.now);
+        let timeout = u64::from(service.table.server().timeout).saturating_mul(1_000);
         for key in 0..self.roster.keys() {
-            self.roster.sweep(service, key, moment);
+            self.roster.sweep(service.rt, key, timeout, moment);
         }
     }
 

@@ -2,7 +2,8 @@
 
 use crate::shared::Shared;
 use rtsp_lock::BookHandle;
-use rtsp_log::Event;
+use rtsp_log::{Event, Log};
+use rtsp_metrics::Counters;
 use rtsp_sockets::PortBinder;
 use rtsp_threads::{HELD_TOLD_AFTER, SWEEP_EVERY, end_next_expired};
 use std::net::Net;
@@ -15,7 +16,7 @@ fn end_expired<R: Wait + Net + rt::Clock>(
     rt: &R,
     handle: &mut BookHandle,
     binder: &mut PortBinder<'_, R>,
-    shared: &Shared,
+    log: &Log,
     moment: u64,
 ) -> u64 {
     let mut ended = 0u64;
@@ -23,20 +24,20 @@ fn end_expired<R: Wait + Net + rt::Clock>(
         let Some(session) = end_next_expired(rt, handle, binder, moment) else {
             break;
         };
-        shared.log.event(rt, Event::Expired { session });
+        log.event(rt, Event::Expired { session });
         ended = ended.saturating_add(1);
     }
     ended
 }
 
 // Tells which file of a track couldn't be read lately, if one couldn't.
-fn tell_media_failure<R: Wait + rt::Clock>(rt: &R, shared: &Shared) {
-    if let Some((presentation, track)) = shared.counters.take_media_failure() {
+fn tell_media_failure<R: Wait + rt::Clock>(rt: &R, counters: &Counters, log: &Log) {
+    if let Some((presentation, track)) = counters.take_media_failure() {
         let event = Event::MediaUnreadable {
             presentation,
             track,
         };
-        shared.log.event(rt, event);
+        log.event(rt, event);
     }
 }
 
@@ -86,9 +87,9 @@ pub(crate) fn run_sweeper<R: Wait + Net + rt::Clock>(
             break;
         }
         let moment = shared.begin_sweep(rt, shared.now(rt));
-        tell_media_failure(rt, shared);
+        tell_media_failure(rt, &shared.counters, &shared.log);
         held.tell(rt, shared);
-        let ended = end_expired(rt, &mut handle, &mut binder, shared, moment);
+        let ended = end_expired(rt, &mut handle, &mut binder, &shared.log, moment);
         if ended > 0 {
             shared.note_end();
             shared.counters.expired(ended);

@@ -179,7 +179,7 @@ fn is_said(alloc: Global, talk: &Talk, responses: &str) -> bool {
 
 #[test]
 fn a_response_of_each_kind(rt: HostRuntime) {
-    let is_answered = match converse(&rt, SERVER, None, REQUESTS) {
+    let is_answered = match converse(&rt, SERVER, REQUESTS) {
         Some(talk) => is_said(rt.alloc(), &talk, RESPONSES),
         None => false,
     };
@@ -213,7 +213,7 @@ fn is_begun(plays: &Noting) -> bool {
 
 #[test]
 fn a_play_is_noted_and_settled(rt: HostRuntime) {
-    let is_noted = match converse(&rt, SERVER, None, SETUP_AND_PLAY) {
+    let is_noted = match converse(&rt, SERVER, SETUP_AND_PLAY) {
         Some(talk) => is_begun(&talk.plays),
         None => false,
     };
@@ -290,7 +290,7 @@ Session: 00000000000000000000000000000001
 
 // Whether a server answers so, and begins no play.
 fn begins_none<R: AllocGlobal + Wait>(rt: &R, server: Server, expected: &str) -> bool {
-    match converse(rt, server, None, SETUP_AND_PLAY) {
+    match converse(rt, server, SETUP_AND_PLAY) {
         Some(talk) => talk.plays.settled.is_none() && is_said(rt.alloc(), &talk, expected),
         None => false,
     }
@@ -353,7 +353,7 @@ const ENDS: [(&str, &[u64]); 4] = [
 
 // Whether the end of the session is moved to these moments.
 fn moves_to<R: AllocGlobal + Wait>(rt: &R, lines: &'static str, moments: &[u64]) -> bool {
-    match converse(rt, Server { lines, ..SERVER }, None, REQUESTS_BY_SECOND) {
+    match converse(rt, Server { lines, ..SERVER }, REQUESTS_BY_SECOND) {
         Some(talk) => talk.ends.as_slice() == moments,
         None => false,
     }

@@ -1,8 +1,7 @@
-//! What requests as GStreamer writes them are answered, and those that aren't repaired; and that it is
-//! the same where somebody watches.
+//! What requests as GStreamer writes them are answered, and those that aren't repaired; and what is
+//! told of requests to whoever watches.
 
-use crate::server::{SERVER, Seen, Server, Watcher, as_sent, converse};
-use std::cell::Cell;
+use crate::server::{SERVER, Seen, Server, as_sent, converse};
 use std::sync::Wait;
 
 const STRICT: &str = "players = \"strict\"";
@@ -81,7 +80,7 @@ fn begin<R: AllocGlobal + Wait>(
     requests: &str,
     answers: &str,
 ) -> Option<bool> {
-    let talk = converse(rt, Server { lines, ..SERVER }, None, requests)?;
+    let talk = converse(rt, Server { lines, ..SERVER }, requests)?;
     let answers = as_sent(rt.alloc(), answers).ok()?;
     Some(talk.said.starts_with(answers.as_bytes()))
 }
@@ -154,21 +153,19 @@ Transport: RTP/AVP;unicast;client_port=40352-40353
 
 ";
 
-// Whether the answers to that are the same where they are watched, and this is seen.
-fn is_watched<R: AllocGlobal + Wait>(rt: &R, lines: &'static str, seen: Seen) -> Option<bool> {
-    let server = Server { lines, ..SERVER };
-    let watcher = Watcher {
-        seen: Cell::new((0, 0, None, 0)),
-    };
-    let watched = converse(rt, server, Some(&watcher), WATCHED)?.said;
-    let alone = converse(rt, server, None, WATCHED)?.said;
-    Some(watched == alone && watcher.seen.get() == seen)
+// What is seen of these requests, of players of a kind.
+fn seen_of<R: AllocGlobal + Wait>(rt: &R, lines: &'static str) -> Option<Seen> {
+    Some(converse(rt, Server { lines, ..SERVER }, WATCHED)?.seen)
 }
 
 // The session's first eight digits are zeros.
 #[test]
-fn who_is_watched_is_answered_alike(rt: HostRuntime) {
-    let strict = is_watched(&rt, STRICT, (3, 400, None, 5 + 15));
-    let gstreamer = is_watched(&rt, GSTREAMER, (3, 200, Some(0), 5 + 15));
-    assert!(rt; [strict, gstreamer] == [Some(true), Some(true)]);
+fn each_request_is_told_of(rt: HostRuntime) {
+    let seen = [seen_of(&rt, STRICT), seen_of(&rt, GSTREAMER)];
+    assert!(rt;
+        seen == [
+            Some((3, 400, None, 5 + 15)),
+            Some((3, 200, Some(0), 5 + 15))
+        ]
+    );
 }

@@ -11,7 +11,7 @@ use rtsp_lock::{BookLock, BookSeat, open};
 use rtsp_record::{Entry, Record, Whole};
 use rtsp_state::Room;
 use rtsp_traits::{NoShares, PortSet};
-use rtsp_watch::{Told, Witness};
+use rtsp_watch::{Told, Witness, push_lent};
 use std::alloc::{AllocError, Global};
 use std::cell::Cell;
 use std::sync::Wait;
@@ -75,10 +75,10 @@ const ASKER: Asker = Asker {
 /// and how long method and URI are.
 pub(crate) type Seen = (u32, u16, Option<u32>, usize);
 
-/// Who watches the answers.
+// Who watches the answers.
 #[derive(Drop)]
-pub(crate) struct Watcher {
-    pub(crate) seen: Cell<Seen>,
+struct Watcher {
+    seen: Cell<Seen>,
 }
 
 impl Witness for Watcher {
@@ -96,6 +96,7 @@ struct Devices {
     words: Drawing,
     clock: Ticking,
     plays: Noting,
+    watcher: Watcher,
 }
 
 impl Devices {
@@ -113,18 +114,20 @@ impl Devices {
                 noted: None,
                 settled: None,
             },
+            watcher: Watcher {
+                seen: Cell::new((0, 0, None, 0)),
+            },
         })
     }
 }
 
-// Has a piece of a connection's input answered, watched or not.
+// Has a piece of a connection's input answered.
 fn push<R: AllocGlobal + Wait>(
     rt: &R,
     seat: &mut BookSeat,
     lock: &BookLock,
     table: &Table,
     devices: &mut Devices,
-    watcher: Option<&Watcher>,
     input: &mut Connection,
     piece: &[u8],
     room: &mut Room,
@@ -139,16 +142,11 @@ fn push<R: AllocGlobal + Wait>(
     let clock = &mut devices.clock;
     let plays = &mut devices.plays;
     let shares = &mut NoShares;
-    match watcher {
-        Some(watcher) => rtsp_watch::push_lent(
-            rt, alloc, seat, lock, made, ports, words, clock, plays, shares, table, ASKER, watcher,
-            input, piece, room,
-        ),
-        None => rtsp_dialect::push_lent(
-            rt, alloc, seat, lock, made, ports, words, clock, plays, shares, table, ASKER, input,
-            piece, room,
-        ),
-    }
+    let watcher = &devices.watcher;
+    push_lent(
+        rt, alloc, seat, lock, made, ports, words, clock, plays, shares, table, ASKER, watcher,
+        input, piece, room,
+    )
 }
 
 // Has the input of a connection answered, which comes in two pieces.
@@ -158,7 +156,6 @@ fn answer<R: AllocGlobal + Wait>(
     lock: &BookLock,
     table: &Table,
     devices: &mut Devices,
-    watcher: Option<&Watcher>,
     text: &[u8],
     room: &mut Room,
 ) -> Result<(), MessageFault>
@@ -167,20 +164,17 @@ fn answer<R: AllocGlobal + Wait>(
 {
     let mut input = Connection::new(rt.alloc());
     let (first, second) = text.split_at(text.len() / 2);
-    push(
-        rt, seat, lock, table, devices, watcher, &mut input, first, room,
-    )?;
-    push(
-        rt, seat, lock, table, devices, watcher, &mut input, second, room,
-    )
+    push(rt, seat, lock, table, devices, &mut input, first, room)?;
+    push(rt, seat, lock, table, devices, &mut input, second, room)
 }
 
-/// What a connection was answered, what was learned of its plays, and the moments to which the end
-/// of its session was moved.
+/// What a connection was answered, what was learned of its plays and seen of its requests, and the
+/// moments to which the end of its session was moved.
 #[derive(Drop)]
 pub(crate) struct Talk {
     pub(crate) said: Vec<u8>,
     pub(crate) plays: Noting,
+    pub(crate) seen: Seen,
     pub(crate) ends: Vec<u64>,
 }
 
@@ -218,33 +212,23 @@ fn said_in(
     Ok(said)
 }
 
-// What the input of a connection is answered, and what is learned of its plays.
+// What the input of a connection is answered, and the devices that were lent to it.
 fn answered<R: AllocGlobal + Wait>(
     rt: &R,
     seat: &mut BookSeat,
     lock: &BookLock,
     server: Server,
     table: &Table,
-    watcher: Option<&Watcher>,
     input: &[u8],
-) -> Option<(Vec<u8>, Noting)>
+) -> Option<(Vec<u8>, Devices)>
     requires { IsSeatOf seat.old lock.now }
     ensures { SameSeat seat.old seat.new }
 {
     let mut devices = Devices::of(rt.alloc(), server).ok()?;
     let mut room = Room::new(rt.alloc());
-    let pushed = answer(
-        rt,
-        seat,
-        lock,
-        table,
-        &mut devices,
-        watcher,
-        input,
-        &mut room,
-    );
+    let pushed = answer(rt, seat, lock, table, &mut devices, input, &mut room);
     let said = said_in(rt.alloc(), &room, pushed).ok()?;
-    Some((said, devices.plays))
+    Some((said, devices))
 }
 
 // Has the input of a connection answered by a server of its own.
@@ -252,7 +236,6 @@ fn serve<R: AllocGlobal + Wait>(
     rt: &R,
     server: Server,
     table: &Table,
-    watcher: Option<&Watcher>,
     input: &[u8],
 ) -> Option<Talk> {
     let whole = Whole {
@@ -263,20 +246,25 @@ fn serve<R: AllocGlobal + Wait>(
         journal: server.journal,
     };
     let (lock, mut seat) = open(rt.alloc(), &whole).ok()?;
-    let (said, plays) = answered(rt, &mut seat, &lock, server, table, watcher, input)?;
+    let (said, devices) = answered(rt, &mut seat, &lock, server, table, input)?;
     let kept = seat.finish(rt, lock);
     let ends = ends_in(rt.alloc(), kept.journal()).ok()?;
-    Some(Talk { said, plays, ends })
+    let seen = devices.watcher.seen.get();
+    Some(Talk {
+        said,
+        plays: devices.plays,
+        seen,
+        ends,
+    })
 }
 
 /// Has the requests of a connection answered by a server of their own.
 pub(crate) fn converse<R: AllocGlobal + Wait>(
     rt: &R,
     server: Server,
-    watcher: Option<&Watcher>,
     requests: &str,
 ) -> Option<Talk> {
     let table = table_of(rt.alloc(), server.lines)?;
     let input = as_sent(rt.alloc(), requests).ok()?;
-    serve(rt, server, &table, watcher, input.as_bytes())
+    serve(rt, server, &table, input.as_bytes())
 }

@@ -176,6 +176,47 @@ impl Connected {
             _ => None,
         }
     }
+
+    // What comes of a message that is put.
+    fn put<R: Wait>(&self, rt: &R, what: &str) -> Option<Put> {
+        match what {
+            "frame" => Some(self.outlet.put(rt, 9, Message::Frame, &FRAME)),
+            "response" => Some(self.outlet.put(rt, 0, Message::Response, b"hello")),
+            _ => None,
+        }
+    }
+
+    // Whether something is so.
+    fn is_so<R: Wait>(&self, rt: &R, step: Step<'_>) -> Option<bool> {
+        match step.word {
+            "fill" => Some(self.fill(rt)),
+            "keeps-response" => Some(self.keeps_response(rt)),
+            "closes-by-responses" => Some(self.closes(rt)),
+            "lends-what-is-beyond" => Some(self.shared.lent() == self.beyond(rt)),
+            "closed" => Some(self.is_closed(rt)),
+            "full-at" => Some(self.is_full(rt, step.rest.parse().unwrap_or(0))),
+            _ => None,
+        }
+    }
+
+    // Does a step. Whether it gives what is wanted, if it is one of these.
+    fn acts<R: Wait>(&mut self, rt: &R, step: Step<'_>) -> Option<bool> {
+        match step.word {
+            "prepare" => Some(prepare(self.outlet.fd())),
+            "rate" => Some(step.wants(self.take_rate(step.number))),
+            "hears" => Some(self.hears()),
+            "reads-all" => Some(self.reads_all(rt)),
+            "stalled-at" => {
+                let is_closed = self.outlet.close_stalled(rt, step.number);
+                Some(is_closed == (step.wanted == "closed"))
+            }
+            "close" => {
+                self.outlet.close(rt);
+                Some(true)
+            }
+            _ => None,
+        }
+    }
 }
 
 impl Scene for Connected {
@@ -186,33 +227,17 @@ impl Scene for Connected {
             + Net<Listener = TcpListener, Stream = TcpStream>
             + AllocGlobal,
     >(&mut self, rt: &R, step: Step<'_>) -> bool {
-        match step.word {
-            "prepare" => prepare(self.outlet.fd()),
-            "rate" => step.wants(self.take_rate(step.number)),
-            "fill" => self.fill(rt),
-            "frame" => Some(self.outlet.put(rt, 9, Message::Frame, &FRAME)) == put_of(step.wanted),
-            "response" => {
-                Some(self.outlet.put(rt, 0, Message::Response, b"hello")) == put_of(step.wanted)
-            }
-            "keeps-response" => self.keeps_response(rt),
-            "closes-by-responses" => self.closes(rt),
-            "hears" => self.hears(),
-            "reads-all" => self.reads_all(rt),
-            "stalled-at" => {
-                self.outlet.close_stalled(rt, step.number) == (step.wanted == "closed")
-            }
-            "close" => {
-                self.outlet.close(rt);
-                true
-            }
-            "lends-what-is-beyond" => self.shared.lent() == self.beyond(rt),
-            "closed" => self.is_closed(rt),
-            "full-at" => self.is_full(rt, step.rest.parse().unwrap_or(0)),
-            _ => match self.count(rt, step.word) {
-                Some(count) => step.wants(count),
-                None => false,
-            },
+        if let Some(put) = self.put(rt, step.word) {
+            return Some(put) == put_of(step.wanted);
         }
+        if let Some(is_so) = self.is_so(rt, step) {
+            return is_so;
+        }
+        if let Some(gives) = self.acts(rt, step) {
+            return gives;
+        }
+        let count = self.count(rt, step.word);
+        count.is_some_and(|count| step.wants(count))
     }
 }
 

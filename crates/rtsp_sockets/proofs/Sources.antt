@@ -3,7 +3,7 @@ use Rattle.std.proofs.Common.{◌≤◌, ℕ, ◌+◌, List, [], ◌++◌, Optio
 use Rattle.std.specs.Prelude.{slice_range}
 use Rattle.std.proofs.lemmas.List.{drop_all}
 use Rattle.std.proofs.lemmas.List.Folds.{drop_split}
-use Rattle.std.proofs.KnownBytes.{Consumes-nil, Consumes-trans}
+use Rattle.std.proofs.KnownBytes.{Consumes-trans}
 use Rattle.std.specs.Io.KnownBytes.{prepend_known, Consumes, Keeps, ReadConsumes}
 use Rattle.rtsp_sockets.specs.SourceWords.{Draws, Loses}
 
@@ -40,9 +40,6 @@ loses_left (Some xs) (Some ys) left pool n spent h = (
   left ++ h.0,
   ap (λ l. left ++ l) h.1 ∙ sym (append_assoc left h.0 ys) ∙ ap (λ l. (left ++ h.0) ++ (l ++ ys)) (sym (drop_all n pool spent)),
 )
-
-pub loses_none : (a : Option (List ℕ)) → Loses a a
-loses_none a = ([], Consumes-nil a)
 
 -- some were left out before
 pub draws_after : (a b c : Option (List ℕ)) (bytes : List ℕ) → Loses a b → Draws b bytes c → Draws a bytes c

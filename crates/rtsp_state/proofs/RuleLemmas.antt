@@ -23,10 +23,6 @@ pub chain : {A B : Type 0} (P : B → Type 0) (Q : Fault → Type 0) (x : Result
 chain P Q (Ok a) f faults rest = rest a
 chain P Q (Err e) f faults rest = faults
 
-pub faults_of : {A : Type 0} (P : A → Type 0) (Q : Fault → Type 0) (x : Result A Fault) → Rules P Q x → Faults Q x
-faults_of P Q (Ok a) h = tt
-faults_of P Q (Err e) h = h
-
 pub faults_chain : {A B : Type 0} (Q : Fault → Type 0) (x : Result A Fault) (f : A → Result B Fault) → Faults Q x → ((a : A) → Faults Q (f a)) → Faults Q (x >>= f)
 faults_chain Q (Ok a) f faults rest = rest a
 faults_chain Q (Err e) f faults rest = faults

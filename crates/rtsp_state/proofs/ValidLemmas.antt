@@ -90,10 +90,6 @@ formed_valid None = refl
 one_valid : (name : List ℕ) (headers : List HeaderText) → Faults Not455 (single_value name headers)
 one_valid name headers = either_faults Not455 (nat_lt 1 (length (values_of name headers))) _ _ refl tt
 
-served_valid : (m : Option Method) → Faults Not455 (served m)
-served_valid (Some m) = tt
-served_valid None = refl
-
 read_valid : {X : Type 0} (r : Result X TextFault) → Faults Not455 (read_by r)
 read_valid (Ok x) = tt
 read_valid (Err texts.Malformed) = refl

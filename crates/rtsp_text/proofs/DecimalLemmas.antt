@@ -32,9 +32,6 @@ pub record IsFront (text : List ℕ) (i number : ℕ) : Type 0 where
   pub tests : list_all is_ascii_digit (take i text) ≡ true
   pub value : number ≡ digits_value 10 (take i text)
 
-pub no_front : (text : List ℕ) → IsFront text 0 0
-no_front text = record { tests = refl; value = refl }
-
 -- with one digit more
 pub more_front : (text : List ℕ) (i number : ℕ) → i < length text → is_ascii_digit (get_or text i 0) ≡ true → IsFront text i number → IsFront text (i + 1) (number * 10 + (get_or text i 0 - 48))
 more_front text i number lt digit front = record {

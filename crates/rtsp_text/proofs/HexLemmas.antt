@@ -16,10 +16,6 @@ pub hex_suc : (k n : ℕ) → hex_text (suc k) n ≡ hex_text k (n / 16) ++ hex_
 unfolding hex_text
 hex_suc k n = refl
 
-pub hex_step : (k n : ℕ) → 0 < k → hex_text k n ≡ hex_text (k - 1) (n / 16) ++ hex_digit (n % 16) ∷ []
-hex_step zero n lt = absurd (omega arith)
-hex_step (suc k) n lt = let e : suc k - 1 ≡ k = omega arith in hex_suc k n ∙ ap (λ (j : ℕ). hex_text j (n / 16) ++ hex_digit (n % 16) ∷ []) (sym e)
-
 pub length-hex_text : (k n : ℕ) → length (hex_text k n) ≡ k
 length-hex_text zero n = ap length (hex_none n)
 length-hex_text (suc k) n = ap length (hex_suc k n) ∙ length-append (hex_text k (n / 16)) (hex_digit (n % 16) ∷ []) ∙ (let e = length-hex_text k (n / 16) in omega arith)

@@ -37,8 +37,8 @@ pub fn hex_number(text: &[u8]) -> Option<u128>
     Some(number)
 }
 
-// The 8 digits of a number.
-fn digits_of_u32(number: u32) -> [u8; 8]
+/// The 8 hexadecimal digits of a number.
+pub fn hex_digits_u32(number: u32) -> [u8; 8]
     ensures { result ≡ hex_text 8 number }
 {
     let mut digits = [0; 8];
@@ -65,7 +65,7 @@ pub fn write_hex_u32(out: &mut Vec<u8>, number: u32) -> Result<(), AllocError>
     // It takes no memory where there is room.
     ensures succeeds { HasRoom out.old (hex_text 8 number) → IsOk result }
 {
-    out.extend_from_slice(&digits_of_u32(number))
+    out.extend_from_slice(&hex_digits_u32(number))
 }
 
 /// Writes a number at the end, in 32 hexadecimal digits. A refused write leaves `out` as it was.

@@ -35,10 +35,6 @@ eqb_same p = (Decides-eqb p p).1 refl
 eqb_apart : (q p : ℕ) → q ≢ p → (q == p) ≡ false
 eqb_apart q p apart = grind (arith, nat_tests)
 
--- another thing is no such address
-other_address : (a n : ℕ) (x y : Thing) → is_same_thing y x ≡ false → is_address a x n y ≡ false
-other_address a n x y e = ap (λ v. (n == a) && v) e ∙ and_false (n == a)
-
 same_address : (a n : ℕ) (x y : Thing) → is_same_thing y x ≡ true → is_address a x n y ≡ (n == a)
 same_address a n x y e = ap (λ v. (n == a) && v) e ∙ sym (and_true (n == a))
 

@@ -11,3 +11,4 @@ pub mod FittingLemmas
 pub mod PickingLemmas
 pub mod TagsLemmas
 pub mod LawLemmas
+pub mod GrantedLemmas

@@ -14,8 +14,6 @@ mod failures;
 #[cfg(test)]
 mod pools;
 #[cfg(test)]
-mod repairs;
-#[cfg(test)]
 mod servers;
 #[cfg(test)]
 mod world;

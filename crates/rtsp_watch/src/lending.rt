@@ -4,7 +4,7 @@ ghost use Rattle.std.specs.Prelude.{◌≡◌, ◌++◌, IfErr, OnOk};
 ghost use Rattle.rtsp_grammar.specs.Answer.{IsUndecided};
 ghost use Rattle.rtsp_lock.specs.Calls.{IsSeatOf, SameSeat};
 ghost use Rattle.rtsp_traits.specs.Devices.{devices};
-ghost use Rattle.rtsp_dialect.specs.Understanding.{TakesPiece, FaultsPiece, gathered};
+ghost use Rattle.rtsp_watch.specs.Understanding.{TakesPiece, FaultsPiece, gathered};
 
 use crate::understanding::push_understood;
 use crate::witness::Witness;
@@ -17,8 +17,7 @@ use rtsp_state::Room;
 use std::alloc::Global;
 use std::sync::Wait;
 
-/// Takes a piece as rtsp_dialect's `push_lent` does, byte for byte, and tells the witness of each
-/// request that was answered.
+/// Takes a piece as `push_understood` does, at a desk of parts that are lent for it alone.
 pub fn push_lent<'a, R: Wait, B: Binder, W: Words, C: Clock, P: Plays, S: Shares, T: Witness>(
     rt: &'a R,
     alloc: Global,

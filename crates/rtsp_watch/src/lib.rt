@@ -1,8 +1,10 @@
 //! Requests that are answered, and told of. What is told changes no byte of an answer: whoever is
-//! watched answers as he does unwatched, and `push_watched`, `push_understood` and `push_lent` say so
-//! in the words of the engine and of the players' dialect.
+//! watched answers as he does unwatched, and `push_watched` and `push_repaired_watched` say so in the
+//! words of the engine and of the players' dialect. `push_understood` and `push_lent` have answered at
+//! a desk what its items mean to the players of the configuration.
 //!
-//! The definitions of `specs/`: Watching (how items are answered by one who is watched).
+//! The definitions of `specs/`: Watching (how items are answered by one who is watched), Understanding
+//! (items at a desk, by the players).
 
 #![tactic(auto)]
 

@@ -4,11 +4,10 @@
 ghost use Rattle.std.specs.Prelude.{◌≡◌, ◌++◌, IfErr, OnOk};
 ghost use Rattle.rtsp_grammar.specs.Answer.{IsUndecided};
 ghost use Rattle.rtsp_engine.specs.Desk.{SameParts};
-ghost use Rattle.rtsp_engine.specs.DeskAnswers.{Takes as TakesStrict, Faults as FaultsStrict};
+ghost use Rattle.rtsp_engine.specs.DeskAnswers.{Takes, Faults};
 ghost use Rattle.rtsp_traits.specs.Devices.{devices};
 ghost use Rattle.rtsp_engine.specs.Served.{at};
-ghost use Rattle.rtsp_dialect.specs.Repairing.{Takes, Faults};
-ghost use Rattle.rtsp_dialect.specs.Understanding.{TakesPiece, FaultsPiece, serves};
+ghost use Rattle.rtsp_watch.specs.Understanding.{TakesAt, FaultsAt, TakesPiece, FaultsPiece, serves};
 
 use crate::watching::{push_repaired_watched, push_watched};
 use crate::witness::Witness;
@@ -19,7 +18,7 @@ use rtsp_state::Room;
 use std::alloc::Global;
 use std::sync::Wait;
 
-// Takes a piece as `Desk::push` does.
+// Takes a piece, and has its items answered by the desk.
 fn push_strict<R: Wait, B: Binder, W: Words, C: Clock, P: Plays, S: Shares, T: Witness>(
     alloc: Global,
     desk: &mut Desk<'_, R, B, W, C, P, S>,
@@ -29,10 +28,10 @@ fn push_strict<R: Wait, B: Binder, W: Words, C: Clock, P: Plays, S: Shares, T: W
     room: &mut Room,
 ) -> Result<(), MessageFault>
     ensures same { SameParts desk.old desk.new }
-    ensures goes_on { OnOk result (TakesStrict (devices B.calls W.calls C.tells P.calls S.calls)
+    ensures goes_on { OnOk result (Takes (devices B.calls W.calls C.tells P.calls S.calls)
         (connection.old ++ piece.now) connection.new (at room.old desk.old) (at room.new desk.new)) }
     ensures undecided { OnOk result (IsUndecided connection.new) }
-    ensures ends { IfErr result (λ f. FaultsStrict (devices B.calls W.calls C.tells P.calls S.calls)
+    ensures ends { IfErr result (λ f. Faults (devices B.calls W.calls C.tells P.calls S.calls)
         (connection.old ++ piece.now) f (at room.old desk.old) (at room.new desk.new)) }
 {
     push_watched(alloc, desk, witness, connection, piece, room)
@@ -48,17 +47,19 @@ fn push_repaired<R: Wait, B: Binder, W: Words, C: Clock, P: Plays, S: Shares, T:
     room: &mut Room,
 ) -> Result<(), MessageFault>
     ensures same { SameParts desk.old desk.new }
-    ensures goes_on { OnOk result (Takes (devices B.calls W.calls C.tells P.calls S.calls)
+    ensures goes_on { OnOk result (TakesAt (devices B.calls W.calls C.tells P.calls S.calls)
         (connection.old ++ piece.now) connection.new (at room.old desk.old) (at room.new desk.new)) }
     ensures undecided { OnOk result (IsUndecided connection.new) }
-    ensures ends { IfErr result (λ f. Faults (devices B.calls W.calls C.tells P.calls S.calls)
+    ensures ends { IfErr result (λ f. FaultsAt (devices B.calls W.calls C.tells P.calls S.calls)
         (connection.old ++ piece.now) f (at room.old desk.old) (at room.new desk.new)) }
 {
     push_repaired_watched(alloc, desk, witness, connection, piece, room)
 }
 
-/// Takes a piece of a connection's input as rtsp_dialect's `push_understood` does, byte for byte, and
-/// tells the witness of each request that was answered.
+/// Takes a piece of a connection's input as `Connection::push` does, has answered what its items mean
+/// to the players of the configuration, and tells the witness of each request that was answered. What
+/// stays of the desk for the next piece is what its seat knows then, so each piece may have devices
+/// that are lent for it alone.
 pub fn push_understood<R: Wait, B: Binder, W: Words, C: Clock, P: Plays, S: Shares, T: Witness>(
     alloc: Global,
     desk: &mut Desk<'_, R, B, W, C, P, S>,

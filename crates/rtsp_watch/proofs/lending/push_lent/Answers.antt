@@ -1,6 +1,6 @@
 use Rattle.std.proofs.Common.{rules}
 use Rattle.rtsp_traits.specs.Devices.{devices}
-use Rattle.rtsp_dialect.proofs.Lent.{returned_takes, returned_faults}
+use Rattle.rtsp_watch.proofs.Lent.{returned_takes, returned_faults}
 use Rattle.rtsp_watch.proofs.lending.push_lent.Goals as goal
 
 pub returns-clause-goes_on : goal.returns-clause-goes_on

@@ -1,5 +1,5 @@
 use Rattle.rtsp_traits.specs.Devices.{devices}
-use Rattle.rtsp_watch.proofs.Desks.{pushed_same}
+use Rattle.rtsp_engine.proofs.Parts.{pushed_same}
 use Rattle.rtsp_watch.proofs.understanding.push_strict.Goals as goal
 
 pub returns-clause-same : goal.returns-clause-same

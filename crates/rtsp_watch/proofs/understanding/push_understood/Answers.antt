@@ -3,7 +3,7 @@ use Rattle.rtsp_content.specs.declared.server.Players.TheVariants.{Strict, Gstre
 use Rattle.rtsp_engine.specs.DeskAnswers.{AnswersAt, GivesUpAt}
 use Rattle.rtsp_traits.specs.Devices.{devices}
 use Rattle.rtsp_dialect.specs.Repairing.{AnswersRepaired, GivesUpRepaired}
-use Rattle.rtsp_dialect.proofs.Lent.{takes, faults, strict_answers, strict_gives_up, gstreamer_answers, gstreamer_gives_up}
+use Rattle.rtsp_watch.proofs.Lent.{takes, faults, strict_answers, strict_gives_up, gstreamer_answers, gstreamer_gives_up}
 use Rattle.rtsp_watch.proofs.understanding.push_understood.Goals as goal
 
 pub returns-in-Strict-clause-goes_on : goal.returns-in-Strict-clause-goes_on

@@ -1,7 +1,7 @@
 use Rattle.std.proofs.Common.{◌∙◌, ap}
 use Rattle.hex.specs.Hex.{encode_lower}
 use Rattle.rtsp_text.proofs.HexLemmas.{u32_hex}
-use Rattle.rtsp_text.proofs.hexadecimal.digits_of_u32.Goals as goal
+use Rattle.rtsp_text.proofs.hexadecimal.hex_digits_u32.Goals as goal
 
 pub returns : goal.returns
 returns c =

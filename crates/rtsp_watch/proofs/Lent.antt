@@ -17,8 +17,8 @@ use Rattle.rtsp_engine.specs.declared.desk.Desk.{Desk}
 use Rattle.rtsp_engine.proofs.Along.{along}
 use Rattle.rtsp_dialect.specs.Repair.{understood}
 use Rattle.rtsp_dialect.specs.Repairing.{AnswersRepaired, GivesUpRepaired}
-use Rattle.rtsp_dialect.specs.Understanding.{AnswersUnderstood, GivesUpUnderstood, TakesPiece, FaultsPiece}
-use Rattle.rtsp_dialect.proofs.SameDesk.{gives_up_same}
+use Rattle.rtsp_watch.specs.Understanding.{AnswersUnderstood, GivesUpUnderstood, TakesPiece, FaultsPiece}
+use Rattle.rtsp_watch.proofs.Desks.{gives_up_same}
 
 -- of one of whom something is so, and stays so
 module _ {S T : Type 0} (R : S → Item → List ℕ → S → Type 0) (L : S → Item → S → Type 0) (R' : T → Item → List ℕ → T → Type 0) (L' : T → Item → T → Type 0) (f : S → T) (P : S → Type 0)

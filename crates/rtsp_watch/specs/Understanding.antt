@@ -8,11 +8,13 @@ use Rattle.rtsp_grammar.specs.declared.message.Item.{Item}
 use Rattle.rtsp_lock.specs.declared.seat.BookSeat.{BookSeat}
 use Rattle.rtsp_state.specs.Room.{RoomText}
 use Rattle.rtsp_traits.specs.Devices.{Devices}
+use Rattle.rtsp_engine.specs.DeskAnswers.{AnswersAt, GivesUpAt}
 use Rattle.rtsp_engine.specs.Served.{Output, Answered, FaultedAfter, at}
 use Rattle.rtsp_engine.specs.Serving.{Serving, AnswersFrom, GivesUpFrom, desk_serving, serving_of}
 use Rattle.rtsp_engine.specs.declared.desk.Asker.{Asker}
 use Rattle.rtsp_engine.specs.declared.desk.Desk.{Desk}
 use Rattle.rtsp_dialect.specs.Repair.{understood}
+use Rattle.rtsp_dialect.specs.Repairing.{TakesRepaired, FaultsRepaired}
 
 -- whom the configuration is for
 abbrev pub players_served : Serving → Players
@@ -42,3 +44,11 @@ module _ {B W C P S : Type 0} (d : Devices B W C P S) where
   -- items were answered, and then there was a fault
   abbrev pub FaultsPiece : List ℕ → MessageFault → Output Serving → Output Serving → Type 0
   FaultsPiece bytes fault s t = FaultedAfter AnswersUnderstood GivesUpUnderstood bytes fault s t
+
+-- a desk whose requests are repaired
+module _ {R B W C P S : Type 0} (d : Devices B W C P S) where
+  abbrev pub TakesAt : List ℕ → List ℕ → Output (Desk R B W C P S) → Output (Desk R B W C P S) → Type 0
+  TakesAt bytes rest s t = TakesRepaired (AnswersAt d) (GivesUpAt d) bytes rest s t
+
+  abbrev pub FaultsAt : List ℕ → MessageFault → Output (Desk R B W C P S) → Output (Desk R B W C P S) → Type 0
+  FaultsAt bytes fault s t = FaultsRepaired (AnswersAt d) (GivesUpAt d) bytes fault s t
