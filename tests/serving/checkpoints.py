@@ -51,7 +51,8 @@ def set_up_again(uri: str, session: str) -> bytes:
 
 
 def renew(uri: str, session: str) -> bytes:
-    return written(f"GET_PARAMETER {uri} RTSP/2.0", [("CSeq", "1"), ("Session", session)])
+    # What is asked in a session renews it, also where it would make no entry else.
+    return written(f"OPTIONS {uri} RTSP/2.0", [("CSeq", "1"), ("Session", session)])
 
 
 FLOODS: Dict[str, Flood] = {
@@ -149,9 +150,13 @@ def beside_all_floods_with_64_lanes(checks: Checks) -> None:
     beside(checks, 64, [*FLOODS])
 
 
-def renewed(talk: Connection, uri: str, session: str) -> int:
+# Whatever is asked in a session renews it.
+RENEWING = "GET_PARAMETER", "OPTIONS", "DESCRIBE"
+
+
+def renewed(talk: Connection, uri: str, session: str, number: int) -> int:
     """Renews a session in a millisecond of its own, so that the journal has it: the status."""
-    status = talk.ask("GET_PARAMETER", uri, [("Session", session)]).status
+    status = talk.ask(RENEWING[number % len(RENEWING)], uri, [("Session", session)]).status
     time.sleep(0.001)
     return status
 
@@ -167,7 +172,8 @@ def a_session_outlives_its_journal(checks: Checks) -> None:
         status, session = set_up(talk, server.uri)
         checks.same("the SETUP of the one that lives", 200, status)
         for number in range(10 * journal):
-            if not checks.same(f"renewal {number + 1} of {10 * journal}", 200, renewed(talk, server.uri, session)):
+            status = renewed(talk, server.uri, session, number)
+            if not checks.same(f"renewal {number + 1} of {10 * journal}", 200, status):
                 return
             if number % 100 == 0:
                 status, passing = set_up(other, server.uri)
@@ -191,7 +197,7 @@ def a_journal_far_too_short(checks: Checks) -> None:
         checks.same("the SETUP of the one that lives", 200, status)
         statuses = []
         for number in range(10 * FAR_TOO_SHORT):
-            statuses.append(renewed(talk, server.uri, session))
+            statuses.append(renewed(talk, server.uri, session, number))
             if number % 10 == 0:
                 status, passing = set_up(other, server.uri)
                 statuses += [status, other.ask("TEARDOWN", server.uri, [("Session", passing)]).status]

@@ -83,7 +83,7 @@ KeepsAll ask v u = Has v.drawn ask.admission → OwnsAll v → OwnsAll u
 abbrev pub LeavesNothingAlone : Ask → View → View → Type 0
 LeavesNothingAlone ask v u = OwnsAll v → IsUnused v ask.admission → LeftNothing ask v u
 
--- another seat of the lock whose entries bear this actor, and which uses numbers that it drew alone
+-- another seat of the lock whose entries bear this actor, and which uses no numbers but those that it drew
 pub record DrawingSeat (w : Whole) (u : View) (by : ℕ) : Type 0 where
   pub view : View
   pub seats : TwoSeats w u view
@@ -98,7 +98,7 @@ OthersUseDrawn w u n = (e : Entry) → Contains (uses n u.seen) e → e.actor �
 abbrev pub DrawnUsedAlone : Type 0
 DrawnUsedAlone = (w : Whole) (u : View) (n : ℕ) → Has u.drawn n → OthersUseDrawn w u n → OnlyOf u.actor (uses n u.seen)
 
--- all seats of a lock hold and add under numbers that they drew alone
+-- all seats of a lock hold and add under no numbers but those that they drew
 abbrev pub AllUseDrawn : List View → Type 0
 AllUseDrawn views = (k : ℕ) (v : View) → get_elem? views k ≡ some v → UsesDrawn v
 

@@ -29,7 +29,7 @@ HasWish (wanted.Channels conn wish) = IsWish wish
 abbrev pub open_step : Ask → Opening → Step
 open_step ask o = step.Open (record { session = ask.session; id = o.id; conn = o.conn; expires = o.expires })
 
--- bits per second are reserved
+-- bits per second are held
 abbrev pub rate_step : Ask → Step
 rate_step ask = step.HoldRate ask.session ask.admission ask.rate
 
@@ -43,12 +43,12 @@ abbrev pub next_above : UdpPorts → ℕ → ℕ
 next_above udp.Pair p = p + 2
 next_above udp.Port p = p + 1
 
--- the least free ones not below `from` are reserved
+-- the least free ones not below `from` are held
 abbrev pub ports_step : Ask → UdpPorts → ℕ → Step
 ports_step ask udp.Pair from = step.HoldPair ask.session ask.admission from
 ports_step ask udp.Port from = step.HoldPort ask.session ask.admission from
 
--- channels of a connection are reserved
+-- channels of a connection are held
 abbrev pub chan_step : Ask → ℕ → Option ℕ → Step
 chan_step ask conn wish = step.HoldChan (record { session = ask.session; admission = ask.admission; conn = conn; wish = wish })
 

@@ -155,7 +155,7 @@ pub fn admit<R: Wait, B: Binder>(
     // A bind that failed shows only where it was counted.
     ensures faults { CountsFaults B.calls ask.now result (state_of seat.old binder.old) (state_of seat.new binder.new) }
 
-    // A seat that uses its own numbers alone goes on so.
+    // A seat that uses no numbers but those that it drew goes on so.
     ensures drawn { KeepsDrawn ask.now (seat_view seat.old) (seat_view seat.new) }
     ensures owns { KeepsAll ask.now (seat_view seat.old) (seat_view seat.new) }
 {

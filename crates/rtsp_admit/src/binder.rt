@@ -26,7 +26,7 @@ pub trait Binder {
         ensures ok { OnOk result (Bound calls admission (Pair pair) self.old self.new) }
         ensures err { OnErr result (Failed calls admission (Pair pair) self.old self.new) };
 
-    /// Unbinds the pair under this admission, where it is bound, and no pair of another one.
+    /// Unbinds the pair under this admission, where it is bound, and none of another admission.
     fn unbind(&mut self, admission: u64, pair: u16)
         ensures { Unbound calls admission (Pair pair) self.old self.new };
 
@@ -36,8 +36,8 @@ pub trait Binder {
         ensures ok { OnOk result (Bound calls admission (Port port) self.old self.new) }
         ensures err { OnErr result (Failed calls admission (Port port) self.old self.new) };
 
-    /// Unbinds the port under this admission, where it is bound by itself, and no port of another
-    /// one.
+    /// Unbinds the port under this admission, where it is bound by itself, and none of another
+    /// admission.
     fn unbind_port(&mut self, admission: u64, port: u16)
         ensures { Unbound calls admission (Port port) self.old self.new };
 }

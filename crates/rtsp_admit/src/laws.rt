@@ -10,10 +10,10 @@ ghost use Rattle.rtsp_admit.specs.Numbers.{OwnsAllLasts, AdmissionsKeepAll, Refu
 use crate::binder::Binder;
 use rtsp_book::Ask;
 
-/// An admission that is refused leaves nothing: where each Hold and Add under its number in the
-/// journal then seen is its own, nothing is held under it, and the book is that of the journal
-/// without it. Where it had opened its session, that is not alive, and the book is that of the
-/// journal without the session.
+/// An admission that is refused leaves nothing, where each Hold and Add under its number in the
+/// journal then seen is one that it made. Nothing is held and no stream is under it, and the book is
+/// that of the journal without the admission. Where it had opened its session, the session is not
+/// alive, and the book is that of the journal without the session.
 pub fn law_refused<B: Binder>(ask: &Ask)
     ensures { RefusalsLeaveNothing B.calls ask.now }
 {}
@@ -37,7 +37,7 @@ pub fn law_admitted_address<B: Binder>(ask: &Ask)
 {}
 
 /// Where no failure of the binder was counted, the ports granted are the first that were held, and
-/// a refusal is that of a step as it was first asked.
+/// a refusal is that of a step as it was first asked, which for ports is from 0 on.
 pub fn law_faults_counted<B: Binder>(ask: &Ask)
     ensures { AdmissionsCountFaults B.calls ask.now }
 {}
@@ -48,12 +48,13 @@ pub fn law_acts_use_drawn()
     ensures { ActsUseDrawn }
 {}
 
-/// It stays so over a look.
+/// A seat whose Holds and Adds are all under numbers that it drew stays so over a look.
 pub fn law_looks_use_drawn()
     ensures { LooksUseDrawn }
 {}
 
-/// It stays so over a draw, and has no Hold or Add under the number drawn.
+/// A seat whose Holds and Adds are all under numbers that it drew stays so over a draw, and has no
+/// Hold or Add under the number drawn.
 pub fn law_drawn_is_unused()
     ensures { DrawsGiveUnused }
 {}
@@ -77,18 +78,19 @@ pub fn law_admitted_keeps_drawn<B: Binder>(ask: &Ask)
 {}
 
 /// The seat that opens a lock finds a journal of its own entries alone, and uses numbers that it
-/// drew, as long as it is the only one and names such numbers. A checkpoint would end that, whose
-/// entries are nobody's.
+/// drew, as long as it is the only one and names such numbers. A checkpoint would end that, since
+/// its entries are no seat's.
 pub fn law_owns_all()
     ensures { OwnsAllLasts }
 {}
 
-/// So it is over an admission under a number that it drew.
+/// So it is, as `law_owns_all` says, over an admission under a number that the seat drew.
 pub fn law_admitted_keeps_all<B: Binder>(ask: &Ask)
     ensures { AdmissionsKeepAll B.calls ask.now }
 {}
 
-/// A refused admission of such a seat leaves nothing, under a number that it drew and had not used.
+/// A refused admission of the only seat of a lock, as `law_owns_all` has it, leaves nothing, under a
+/// number that the seat drew and had not used.
 pub fn law_refused_alone<B: Binder>(ask: &Ask)
     ensures { RefusalsLeaveNothingAlone B.calls ask.now }
 {}

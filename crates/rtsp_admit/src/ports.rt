@@ -24,7 +24,7 @@ fn return_step(ask: &Ask, thing: Thing) -> Step
     }
 }
 
-// The first of the ports that the first of some records holds.
+// The first of the ports that the first of these records holds, where it holds ports.
 fn first_port_in(made: &[Record]) -> Option<u16>
     ensures { result ≡ first_port_in made.now }
 {
@@ -42,7 +42,7 @@ fn first_port_in(made: &[Record]) -> Option<u16>
     }
 }
 
-// Reserves the least free ports not below `from`.
+// Holds the least free ports not below `from`.
 fn hold_ports<R: Wait>(
     rt: &R,
     seat: &mut BookSeat,

@@ -48,7 +48,7 @@ fn rate_step(ask: &Ask) -> Step
     }
 }
 
-// Reserves the bandwidth.
+// Holds the rate.
 pub(crate) fn hold_rate<R: Wait>(
     rt: &R,
     seat: &mut BookSeat,
@@ -75,7 +75,7 @@ fn chan_step(ask: &Ask, conn: u64, wish: Option<u8>) -> Step
     })
 }
 
-// The thing that the first of some records holds.
+// The thing that the first of these records holds, where it holds one.
 fn thing_in(made: &[Record]) -> Option<Thing>
     ensures { result ≡ thing_in made.now }
 {
@@ -86,7 +86,7 @@ fn thing_in(made: &[Record]) -> Option<Thing>
     }
 }
 
-// Reserves channels of a connection.
+// Holds channels of a connection.
 pub(crate) fn hold_channels<R: Wait>(
     rt: &R,
     seat: &mut BookSeat,

@@ -18,7 +18,7 @@ pub record IsGranted (w : Whole) (n : ℕ) (b : Book) (rs : List Record) : Type 
 abbrev pub Granted : Type 0
 Granted = (w : Whole) (j : List Entry) (step : Step) (rs : List Record) → IsLegal w j → length j + owed (book_of j) ≤ w.journal → IsAskable step → reply w j step ≡ Ok rs → IsGranted w (length j) (book_of j) rs
 
--- the steps that give back never raise entries and owed returns together, and record at most 64
+-- the steps that give back leave entries and owed returns together as many as before, and make at most 64 records
 pub record GivesBack (b : Book) (rs : List Record) : Type 0 where
   pub owed_less : length rs + owed (after_all b rs) ≡ owed b
   pub short : length rs ≤ 64

@@ -194,7 +194,7 @@ abbrev pub AreDifferent : Option Thing → Option Thing → Type 0
 AreDifferent (Some x) (Some y) = x ≢ y
 AreDifferent o p = Unit {0}
 
--- what the caller sees to
+-- what the caller of a step has to see to
 abbrev pub IsAskable : Step → Type 0
 IsAskable (HoldChan h) = IsWish h.wish
 IsAskable (Unwind ch) = AreDifferent ch.first ch.second

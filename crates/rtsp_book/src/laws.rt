@@ -8,8 +8,8 @@ pub fn law_granted()
     ensures { Granted }
 {}
 
-/// The steps that give back, by which nothing new is held, never raise entries and owed returns
-/// together, and record at most 64.
+/// The steps that give back, by which nothing new is held, leave entries and owed returns together as
+/// many as before, and make at most 64 records.
 pub fn law_giving_back()
     ensures { GivingBack }
 {}

@@ -11,7 +11,7 @@ use std::marker::Model;
 // for each admission, an Unbind and a Close.
 const MOST: usize = 51;
 
-/// The records of an accepted step, in order, at most 64. It is of fixed size and takes no memory.
+/// The records of an accepted step, in order, at most 51. It is of fixed size and takes no memory.
 #[derive(Drop)]
 pub struct Receipt {
     records: [Record; MOST],

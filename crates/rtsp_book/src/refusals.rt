@@ -12,16 +12,16 @@ pub enum Refusal {
     /// The limit of living sessions is reached.
     #[error("too many sessions")]
     TooManySessions,
-    /// The uplink has fewer bits per second left than that.
+    /// The uplink has fewer bits per second left than the step asks for.
     #[error("not enough bandwidth")]
     NoBandwidth,
-    /// No pair of ports, or no port, from there on is free.
+    /// No pair of ports, or no port, is free from the step's `from` on.
     #[error("no free ports")]
     NoPair,
     /// No pair of channels of the connection is free.
     #[error("no free channels")]
     NoChannel,
-    /// The session is not in a state for it.
+    /// The session is not in a state for the step.
     #[error("not in this state")]
     WrongState,
     /// A living session has the id or the number.

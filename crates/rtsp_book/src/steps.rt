@@ -20,7 +20,7 @@ pub struct ChannelHold {
     pub session: u64,
     pub admission: u64,
     pub conn: u64,
-    /// An even channel, at most 254.
+    /// The first channel that is wished: even, at most 254.
     pub wish: Option<u8>,
 }
 
@@ -38,7 +38,7 @@ pub struct Commit {
 #[derive(Clone, Copy, PartialEq, Eq)]
 pub struct Play {
     pub session: u64,
-    /// The first unit; without, the session's present point.
+    /// The first unit; `None` for the session's present point.
     pub from: Option<u32>,
     /// The unit after the last, at most 10,000,000.
     pub stop: u32,

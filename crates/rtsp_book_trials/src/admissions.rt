@@ -1,5 +1,5 @@
-//! Admissions over ports, those over one port for RTP and RTCP (RFC 5761) among them: what is bound, and what is
-//! unbound of what they had.
+//! Admissions over ports, those over one port for RTP and RTCP (RFC 5761) among them: what is bound, and
+//! what is unbound of what they had.
 
 use crate::seats::converse_at_lock;
 use crate::world::SMALL;
@@ -88,7 +88,7 @@ rate 0 400000
 pairs 0 2
 ";
 
-// A port takes its pair from others.
+// A held port keeps others from its pair, but not from the pair's other port.
 const PORTS_AND_PAIR: &str = "> admit-port 2 3
 bind port 3 5000
 admitted port 5000

@@ -43,7 +43,7 @@ rate 0 160000
 pairs 0 2
 ";
 
-// A session ends under another admission.
+// A session expires while another of its admissions is under way.
 const ENDED: &str = "> rate 2 9
 hold 2 9 rate 80000
 > expire 60000
@@ -226,7 +226,7 @@ close 2 00000000000000000000000000000001 1 60000
 freed 3 pair 5000
 ";
 
-// A connection takes its startup numbers with it.
+// A connection that ends takes its startup numbers with it, and the sessions that hold its channels.
 const HANGUP: &str = "> open 2 1 1 60000
 open 2 00000000000000000000000000000001 1 60000
 > rate 2 3

@@ -1,5 +1,5 @@
-//! Checkpoints of a kept book: which sessions are restated, in which order and under which number, and what no clause
-//! of one call says, as a play, an undo or another checkpoint after it.
+//! Checkpoints of a kept book: which sessions are restated, in which order and under which actor, and
+//! what no clause of one call says, as a play, an undo or another checkpoint after it.
 
 use crate::kept_books::{converse, converse_after};
 use crate::world::{SMALL, WITH_STREAM};
@@ -59,8 +59,8 @@ freed 3 pair 5000
 entries 0 owed 0 rounds 4 next 9
 ";
 
-// The session 2 has a stream, and the SETUP of session 4 is under way. Session 6 has ended, and the number 8 was given
-// to a second session.
+// The session 2 has a stream, and the SETUP of session 4 is under way. Session 6 has ended, and the
+// number 8 was given to a second session.
 const MIXED: &str = "0 open 2 00000000000000000000000000000001 1 60000
 0 open 4 00000000000000000000000000000002 1 60000
 0 open 6 00000000000000000000000000000003 1 60000
@@ -76,9 +76,9 @@ const MIXED: &str = "0 open 2 00000000000000000000000000000001 1 60000
 0 open 8 00000000000000000000000000000007 1 60000
 ";
 
-// A setup under way keeps its entries.
-// Once the SETUP is settled its session is restated too. The journal left can be replayed, and leads back to the empty
-// book.
+// A session with a SETUP under way keeps its entries.
+// Once that session is settled it is restated, too. The journal left can be replayed, and leads back to
+// the empty book.
 const UNDER_WAY: &str = "> checkpoint
 > journal
 0 open 4 00000000000000000000000000000002 1 60000
@@ -119,7 +119,7 @@ rate 0 160000
 pairs 0 2
 ";
 
-// All setups are under way.
+// A SETUP is under way in each session, so a checkpoint leaves all entries.
 const ALL_UNDER_WAY: &str = "> open 2 1 1 60000
 open 2 00000000000000000000000000000001 1 60000
 > rate 2 3

@@ -13,7 +13,8 @@ fn checkpoints_fall_between_steps(rt: HostRuntime) {
 }
 
 // A checkpoint stands between each two steps that are granted.
-// The session is restated while it holds nothing, by the number 2; its admission isn't until it has its stream.
+// The session is restated while it holds nothing, under the actor 2; once an admission is under way it
+// isn't, until that has its stream.
 const GRANTED: &str = "> open 2 1 1 60000
 open 2 00000000000000000000000000000001 1 60000
 > checkpoint
@@ -46,7 +47,7 @@ entries 4 owed 4 rounds 3 next 5
 const ONE_PAIR: Whole = Whole { pairs: 1, ..SMALL };
 
 // A checkpoint stands between each two steps that are refused.
-// Whoever holds under the admission 5 is its own seat, nothing of it is left, and a checkpoint drops it.
+// Under the admission 5 only one seat holds. Of that nothing is left, and a checkpoint drops its entries.
 const REFUSED: &str = "> open 2 1 1 60000
 open 2 00000000000000000000000000000001 1 60000
 > rate 2 3
@@ -102,7 +103,7 @@ pairs 1 0
 ";
 
 // Checkpoints fall into admissions.
-// The session 10 is restated while a pair is bound for session 12, by the number 4.
+// The session 10 is restated, under the actor 4, while a pair is bound for session 12.
 const FALLEN_INTO: &str = "> meanwhile-checkpoint
 > admit-pair 10 11 5002
 bind pair 11 5000

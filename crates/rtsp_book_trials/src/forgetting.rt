@@ -1,5 +1,5 @@
 //! A kept book that forgets its ended sessions. No test reaches the greatest number of rounds: that is
-//! 2^64 - 1, and each round takes a session.
+//! 2^64 - 1, and each round needs a session that has ended.
 
 use crate::kept_books::{converse, converse_after};
 use crate::world::{SMALL, WITH_STREAM};
@@ -17,7 +17,7 @@ const EXACTLY: Whole = Whole {
     ..SMALL
 };
 
-// A full journal is forgotten.
+// A full journal of a session that has ended is forgotten.
 // The second round finds no ended session, and isn't counted.
 const FORGOTTEN: &str = "> end 2
 drop 2 3 0 0 00000003 0 0 7f000001 8000 8001

@@ -1,5 +1,5 @@
-//! What a seat does about a journal that has no room for its step: nothing where it is the lock's only one, and else a
-//! checkpoint where one may make room.
+//! What a seat does about a journal that has no room for its step: nothing where it is the lock's only
+//! one, and else a checkpoint where one may make room.
 
 use crate::lines::read_line;
 use crate::seats::{converse_at_lock, renewed};
@@ -23,8 +23,8 @@ const SHORT: Whole = Whole {
 };
 
 // A shared seat makes room for its step.
-// Each renewal but the first finds the journal full; a seat is made for it, and that draws a number, as each checkpoint
-// does.
+// Each renewal but the first finds the journal full; a seat is made for it, and that draws a number, as
+// each checkpoint does.
 const ROOM_MADE: &str = "> open 2 1 1 60000
 open 2 00000000000000000000000000000001 1 60000
 > rate 2 3
@@ -47,7 +47,7 @@ renewed 3
 entries 5 owed 4 rounds 3 next 7
 ";
 
-// A setup under way keeps its entries in a full journal.
+// A session with a SETUP under way keeps its entries in a full journal.
 const UNDER_WAY: &str = "> open 2 1 1 60000
 open 2 00000000000000000000000000000001 1 60000
 > rate 2 3

@@ -50,7 +50,7 @@ rate 80000 320000
 pairs 1 2
 ";
 
-// A connection takes its channels and startups with it.
+// A connection that ends takes its channels and startup numbers with it.
 // The startup number is unbound before the session over channels is closed, which is last.
 const HUNG_UP: &str = "> admit-pair 2 3 0 0 7
 bind pair 3 5000

@@ -50,8 +50,8 @@ fn a_journal_is_read_and_written_back(rt: HostRuntime) {
     assert!(rt; is_written);
 }
 
-// Numbers that are too great, a letter and a zero that no writer writes, spaces, another end of the line, a phase that
-// there isn't, and nothing.
+// Numbers that are too great, a letter and a zero that no writer writes, spaces, another end of the
+// line, a phase that there isn't, and nothing.
 const BAD_LINES: [&[u8]; 14] = [
     b"18446744073709551616 touch 2 1 1\n",
     b"0 bind 2 1 4294967296\n",

@@ -144,8 +144,8 @@ fn a_bind_keeps_nobody_waiting(rt: HostRuntime) -> Result<(), Fail> {
 }
 
 // What two admissions at once came to: how many were granted, how many found no pair, how many
-// sessions live, and which pair is free. The first binds once the second is answered, or at once if
-// it need not wait for that.
+// sessions live, and which pair is free. The first binds once the second is answered, or at once where
+// `is_answered` says that the second counts as answered from the beginning.
 fn contend<R: AllocGlobal + Threads + Wait + Clock + Sync>(
     rt: &R,
     whole: &Whole,

@@ -1,21 +1,21 @@
 //! Reading tracks and presentations from a configuration.
 
-ghost use Rattle.std.specs.Prelude.{◌≡◌, ◌≤◌, [], false, Some, length, IfOk, IfSome};
-ghost use Rattle.toml.specs.Data.{get_member};
+ghost use Rattle.std.specs.Prelude.{◌≡◌, ◌≤◌, ℕ, List, [], Option, false, length, map, IfOk, IfSome};
+ghost use Rattle.toml.specs.Data.{Members, get_member};
 ghost use Rattle.toml.specs.View.{view, table_view, array_view};
 ghost use Rattle.rtsp_content.specs.Distinct.{AreDistinct};
-ghost use Rattle.rtsp_content.specs.TrackValue.{track_names};
-ghost use Rattle.rtsp_content.specs.PresentationValue.{presentation_names};
 ghost use Rattle.rtsp_text.specs.Results.{Gives, GivesBy};
 ghost use Rattle.rtsp_text.specs.Slices.{held};
 ghost use Rattle.rtsp_content.specs.declared.fault.TableFault.TheVariants.{OutOfMemory};
+ghost use Rattle.rtsp_content.specs.Fault.{Read};
 ghost use Rattle.rtsp_content.specs.Keys.{item_count, optional_number_at};
 ghost use Rattle.rtsp_content.specs.Limits.{max_channels};
+ghost use Rattle.rtsp_content.specs.Tables.{each_from, in_table, has_name};
 ghost use Rattle.rtsp_content.specs.Track as track;
-ghost use Rattle.rtsp_content.specs.Track.{as_media, media_in, track_of, as_track};
+ghost use Rattle.rtsp_content.specs.Track.{as_media, media_in, track_of};
 ghost use Rattle.rtsp_content.specs.Presentation as presentation;
-ghost use Rattle.rtsp_content.specs.Presentation.{tracks_from, presentation_of};
-ghost use Rattle.rtsp_content.specs.Presentation.{as_presentation, presentations_from};
+ghost use Rattle.rtsp_content.specs.Presentation.{presentation_of, presentations_from};
+ghost use Rattle.rtsp_content.specs.PresentationValue.{presentation_names};
 
 use crate::fault::{TableFault, must};
 use crate::keys::{
@@ -33,6 +33,61 @@ use rtsp_npt::UnitLength;
 use std::alloc::Global;
 use toml::value::Array;
 use toml::{Table, Value};
+
+// What a table of an array states, beside what those before it do. No two have the same name.
+trait Stated: Drop {
+    /// Its name.
+    ghost name_of: { Self → List ℕ };
+
+    /// What a table says, with its files in the folder of the media.
+    ghost said: { Option (List ℕ) → List Self → Members → Read Self };
+
+    /// Reads a table.
+    fn read(
+        alloc: Global,
+        table: &Table,
+        folder: Option<&str>,
+        before: &[Self],
+    ) -> Result<Self, TableFault>
+        ensures value { Gives OutOfMemory result
+            (said (held folder.entry) before.now (table_view table.now)) }
+        ensures fresh { IfOk result (λ t. has_name name_of (name_of t) before.now ≡ false) };
+}
+
+fn read_in<T: Stated>(
+    alloc: Global,
+    value: &Value,
+    folder: Option<&str>,
+    before: &[T],
+) -> Result<T, TableFault>
+    ensures value { Gives OutOfMemory result
+        (in_table (T.said (held folder.entry)) before.now (view value.now)) }
+    ensures fresh { IfOk result (λ t. has_name T.name_of (T.name_of t) before.now ≡ false) }
+{
+    match value.as_table() {
+        Some(table) => T::read(alloc, table, folder, before),
+        None => Err(TableFault::BadValue),
+    }
+}
+
+// Reads the tables of an array, of which the files are in the folder of the media.
+fn read_each<T: Stated>(
+    alloc: Global,
+    values: &Array,
+    folder: Option<&str>,
+) -> Result<Vec<T>, TableFault>
+    ensures value { GivesBy OutOfMemory (λ v. v.items) result
+        (each_from (in_table (T.said (held folder.entry))) [] (array_view values.now)) }
+    ensures distinct { IfOk result (λ v. AreDistinct (map T.name_of v.items)) }
+    ensures count { IfOk result (λ v. length v.items ≡ item_count (array_view values.now)) }
+{
+    let mut entries = Vec::new(alloc);
+    for value in values {
+        let entry = read_in(alloc, value, folder, entries.as_slice())?;
+        entries.push(entry)?;
+    }
+    Ok(entries)
+}
 
 fn media(value: &Value) -> Result<Media, TableFault>
     ensures { result ≡ as_media (view value.now) }
@@ -75,74 +130,42 @@ fn channels_at(table: &Table, key: &str) -> Result<Option<u8>, TableFault>
     }
 }
 
-fn read_track(
-    alloc: Global,
-    table: &Table,
-    folder: Option<&str>,
-    before: &[Track],
-) -> Result<Track, TableFault>
-    ensures value { Gives OutOfMemory result
-        (track_of (held folder.entry) before.now (table_view table.now)) }
-    ensures fresh { IfOk result (λ t. track.has_track t.name before.now ≡ false) }
-{
-    let name = text_at(alloc, table, "name", Form::Name)?;
-    must(!has_track(name.as_str(), before), TableFault::Duplicate)?;
-    let media = media_at(table, "media")?;
-    let payload_type = number_at(table, "pt", 0, MAX_PAYLOAD_TYPE)?;
-    let encoding = text_at(alloc, table, "encoding", Form::Encoding)?;
-    let clock = number_at(table, "clock", 1, MAX_CLOCK)?;
-    let octets = number_at(table, "octets", 1, MAX_OCTETS)?;
-    let ticks = number_at(table, "ticks", 1, MAX_TICKS)?;
-    let file = text_at(alloc, table, "file", Form::Path)?;
-    let format_parameters = optional_text_at(alloc, table, "fmtp", Form::FormatParameters)?;
-    let channels = channels_at(table, "channels")?;
-    let file = media_path(alloc, folder, file)?;
-    Ok(Track {
-        name,
-        media,
-        payload_type: payload_type as u8,
-        encoding,
-        clock: clock as u32,
-        octets: octets as u16,
-        ticks: ticks as u32,
-        file,
-        format_parameters,
-        channels,
-    })
-}
+impl Stated for Track {
+    ghost name_of = { λ x. x.name };
 
-fn track_in(
-    alloc: Global,
-    value: &Value,
-    folder: Option<&str>,
-    before: &[Track],
-) -> Result<Track, TableFault>
-    ensures value { Gives OutOfMemory result
-        (as_track (held folder.entry) before.now (view value.now)) }
-    ensures fresh { IfOk result (λ t. track.has_track t.name before.now ≡ false) }
-{
-    match value.as_table() {
-        Some(table) => read_track(alloc, table, folder, before),
-        None => Err(TableFault::BadValue),
-    }
-}
+    ghost said = { track_of };
 
-fn read_tracks(
-    alloc: Global,
-    values: &Array,
-    folder: Option<&str>,
-) -> Result<Vec<Track>, TableFault>
-    ensures value { GivesBy OutOfMemory (λ v. v.items) result
-        (tracks_from (held folder.entry) [] (array_view values.now)) }
-    ensures distinct { IfOk result (λ v. AreDistinct (track_names v.items)) }
-    ensures count { IfOk result (λ v. length v.items ≡ item_count (array_view values.now)) }
-{
-    let mut tracks = Vec::new(alloc);
-    for value in values {
-        let track = track_in(alloc, value, folder, tracks.as_slice())?;
-        tracks.push(track)?;
+    fn read(
+        alloc: Global,
+        table: &Table,
+        folder: Option<&str>,
+        before: &[Track],
+    ) -> Result<Track, TableFault> {
+        let name = text_at(alloc, table, "name", Form::Name)?;
+        must(!has_track(name.as_str(), before), TableFault::Duplicate)?;
+        let media = media_at(table, "media")?;
+        let payload_type = number_at(table, "pt", 0, MAX_PAYLOAD_TYPE)?;
+        let encoding = text_at(alloc, table, "encoding", Form::Encoding)?;
+        let clock = number_at(table, "clock", 1, MAX_CLOCK)?;
+        let octets = number_at(table, "octets", 1, MAX_OCTETS)?;
+        let ticks = number_at(table, "ticks", 1, MAX_TICKS)?;
+        let file = text_at(alloc, table, "file", Form::Path)?;
+        let format_parameters = optional_text_at(alloc, table, "fmtp", Form::FormatParameters)?;
+        let channels = channels_at(table, "channels")?;
+        let file = media_path(alloc, folder, file)?;
+        Ok(Track {
+            name,
+            media,
+            payload_type: payload_type as u8,
+            encoding,
+            clock: clock as u32,
+            octets: octets as u16,
+            ticks: ticks as u32,
+            file,
+            format_parameters,
+            channels,
+        })
     }
-    Ok(tracks)
 }
 
 fn has_presentation(name: &str, presentations: &[Presentation]) -> bool
@@ -153,48 +176,34 @@ fn has_presentation(name: &str, presentations: &[Presentation]) -> bool
         .any(|presentation| presentation.name() == name)
 }
 
-fn read_presentation(
-    alloc: Global,
-    table: &Table,
-    folder: Option<&str>,
-    before: &[Presentation],
-) -> Result<Presentation, TableFault>
-    ensures value { Gives OutOfMemory result
-        (presentation_of (held folder.entry) before.now (table_view table.now)) }
-    ensures fresh { IfOk result (λ p. presentation.has_presentation p.name before.now ≡ false) }
-{
-    let name = text_at(alloc, table, "name", Form::Name)?;
-    must(
-        !has_presentation(name.as_str(), before),
-        TableFault::Duplicate,
-    )?;
-    let units = number_at(table, "units", 1, MAX_UNITS)? as u32;
-    let unit_ms = UnitLength::new(number_at(table, "unit_ms", 1, MAX_UNIT_MS)? as u32);
-    let tracks = read_tracks(alloc, list_at(table, "track", MAX_TRACKS)?, folder)?;
-    let length_ms = u64::from(units) * u64::from(unit_ms.ms());
-    let sdp = sdp_of(alloc, name.as_str(), length_ms, &tracks)?;
-    Ok(Presentation {
-        name,
-        units,
-        unit_ms,
-        tracks,
-        sdp,
-    })
-}
+impl Stated for Presentation {
+    ghost name_of = { λ x. x.name };
 
-fn presentation_in(
-    alloc: Global,
-    value: &Value,
-    folder: Option<&str>,
-    before: &[Presentation],
-) -> Result<Presentation, TableFault>
-    ensures value { Gives OutOfMemory result
-        (as_presentation (held folder.entry) before.now (view value.now)) }
-    ensures fresh { IfOk result (λ p. presentation.has_presentation p.name before.now ≡ false) }
-{
-    match value.as_table() {
-        Some(table) => read_presentation(alloc, table, folder, before),
-        None => Err(TableFault::BadValue),
+    ghost said = { presentation_of };
+
+    fn read(
+        alloc: Global,
+        table: &Table,
+        folder: Option<&str>,
+        before: &[Presentation],
+    ) -> Result<Presentation, TableFault> {
+        let name = text_at(alloc, table, "name", Form::Name)?;
+        must(
+            !has_presentation(name.as_str(), before),
+            TableFault::Duplicate,
+        )?;
+        let units = number_at(table, "units", 1, MAX_UNITS)? as u32;
+        let unit_ms = UnitLength::new(number_at(table, "unit_ms", 1, MAX_UNIT_MS)? as u32);
+        let tracks: Vec<Track> = read_each(alloc, list_at(table, "track", MAX_TRACKS)?, folder)?;
+        let length_ms = u64::from(units) * u64::from(unit_ms.ms());
+        let sdp = sdp_of(alloc, name.as_str(), length_ms, &tracks)?;
+        Ok(Presentation {
+            name,
+            units,
+            unit_ms,
+            tracks,
+            sdp,
+        })
     }
 }
 
@@ -209,10 +218,5 @@ pub(crate) fn read_presentations(
     ensures distinct { IfOk result (λ v. AreDistinct (presentation_names v.items)) }
     ensures count { IfOk result (λ v. length v.items ≡ item_count (array_view values.now)) }
 {
-    let mut presentations = Vec::new(alloc);
-    for value in values {
-        let presentation = presentation_in(alloc, value, folder, presentations.as_slice())?;
-        presentations.push(presentation)?;
-    }
-    Ok(presentations)
+    read_each(alloc, values, folder)
 }

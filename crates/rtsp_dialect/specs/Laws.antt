@@ -53,5 +53,5 @@ pub record SaysTheSame : Type 0 where
   pub transport : (value : List ℕ) (specs : List Spec) → SpellsTransport value specs → SpellsTransport (repaired_transport value) (map repaired_spec specs)
   -- the ports of a client_port, as those of an address
   pub ports : (text : List ℕ) (ports : List ℕ × List ℕ) → port_pair text ≡ Some ports → SaysPorts text ports
-  -- each two ports are read
+  -- whatever two ports a text spells, they are read of it
   pub pairs : (text : List ℕ) (rtp rtcp : ℕ) → SpellsPorts text rtp rtcp → (ports : List ℕ × List ℕ) × (port_pair text ≡ Some ports)

@@ -15,7 +15,7 @@ is_startup header = is_named header.name (codes "Pipelined-Requests")
 abbrev pub is_transport : HeaderText → Bool
 is_transport header = is_named header.name (codes "Transport")
 
--- the header is a number that is too long, or has a specification of RTSP 1.0
+-- the header has a number of Pipelined-Requests that is too long, or a specification of RTSP 1.0
 unfoldable pub needs_repair : HeaderText → Bool
 needs_repair header =
     if is_startup header then is_some (long_startup header.value)

@@ -9,7 +9,7 @@ use Rattle.rtsp_transport.specs.declared.spec.Spec.{Spec}
 use Rattle.rtsp_dialect.specs.ClientPort.{is_client_port, is_old}
 use Rattle.rtsp_dialect.specs.Repair.{is_startup, is_transport}
 
--- at most so many digits
+-- the value is a number of at most so many digits
 abbrev pub IsStartup : ℕ → List ℕ → Type 0
 IsStartup most value = (n : ℕ) × SpellsNumber most value n
 
@@ -17,7 +17,7 @@ IsStartup most value = (n : ℕ) × SpellsNumber most value n
 abbrev pub HasNoClientPort : Spec → Type 0
 HasNoClientPort spec = list_any is_client_port spec.parameters ≡ false
 
--- specifications that are such
+-- the value spells specifications, each of which is such a one
 pub record IsTransport (Is : Spec → Type 0) (value : List ℕ) : Type 0 where
   pub specs : List Spec
   pub spells : SpellsTransport value specs

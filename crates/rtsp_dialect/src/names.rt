@@ -3,7 +3,7 @@
 ghost use Rattle.std.specs.Prelude.{◌≡◌};
 ghost use Rattle.rtsp_transport.specs.Names.{is_named, is_udp};
 
-/// Whether the names are one but for the case of their ASCII letters.
+/// Whether the names are equal but for the case of their ASCII letters.
 pub fn is_named(name: &[u8], other: &[u8]) -> bool
     ensures { result ≡ is_named name.now other.now }
 {

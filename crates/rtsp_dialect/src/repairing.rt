@@ -12,7 +12,7 @@ use rtsp_grammar::{Item, MessageFault, Request};
 use rtsp_state::Room;
 use std::alloc::{AllocError, Global};
 
-/// Repairs each request of a connection before the other one answers it.
+/// An answerer that repairs each request of a connection, and has `answerer` answer what that makes.
 #[derive(Drop)]
 pub(crate) struct Repairing<'a, A> {
     pub(crate) answerer: &'a mut A,
@@ -50,7 +50,7 @@ impl<A: Answerer> Answerer for Repairing<'_, A> {
 }
 
 impl<A: Answerer> Repairing<'_, A> {
-    // Takes a piece of a connection's input. The other one stays the same one.
+    // Takes a piece of a connection's input. `answerer` stays the same one.
     fn push(
         &mut self,
         alloc: Global,

@@ -13,7 +13,8 @@ use itoa::Buffer;
 use rtsp_grammar::{Header, Headers, HeadersBuilder, Method, Request, Text, Version};
 use std::alloc::{AllocError, Global};
 
-// Whether a header's name is as long as one of the two names: few are, and the test costs little.
+// Whether a header's name is as long as `Pipelined-Requests` or `Transport`: few are, and the test
+// costs little.
 #[tactic(auto, using(crate::proofs::NameLengths::other_length))]
 fn is_as_long(header: &Header<'_>) -> bool
     ensures { result ≡ false → needs_repair (shown header.now) ≡ false }
@@ -22,7 +23,7 @@ fn is_as_long(header: &Header<'_>) -> bool
     length == 18 || length == 9
 }
 
-// Whether a header is a number that is too long, or has a specification of RTSP 1.0.
+// Whether a header has a number of Pipelined-Requests that is too long, or a specification of RTSP 1.0.
 #[tactic(auto, unfolding(crate::specs::Repair::needs_repair))]
 fn needs_repair(header: &Header<'_>) -> bool
     ensures { result ≡ needs_repair (shown header.now) }

@@ -12,7 +12,7 @@ use Rattle.rtsp_engine.specs.FaultResponses.{fault_response}
 use Rattle.rtsp_engine.specs.Served.{Output, Line, Served, Answered, Progress, Rests, FaultedAfter, EndsFrom, EndsHere, Written, with_text, with_output, answered_by}
 use Rattle.rtsp_engine.specs.declared.serving.ServeEnd.{ServeEnd}
 use Rattle.rtsp_engine.specs.declared.serving.ServeEnd.TheVariants.{Closed, ReadFault, WriteFault, Fault, TurnsSpent}
-use Rattle.rtsp_engine.proofs.Known.{appends_more, appends_none, consumes_more, consumes_none, consumes_kept}
+use Rattle.std.proofs.KnownBytes.{Appends-nil, Appends-trans, Consumes-kept, Consumes-nil, Consumes-trans}
 
 module _ {S : Type 0} (R : S → Item → List ℕ → S → Type 0) (L : S → Item → S → Type 0) where
   served_append : (newer older : List Item) (first last o p : List ℕ) (s t u : S) → Served R L older first s o t → Served R L newer last t p u → Served R L (newer ++ older) (first ++ last) s (o ++ p) u
@@ -42,25 +42,25 @@ module _ {S : Type 0} (R : S → Item → List ℕ → S → Type 0) (L : S → 
     done = h.done ++ k.done;
     output = h.output ++ k.output;
     parts = ap (λ z. z ++ more) h.parts ∙ append_assoc h.done rest more ∙ ap (λ z. h.done ++ z) k.parts ∙ sym (append_assoc h.done k.done last);
-    written = appends_more s.text t.text u.text h.output k.output h.written k.written;
+    written = Appends-trans s.text t.text u.text h.output k.output h.written k.written;
     served = served_append k.items h.items h.done k.done h.output k.output s.answerer t.answerer u.answerer h.served k.served;
   }
 
   pub progress_more : (start rest last : List ℕ) (s t u : Line S) → Progress R L start rest s t → Progress R L rest last t u → Progress R L start last s u
   progress_more start rest last s t u h k = record {
     bytes = h.bytes ++ k.bytes;
-    read = consumes_more s.unread t.unread u.unread h.bytes k.bytes h.read k.read;
+    read = Consumes-trans s.unread t.unread u.unread h.bytes k.bytes h.read k.read;
     answered = subst (λ z. Answered R L z last s.output u.output) (append_assoc start h.bytes k.bytes) (answered_more (start ++ h.bytes) rest k.bytes last s.output t.output u.output h.answered k.answered);
   }
 
   -- nothing was answered of some bytes
   pub answered_rest : (bytes : List ℕ) (s : Output S) → Answered R L bytes bytes s s
-  answered_rest bytes s = record { items = []; done = []; output = []; parts = refl; written = appends_none s.text; served = (refl, refl, refl) }
+  answered_rest bytes s = record { items = []; done = []; output = []; parts = refl; written = Appends-nil s.text; served = (refl, refl, refl) }
 
   pub progress_none : (start : List ℕ) (s : Line S) → Progress R L start start s s
   progress_none start s = record {
     bytes = [];
-    read = consumes_none s.unread;
+    read = Consumes-nil s.unread;
     answered = subst (λ z. Answered R L z start s.output s.output) (sym (append-nil start)) (answered_rest start s.output);
   }
 
@@ -68,7 +68,7 @@ module _ {S : Type 0} (R : S → Item → List ℕ → S → Type 0) (L : S → 
   pub rests_kept : (start rest : List ℕ) (s t : Line S) (left : Option (List ℕ)) → Progress R L start rest s t → Keeps t.unread left → IsUndecided rest → Rests R L start s (record { unread = left; output = t.output })
   rests_kept start rest s t left h kept undecided = record {
     rest = rest;
-    progress = record { bytes = h.bytes; read = consumes_kept s.unread t.unread left h.bytes h.read kept; answered = h.answered };
+    progress = record { bytes = h.bytes; read = Consumes-kept s.unread t.unread left h.bytes h.read kept; answered = h.answered };
     undecided = undecided;
   }
 
@@ -100,7 +100,7 @@ module _ {S : Type 0} (R : S → Item → List ℕ → S → Type 0) (L : S → 
     done = h.done ++ take size rest;
     output = h.output ++ answer;
     parts = h.parts ∙ ap (λ z. h.done ++ z) (sym (take-append-drop size rest)) ∙ sym (append_assoc h.done (take size rest) (drop size rest));
-    written = appends_more s.text t.text u.text h.output answer h.written writes;
+    written = Appends-trans s.text t.text u.text h.output answer h.written writes;
     served = record {
       front = h.done;
       back = take size rest;

@@ -64,7 +64,7 @@ abbrev pub opened : SetUp → Option ℕ
 opened (Tried n (Ok granted)) = Some n.key.session
 opened other = None
 
--- the asker had a place for it
+-- a track that was to be set up didn't fail for want of a place in the asker's share
 abbrev pub HasPlace : SetUp → Type 0
 HasPlace NoShare = ⊥
 HasPlace (NoWord at) = Unit {0}

@@ -32,7 +32,7 @@ use Rattle.rtsp_engine.specs.declared.desk.Asker.{Asker}
 use Rattle.rtsp_engine.specs.declared.desk.Desk.{Desk}
 use Rattle.rtsp_engine.specs.declared.serving.ServeEnd.{ServeEnd}
 
--- a seat that holds and adds under numbers that it drew alone still does so
+-- a seat that holds and adds under no numbers but those that it drew still does so
 abbrev pub KeepsNumbers : View → View → Type 0
 KeepsNumbers v u = UsesDrawn v → UsesDrawn u
 

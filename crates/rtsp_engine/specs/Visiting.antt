@@ -3,7 +3,7 @@ use Rattle.std.specs.Prelude.{◌≡◌, ◌<◌, ◌≤◌, ◌*◌, ◌⊎◌,
 use Rattle.std.specs.Io.KnownBytes.{Appends, Consumes, Keeps, IsAtEnd}
 use Rattle.rtsp_grammar.specs.Answer.{IsUndecided}
 use Rattle.rtsp_grammar.specs.declared.message.Item.{Item}
-use Rattle.rtsp_engine.specs.Served.{Line, Output, Parts, Progress, LastBreaksOff, Tells}
+use Rattle.rtsp_engine.specs.Served.{Line, Parts, Progress, LastBreaksOff, Tells}
 use Rattle.rtsp_engine.specs.Serving.{Serving}
 use Rattle.rtsp_engine.specs.Streams.{WritesPart, raised}
 use Rattle.rtsp_engine.specs.declared.serving.ServeEnd.{ServeEnd}
@@ -26,6 +26,19 @@ ReadsCounted old new (reading.Bytes n) = new ≡ old
 ReadsCounted old new reading.Nothing = new ≡ old
 ReadsCounted old new reading.End = new ≡ old
 ReadsCounted old new reading.Broken = new ≡ raised old
+
+-- a piece came, into the front of a buffer
+pub record Came (old new : Option (List ℕ)) (n : ℕ) (buffer : List ℕ) : Type 0 where
+  pub some : 0 < n
+  pub within : n ≤ length buffer
+  pub read : Consumes old new (take n buffer)
+
+-- the ends of a visit to which no further piece came
+abbrev pub FindsNone : VisitEnd → Type 0
+FindsNone Waits = Unit {0}
+FindsNone Closed = Unit {0}
+FindsNone ReadFault = Unit {0}
+FindsNone end = ⊥
 
 -- what is known of the parts: what the reader will give, what the writer holds, and what is served
 abbrev pub sides : {I O A : Type 0} → (I → Option (List ℕ)) → (O → Option (List ℕ)) → (A → Serving) → Parts I O A → Line Serving

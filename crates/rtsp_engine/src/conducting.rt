@@ -29,7 +29,7 @@ use std::sync::Wait;
 // How far a track that is to be set up comes.
 #[derive(Clone, Copy)]
 pub(crate) enum SetUp {
-    // The asker has its share of the sessions.
+    // The asker's share of the sessions is used up.
     NoShare,
     NoWord(Lacking),
     NoNumber(Spent),
@@ -64,7 +64,7 @@ fn note<P: Plays>(
     }
 }
 
-// Settles it, by the phase that it began.
+// Settles the play that was noted, if one was, by the phase that it began.
 fn settle<P: Plays>(plays: &mut P, step: &Step, begun: Option<Phase>)
     ensures { Settled P.calls (played step.now) begun plays.old plays.new }
 {

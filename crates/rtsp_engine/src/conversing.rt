@@ -65,8 +65,8 @@ fn respond_found<R: Wait, B: Binder, W: Words, C: Clock, P: Plays, S: Shares>(
     }
 }
 
-// Answers a request that names a session, or may name one. It stands apart, so that a request that
-// names none doesn't pay for the room of a session.
+// Answers a request that names a session, which may be none that lives. It stands apart, so that a
+// request that names none doesn't pay for a session's room on the stack.
 #[inline(never)]
 fn respond_named<R: Wait, B: Binder, W: Words, C: Clock, P: Plays, S: Shares>(
     alloc: Global,

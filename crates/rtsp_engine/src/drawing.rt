@@ -10,7 +10,7 @@ use rtsp_state::{SessionKey, SetupSession};
 use rtsp_traits::{Words, WordsFault};
 use std::sync::Wait;
 
-// The words of an admission. A living session keeps its id, and none is taken.
+// The words of an admission. A living session keeps its id: then none is drawn, and `id` is 0.
 #[derive(Clone, Copy)]
 pub(crate) struct GivenWords {
     pub(crate) id: u128,

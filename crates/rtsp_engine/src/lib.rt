@@ -1,14 +1,16 @@
 //! Answers the items of a connection over a seat of a book that others use at the same time.
 //!
 //! `connection` takes the input of a connection in pieces, has each whole item answered, and
-//! gathers what is to be written; `serving` is the loop around it that reads and writes.
-//! `conversing` answers one request from a `Desk`, the parts that are lent to a connection.
+//! gathers what is to be written. Around it `serving` is the loop that reads and writes by calls
+//! that wait, and `visiting` one visit to a connection by calls that don't. `conversing` answers one
+//! request from a `Desk`, the parts that are lent to a connection.
 //!
 //! What clocks, words, plays and shares do stands in `rtsp_traits`. The definitions of `specs/` read
-//! in this order: Desk (what is before and after a request), Renewing, Conducting, Conversing (how one
-//! item is answered), Writing (the same, in a room), Served (what a connection has written),
-//! DeskAnswers (the same from a desk), Additions (what it has recorded), Numbers (under which numbers,
-//! and what a refused SETUP leaves), Causes (faults are told where they were counted).
+//! in this order: Desk (what is before and after a request), Renewing, Drawing, Conducting, Conversing
+//! (how one item is answered), Writing (the same, in a room), Streams and FaultResponses (what is read
+//! and written), Served (what a connection has written), DeskAnswers (the same from a desk), Additions
+//! (what it has recorded), Numbers (under which numbers, and what a refused SETUP leaves), Causes
+//! (faults are told where they were counted), Serving and Visiting (the same, visit by visit).
 
 #![tactic(auto)]
 

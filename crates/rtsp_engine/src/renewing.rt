@@ -78,8 +78,8 @@ fn renew_until<R: Wait>(
     }
 }
 
-// Renews the session that was found, where it is to be renewed. Afterwards it is as it then is. A
-// refused renewal is answered at once.
+// Renews the session that was found, where it is to be renewed. Afterwards `found` is as the session
+// then is. A refused renewal is answered at once.
 pub(crate) fn renew<R: Wait>(
     rt: &R,
     seat: &mut BookSeat,

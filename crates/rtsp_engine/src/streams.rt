@@ -89,7 +89,7 @@ impl<W> CountedWriter<W> {
 }
 
 impl<W: Write> CountedWriter<W> {
-    // Writes some of the bytes. None is one more try.
+    // Writes some of the bytes. `Ok(0)` is that a signal came, and asks for one more try.
     #[tactic(auto, using(crate::proofs::Known::appends_kept_none))]
     fn write_some(&mut self, bytes: &[u8]) -> Result<usize, StreamFault>
         ensures within { IfOk result (λ n. n ≤ length bytes.now) }

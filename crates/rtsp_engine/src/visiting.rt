@@ -1,13 +1,13 @@
 //! Visits to a connection that doesn't block: what is there is read and answered.
 
-ghost use Rattle.std.specs.Prelude.{◌≡◌, ◌++◌, ℕ, List, [], length, Option, Some, Err, IfErr, OnOk, OnErr};
-ghost use Rattle.std.specs.Io.KnownBytes.{Appends};
+ghost use Rattle.std.specs.Prelude.{◌≡◌, ◌++◌, ℕ, List, [], length, Option, Some, Err, IfOk, IfErr, OnOk, OnErr, MatchResult};
+ghost use Rattle.std.specs.Io.KnownBytes.{Appends, Keeps};
 ghost use Rattle.rtsp_grammar.specs.Answer.{IsUndecided};
 ghost use Rattle.rtsp_grammar.specs.declared.message.Item.{Item};
 ghost use Rattle.rtsp_engine.specs.Served.{Answered, FaultedAfter, Written, at, parts};
 ghost use Rattle.rtsp_engine.specs.Serving.{Serving};
 ghost use Rattle.rtsp_engine.specs.Streams.{HasCause, WritesPart};
-ghost use Rattle.rtsp_engine.specs.Visiting.{Reads, ReadsCounted, sides, ended, serve_end, Delivers, CountsWrite, CountsRead, CountsDelivery, ClosesAtEnd, ReadsPieces, Visits, VisitsChain};
+ghost use Rattle.rtsp_engine.specs.Visiting.{Reads, ReadsCounted, Came, FindsNone, sides, ended, serve_end, Delivers, CountsWrite, CountsRead, CountsDelivery, ClosesAtEnd, ReadsPieces, Visits, VisitsChain};
 
 use crate::connection::Connection;
 use crate::fault_responses::fault_response;
@@ -89,6 +89,23 @@ pub enum VisitEnd {
     WriteFault,
     /// A message cannot be read, or memory ran out. The client was told.
     Fault(MessageFault),
+}
+
+// Reads a piece. How the visit ends, where none comes.
+fn read_or_end<I: PieceIn>(reader: &mut I, buffer: &mut [u8]) -> Result<usize, VisitEnd>
+    ensures piece { IfOk result (λ n. Came (I.remaining reader.old) (I.remaining reader.new) n buffer.new) }
+    ensures kept { OnErr result (Keeps (I.remaining reader.old) (I.remaining reader.new)) }
+    ensures none { IfErr result FindsNone }
+    ensures closed { IfErr result (λ end. ClosesAtEnd end (length buffer.new) (I.remaining reader.new)) }
+    ensures cause { MatchResult result (λ _. I.failures reader.new ≡ I.failures reader.old)
+        (λ end. CountsRead end (I.failures reader.old) (I.failures reader.new)) }
+{
+    match reader.read_piece(buffer) {
+        Reading::Bytes(read) => Ok(read),
+        Reading::Nothing => Err(VisitEnd::Waits),
+        Reading::End => Err(VisitEnd::Closed),
+        Reading::Broken => Err(VisitEnd::ReadFault),
+    }
 }
 
 // Writes the answers that were gathered, and leaves the room empty.
@@ -188,11 +205,9 @@ pub fn visit<A: PieceAnswerer, I: PieceIn, O: ByteOut>(
 {
     room.clear();
     for _count in 0..pieces {
-        let read = match reader.read_piece(buffer) {
-            Reading::Bytes(read) => read,
-            Reading::Nothing => return ended(write_answers(room, writer), VisitEnd::Waits),
-            Reading::End => return ended(write_answers(room, writer), VisitEnd::Closed),
-            Reading::Broken => return ended(write_answers(room, writer), VisitEnd::ReadFault),
+        let read = match read_or_end(reader, buffer) {
+            Ok(read) => read,
+            Err(end) => return ended(write_answers(room, writer), end),
         };
         match answerer.push(alloc, input, &buffer[..read], room) {
             Ok(()) => {}

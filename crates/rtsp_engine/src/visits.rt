@@ -1,4 +1,4 @@
-//! The engine over a desk.
+//! A whole connection served from one desk.
 
 ghost use Rattle.std.specs.Prelude.{◌≡◌};
 ghost use Rattle.rtsp_engine.specs.Additions.{Grows};

@@ -17,7 +17,8 @@ leaving conn e = hanging_up conn (Some e)
 abbrev pub ended : ℕ × Session → List Record
 ended e = ending e.0 e.1
 
--- what the calls recorded is this of so many sessions, each of which passed the test, and nothing else; so they leave the history and the seat
+-- the calls recorded just these records of so many sessions, each of which passed the test, and by them the
+-- seat has grown
 pub record EndsOnly (test : ℕ × Session → Bool) (records : ℕ × Session → List Record) (count : ℕ) (v u : View) : Type 0 where
   pub sessions : List (ℕ × Session)
   pub each : length sessions ≡ count

@@ -20,7 +20,7 @@ IsSweeping other = ⊥
 abbrev pub session_in : List Record → Option ℕ
 session_in made = option_map session_of (slice_get made 0)
 
--- that of the step that was accepted last, of the records of each, the last first
+-- the session of the step that was accepted last, from the records of each accepted step, the last first
 abbrev pub last_session : List (List Record) → Option ℕ
 last_session [] = None
 last_session (made ∷ before) = session_in made

@@ -10,8 +10,8 @@ use rtsp_sessions::BookRep;
 use std::sync::Wait;
 
 /// Ends all sessions, the least number first, under this actor: then nothing is held, and the book
-/// is the one that was opened. It takes no memory. No port is unbound, so it is for a server that is
-/// at its end.
+/// is empty, as it was when it was opened. It takes no memory. No port is unbound, so it is for a
+/// server that is at its end.
 pub fn end_all<R: Wait, B: BookRep>(rt: &R, kept: &mut Kept<B>, actor: u64)
     ensures nobody { book_of kept.new.journal ≡ empty }
     ensures ends { EndsAll actor kept.old kept.new }

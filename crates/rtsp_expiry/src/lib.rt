@@ -1,8 +1,8 @@
 //! The end of sessions by time and by the end of a connection.
 //!
-//! A sweep acts one step, Expire or Hangup, again and again: until nothing is due, or until its
-//! limit is reached, so that others get the lock in between. After each step the ports that it
-//! freed are unbound. It takes no memory, and never breaks off for want of it.
+//! A sweep acts one step, Expire or Hangup, again and again, until nothing is due or its limit is
+//! reached. The lock is free between the steps, so that others get it there. After each step the
+//! ports that it freed are unbound. A sweep takes no memory, and never breaks off for want of it.
 //!
 //! At the end of a server whoever has the book alone ends all sessions.
 //!

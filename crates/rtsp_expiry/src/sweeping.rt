@@ -24,8 +24,8 @@ fn session_in(made: &[Record]) -> Option<u64>
     }
 }
 
-// Acts the step until nothing is due, or until it was accepted so often, and unbinds the ports that
-// each step freed.
+// Acts the step until nothing is due, or until it was accepted `limit` times, and unbinds the ports
+// that each step freed.
 #[tactic(auto, using(crate::proofs::Finding::askable))]
 fn act_all<R: Wait, B: Binder>(
     rt: &R,

@@ -7,7 +7,7 @@ pub struct Swept {
     pub ended: u32,
     /// It stopped at its limit, so more may be due.
     pub more: bool,
-    /// The session that the last of them was about, if there was one: the one that it ended, where a
-    /// sweep did.
+    /// The session that the last accepted step was about, if there was one. `sweep` ended it;
+    /// `hang_up` ended it or took a startup number away from it.
     pub last: Option<u64>,
 }

@@ -78,7 +78,7 @@ abbrev pub Decides : List ℕ → Result (Item × ℕ) MessageFault → Type 0
 Decides text (Ok found) = (found.1 ≤ length text) × Spells (take found.1 text) found.0
 Decides text (Err fault) = HasFault text fault
 
--- a text has one answer, and a longer text has no other
+-- a text has at most one answer, and a longer text has no other
 abbrev pub OneAnswer : Type 0
 OneAnswer = (text more : List ℕ) (a b : Result (Item × ℕ) MessageFault) → Decides text a → Decides (text ++ more) b → a ≡ b
 
@@ -86,7 +86,7 @@ OneAnswer = (text more : List ℕ) (a b : Result (Item × ℕ) MessageFault) →
 abbrev pub Stays : Type 0
 Stays = (text more : List ℕ) (a : Result (Item × ℕ) MessageFault) → Decides text a → Decides (text ++ more) a
 
--- a text that leaves it open has no answer
+-- an undecided text has no answer
 abbrev pub NoAnswer : Type 0
 NoAnswer = (text : List ℕ) (a : Result (Item × ℕ) MessageFault) → IsUndecided text → Decides text a → ⊥
 
@@ -94,7 +94,7 @@ NoAnswer = (text : List ℕ) (a : Result (Item × ℕ) MessageFault) → IsUndec
 abbrev pub AreBytes : List ℕ → Type 0
 AreBytes text = AllByRecursion (λ b. b < 256) text
 
--- a text that leaves it open has a longer one with an answer
+-- an undecided text of bytes can be made longer, so that it has an answer
 abbrev pub OpensOut : Type 0
 OpensOut = (text : List ℕ) → AreBytes text → IsUndecided text → (more : List ℕ) × (a : Result (Item × ℕ) MessageFault) × AreBytes more × Decides (text ++ more) a
 

@@ -27,7 +27,7 @@ abbrev pub line_and_others : List ℕ → Option (List ℕ × List ℕ) → List
 line_and_others lines None = (lines, [])
 line_and_others lines (Some halves) = (halves.0, drop 1 halves.1)
 
--- the same of a text
+-- the first line of a text of lines, and the others
 abbrev pub split_line : List ℕ → List ℕ × List ℕ
 split_line lines = line_and_others lines (split_once 13 lines)
 
@@ -111,7 +111,7 @@ unfolded_or_bad (b ∷ more, lines) = Err BadHeader
 abbrev pub unfolded : List (List ℕ) → Result (List (List ℕ)) MessageFault
 unfolded lines = unfolded_or_bad (folded lines)
 
--- at most 64 of them
+-- lines with what continues them, at most 64
 unfoldable pub unfold_lines : List (List ℕ) → Result (List (List ℕ)) MessageFault
 unfold_lines lines = do
   unfolded_lines ← unfolded lines
@@ -129,7 +129,7 @@ header_of_halves (Some (name, value)) =
 unfoldable pub header_of : List ℕ → Result HeaderText MessageFault
 header_of line = header_of_halves (split_once 58 line)
 
--- a header a line
+-- one header of each line
 unfoldable pub headers_of : List (List ℕ) → Result (List HeaderText) MessageFault
 headers_of [] = Ok []
 headers_of (line ∷ lines) = do

@@ -31,7 +31,7 @@ BeginsNoFrame reaches.Start left = ¬ BeginsFrame left
 BeginsNoFrame reaches.LineEnd left = Unit {0}
 BeginsNoFrame reaches.Line left = Unit {0}
 
--- no line has begun, or the last one is ended, or it isn't
+-- no line has begun, or the last one is ended, or bytes of one that isn't ended stand there
 abbrev pub HasReached : Reached → List (List ℕ) → List ℕ → Type 0
 HasReached reaches.Start lines part = (lines ≡ []) × (part ≡ [])
 HasReached reaches.LineEnd lines part = (lines ≢ []) × (part ≡ [])
@@ -53,17 +53,17 @@ pub record IsPlace (text : List ℕ) (place : ScanPlace) : Type 0 where
   pub within : place.at ≤ length text
   pub reached : IsReached text place.reached (drop place.at text)
 
--- the text and each longer one with fewer than so many bytes leave it open
+-- the text and each longer one with fewer than so many bytes are undecided
 abbrev pub IsShortOf : List ℕ → ℕ → Type 0
 IsShortOf text whole = (more : List ℕ) → length (text ++ more) < whole → IsUndecided (text ++ more)
 
--- an item, a head that is open, or a length that is missing still
+-- an item, a head that is open, or a text that is undecided while it has fewer bytes than this
 abbrev pub IsFront : List ℕ → Front → Type 0
 IsFront text (fronts.Item item len) = Decides text (Ok (item, len))
 IsFront text fronts.OpenHead = IsUndecided text
 IsFront text (fronts.Short whole) = IsUndecided text × IsShortOf text whole
 
--- what is known of the front of a text is so
+-- what the progress says of the unread bytes is true
 abbrev pub HasProgress : List ℕ → Progress → Type 0
 HasProgress text progresses.Fresh = Unit {0}
 HasProgress text (progresses.Head place) = IsPlace text place

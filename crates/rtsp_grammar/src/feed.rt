@@ -24,7 +24,7 @@ enum Progress {
     Whole(usize),
 }
 
-// Gives a buffer back that has no bytes.
+// Gives the memory of a buffer back if it has no bytes.
 fn let_go(bytes: &mut BytesMut, alloc: Global)
     ensures items { bytes.new.items ≡ bytes.old.items }
     ensures empty { bytes.new.items ≡ [] → bytes.new.spare ≡ 0 }
@@ -34,7 +34,7 @@ fn let_go(bytes: &mut BytesMut, alloc: Global)
     }
 }
 
-/// What came of a stream and is in no item yet, and the fault that was met.
+/// The bytes of a stream that have come and are in no item yet, and the fault that was met.
 ///
 /// Bytes are pushed as they come, and items taken until there are no more. The items are those of
 /// all bytes together, wherever these were cut. What a byte costs doesn't depend on that either: a
@@ -63,7 +63,7 @@ impl Model for Feed {
 impl Feed {
     ghost use Rattle.rtsp_grammar.specs.Stream.{waiting, Takes, given, IsFed};
 
-    /// A Feed of which nothing is known yet.
+    /// A Feed to which nothing was pushed yet.
     pub fn open(alloc: Global) -> Feed
         ensures { result ≡ waiting [] }
     {
@@ -112,7 +112,7 @@ impl Feed {
         self.read_next()
     }
 
-    // `push`, but for what it is the next piece of.
+    // `push`, without its clause on the whole stream, of which this is the next piece.
     fn append(&mut self, piece: &[u8]) -> Result<(), MessageFault>
         ensures ok { OnOk result ((self.old.fault ≡ None) × (self.new ≡ waiting (self.old.unread ++ piece.now))) }
         ensures err { OnErr result (self.new ≡ self.old) }
@@ -134,7 +134,7 @@ impl Feed {
         }
     }
 
-    // `next`, but for what the items before it were.
+    // `next`, without its clause on the whole stream and the items given before.
     fn read_next(&mut self) -> Result<Option<Item>, MessageFault>
         ensures kept { IfSome self.old.fault (λ f. (result ≡ Err f) × (self.new ≡ self.old)) }
         ensures takes { IfNone self.old.fault (Takes self.old.unread self.new result) }
@@ -189,7 +189,7 @@ impl Feed {
         }
     }
 
-    // Keeps a fault of the bytes; want of memory is none.
+    // Keeps a fault of the bytes. Want of memory is no fault of theirs, and isn't kept.
     fn keep(&mut self, fault: MessageFault)
         ensures memory { fault ≡ OutOfMemory → self.new ≡ self.old }
         ensures kept { fault ≢ OutOfMemory → self.new ≡ record { unread = self.old.unread; fault = Some fault } }
@@ -200,7 +200,7 @@ impl Feed {
         }
     }
 
-    // The first bytes are in an item that is given.
+    // Drops the first bytes, which are those of an item that is given.
     fn forget(&mut self, len: usize)
         requires { len ≤ length self.old.unread }
         ensures { self.new ≡ record { unread = drop len self.old.unread; fault = self.old.fault } }

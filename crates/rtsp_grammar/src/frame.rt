@@ -17,7 +17,8 @@ fn payload_len(high: u8, low: u8) -> usize
     usize::from(u16::from_be_bytes([high, low]))
 }
 
-/// The bytes of the frame at the front: until its own length has come, those up to its end.
+/// How many bytes the frame at the front has. Until the two bytes of its length have come: 4, the
+/// bytes up to the end of these.
 pub fn frame_len(bytes: &[u8]) -> usize
     ensures value { result ≡ frame_len bytes.now }
     ensures small { result < 65540 }

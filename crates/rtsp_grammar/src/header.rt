@@ -45,7 +45,7 @@ pub struct Headers {
     places: Vec<Place>,
 }
 
-// Written out, so that whoever lets go of headers makes one call.
+// Written out, so that dropping headers is one call.
 impl Drop for Headers {
     #[inline(always)]
     fn drop(self) {
@@ -71,7 +71,7 @@ impl Model for Headers {
 impl Headers {
     ghost use Rattle.rtsp_grammar.specs.HeaderView.{shown};
 
-    /// How many there are, each line with its folds counted once.
+    /// How many there are. A header line and the lines that continue it are one header.
     pub fn len(&self) -> usize
         ensures { result ≡ length self.now }
     {
@@ -127,8 +127,8 @@ impl Headers {
         None
     }
 
-    /// The value of the header of this name, where it may stand once; None where there is none. The
-    /// headers are gone over once.
+    /// The value of the one header of this name; None where there is none, `Repeated` where there are
+    /// more. The headers are gone over once.
     pub fn only_value(&self, name: &[u8]) -> Result<Option<&[u8]>, Repeated>
         ensures one { IfOk result (λ found. values_of name.now self.now ≡ cons_option (option_map (λ v. v.now) found) []) }
         ensures several { OnErr result (1 < length (values_of name.now self.now)) }
@@ -179,7 +179,7 @@ impl HeadersBuilder {
         }
     }
 
-    /// No header yet, and room for so many with so many bytes of names and values.
+    /// No header yet, and room for `lines` headers with `bytes` bytes of names and values together.
     pub fn with_room(
         alloc: Global,
         lines: usize,

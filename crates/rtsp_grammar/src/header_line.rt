@@ -76,7 +76,7 @@ fn next_header<'a>(
     Ok(rest)
 }
 
-/// The headers that lines spell, of which so many continue no other line.
+/// The headers that lines spell. `count` of the lines continue no other: so many headers there are.
 pub fn headers_of(alloc: Global, lines: &[u8], count: usize) -> Result<Headers, MessageFault>
     ensures { (ls : List (List ℕ)) → AreLines lines.now ls → count ≡ length (folded ls).1 → Gives OutOfMemory result (header_lines_of ls) }
 {

@@ -11,7 +11,7 @@ pub fn law_reads_rules()
     ensures one { OneReading }
 {}
 
-/// A text has one answer, and keeps it when more bytes follow.
+/// A text has at most one answer, and no longer text has another.
 pub fn law_one_answer()
     ensures { OneAnswer }
 {}

@@ -16,7 +16,7 @@ pub struct Request {
     pub body: Text,
 }
 
-// Written out, so that whoever lets go of a request makes one call, and not one for each of its parts.
+// Written out, so that dropping a request is one call, and not one for each of its parts.
 impl Drop for Request {
     #[inline(always)]
     fn drop(self) {

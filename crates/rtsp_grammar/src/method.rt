@@ -16,7 +16,7 @@ pub enum Method {
     Options,
     Pause,
     Play,
-    /// From the server to the client.
+    /// From the server to the client, as `Redirect` is.
     PlayNotify,
     Redirect,
     Setup,

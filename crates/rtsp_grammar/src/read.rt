@@ -31,7 +31,7 @@ fn blank_len(bytes: &[u8]) -> usize
     at
 }
 
-// The bytes among which a head ends, if it does.
+// The bytes within which a head has to end.
 fn head_window(bytes: &[u8]) -> &[u8]
     ensures { result.now ≡ take 8192 bytes.now }
 {
@@ -47,7 +47,8 @@ pub enum Front {
     Item { item: Item, len: usize },
     /// A head whose end hasn't come, or less.
     OpenHead,
-    /// Less than a message whose head is read, or than a frame: it isn't whole in fewer bytes.
+    /// A part of a message whose head is whole, or of a frame: the item isn't whole in fewer than
+    /// `whole` bytes.
     Short { whole: usize },
 }
 
@@ -138,8 +139,9 @@ fn item_at(alloc: Global, bytes: &[u8]) -> Result<Option<(Item, usize)>, Message
 ///
 /// None: more bytes are needed. Any other answer is that of each longer input too, unless memory
 /// runs out. A fault is that of the first rule that the bytes break: line ends, the head's length,
-/// the first line, folds, headers, the body's length. It takes memory for the URI, for the headers
-/// (twice) and for the body where there is one, and for a method or a version that isn't known.
+/// the first line, folds, headers, the body's length. It takes memory for the URI or the reason, for
+/// the headers (twice), for a header line with folds, for the body or the payload where there is one,
+/// and for a method or a version that isn't known.
 pub fn read_item(alloc: Global, bytes: &[u8]) -> Result<Option<(Item, usize)>, MessageFault>
     // The first bytes spell the item.
     ensures length { IfOk result (λ found. IfSome found (λ x. x.1 ≤ length bytes.now)) }
@@ -147,7 +149,7 @@ pub fn read_item(alloc: Global, bytes: &[u8]) -> Result<Option<(Item, usize)>, M
     // A longer text is needed to decide.
     ensures none { IfOk result (λ found. IfNone found (IsUndecided bytes.now)) }
     ensures fault { IfErr result (λ f. (f ≡ OutOfMemory) ⊎ HasFault bytes.now f) }
-    // Nothing else is answered where the text has an answer, or leaves it open.
+    // Where the text has an answer it is given, and where it is undecided nothing is found.
     ensures only { (a : Result (Item × ℕ) MessageFault) → Decides bytes.now a → Answers result a }
     ensures open { IsUndecided bytes.now → FindsNothing result }
 {

@@ -63,8 +63,8 @@ impl Reached {
     }
 }
 
-/// Scans on from a place, to where the head is open still. None: it is open no more, or there is a
-/// frame.
+/// Scans on from a place, to where the head is open still. None: the head has ended, a line of it is
+/// broken, or a frame stands there.
 pub fn scan(bytes: &[u8], place: ScanPlace) -> Option<ScanPlace>
     requires { IsPlace bytes.now place }
     ensures place { IfSome result (λ p. IsPlace bytes.now p) }

@@ -80,7 +80,7 @@ fn status_of(alloc: Global, version: &[u8], rest: &[u8]) -> Result<StartLine, Me
     })
 }
 
-// Apart, since a server reads few of them.
+// Never inlined, since a server reads few status lines.
 #[inline(never)]
 #[tactic(auto, unfolding(crate::specs::Reading::status_line_of))]
 fn status_line_of(alloc: Global, line: &[u8]) -> Result<StartLine, MessageFault>

@@ -53,8 +53,8 @@ fn split_space(text: &[u8], len: usize) -> Option<(&[u8], &[u8])>
     }
 }
 
-/// The text before the first space and after it. None where that before it has other bytes than
-/// those of a token, or no space is there.
+/// The texts before and after the first space. None where there is no space, or where the text
+/// before it has a byte that no token has.
 pub fn split_token(text: &[u8]) -> Option<(&[u8], &[u8])>
     ensures some { IfSome result (λ p. Some (p.0.now, p.1.now) ≡ split_once 32 text.now) }
     ensures token { IfSome result (λ p. list_all is_token_byte p.0.now ≡ true) }
@@ -63,7 +63,7 @@ pub fn split_token(text: &[u8]) -> Option<(&[u8], &[u8])>
     split_space(text, token_len(text))
 }
 
-/// The same for the bytes of a URI.
+/// The same, where the text before the space has bytes of a URI alone.
 pub fn split_uri(text: &[u8]) -> Option<(&[u8], &[u8])>
     ensures some { IfSome result (λ p. Some (p.0.now, p.1.now) ≡ split_once 32 text.now) }
     ensures uri { IfSome result (λ p. list_all is_uri_byte p.0.now ≡ true) }
@@ -86,7 +86,8 @@ pub fn is_word(text: &[u8], word: &[u8]) -> bool
     text.len() == word.len() && text == word
 }
 
-/// Whether bytes of a token may name a method: there is one, and it isn't that of a frame.
+/// Whether bytes of a token name a method: there is at least one, and the first isn't `$`, with
+/// which a frame begins.
 pub fn is_method(token: &[u8]) -> bool
     requires { list_all is_token_byte token.now ≡ true }
     ensures { result ≡ is_method token.now }
@@ -97,7 +98,7 @@ pub fn is_method(token: &[u8]) -> bool
     }
 }
 
-/// Whether bytes of a URI are one: there is one or more.
+/// Whether bytes of a URI are a URI: there is at least one.
 pub fn is_uri(bytes: &[u8]) -> bool
     requires { list_all is_uri_byte bytes.now ≡ true }
     ensures { result ≡ is_uri bytes.now }

@@ -37,7 +37,7 @@ pub fn rest_len(headers: &Headers, body: &[u8]) -> usize
         .saturating_add(body.len())
 }
 
-/// The bytes of the first line, or `usize::MAX`.
+/// How many bytes the request line has, at most `usize::MAX`.
 pub fn request_line_len(request: &Request) -> usize
     ensures { result ≡ min (length (start_line_text (request_head request.now).start)) (2 ^ 64 - 1) }
 {
@@ -50,7 +50,7 @@ pub fn request_line_len(request: &Request) -> usize
         .saturating_add(4)
 }
 
-/// The bytes of the first line, or `usize::MAX`.
+/// How many bytes the status line has, at most `usize::MAX`.
 pub fn status_line_len(response: &Response) -> usize
     ensures { result ≡ min (length (start_line_text (response_head response.now).start)) (2 ^ 64 - 1) }
 {

@@ -10,11 +10,11 @@ use Rattle.rtsp_index.specs.Placing.{gathered}
 abbrev pub sessions_in : SessionTable → Book
 sessions_in t = gathered t.rows t.places.entries
 
--- those of the first so many numbers, in the order of the look-ups
+-- the living sessions of the first n numbers of `places`
 abbrev pub sessions_of_first : SessionTable → ℕ → Book
 sessions_of_first t n = gathered t.rows (take n t.places.entries)
 
--- at this place in the order of the look-ups stands this number, which has a row
+-- at this index of `places` stands this number, which has a row
 pub record StandsAt (t : SessionTable) (index number : ℕ) : Type 0 where
   pub place : ℕ
   pub there : slice_get t.places.entries index ≡ Some (number, place)

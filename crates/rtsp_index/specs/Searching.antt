@@ -6,7 +6,7 @@ use Rattle.rtsp_sessions.specs.Searches.{is_settled, is_expired, is_on}
 use Rattle.rtsp_index.specs.declared.search.Search.{Search}
 use Rattle.rtsp_index.specs.declared.search.Search.TheVariants.{From, Expired, OnConn, Unsettled}
 
--- the session is one that is searched
+-- the session passes the search
 abbrev pub passes : Search → ℕ × Session → Bool
 passes (From n) e = nat_le n e.0
 passes (Expired now) e = is_expired now e

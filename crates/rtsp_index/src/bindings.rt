@@ -12,7 +12,7 @@ use indexmap::IndexMap;
 use rtsp_record::Record;
 use std::alloc::{AllocError, Global};
 
-/// How many sessions are bound to each connection. A connection to which none is takes no place.
+/// How many sessions are bound to each connection. One to which no session is bound takes no place.
 #[derive(Drop)]
 pub(crate) struct Bindings {
     counts: IndexMap<u64, u32>,
@@ -21,7 +21,7 @@ pub(crate) struct Bindings {
 impl Bindings {
     ghost use Rattle.rtsp_index.specs.Bound.{bound_on, AreBindingsOf};
 
-    /// None.
+    /// No session is bound.
     pub(crate) fn new(alloc: Global) -> Self
         ensures { AreBindingsOf empty result }
     {

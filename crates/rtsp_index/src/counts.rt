@@ -22,7 +22,7 @@ pub(crate) struct Counts {
     bindings: Bindings,
 }
 
-// One where the record opens a session.
+// 1 where the record opens a session, else 0.
 fn opens(change: &Record) -> usize
     ensures value { result ≡ one_if (is_open change.now) }
     ensures small { result ≤ 1 }
@@ -37,7 +37,7 @@ impl Counts {
     ghost use Rattle.rtsp_index.specs.Bound.{bindings_of};
     ghost use Rattle.rtsp_index.specs.Counted.{AreCountsOf};
 
-    /// None.
+    /// The counts of the book of no session.
     pub(crate) fn new(alloc: Global) -> Self
         ensures { AreCountsOf empty result }
     {

@@ -14,16 +14,16 @@ use std::marker::Model;
 /// A book with indexes. A record, and a look-up by number, id or startup number, cost the same
 /// however many sessions live, and so do the choices and sums; of a record that opens or closes a
 /// session or moves its expiry, a part grows with the logarithm of their number. `due` and
-/// `on_conn` cost the same where they answer `None`. Where they find a session, and in
-/// `next_session` and `next_sessions`, all sessions are gone through: by their numbers and expiries
-/// alone, but for `on_conn` and `unsettled`, which read each row.
+/// `on_conn` cost the same where they answer `None`. Where they find a session, and always in
+/// `next_session`, `next_sessions` and `unsettled`, all sessions are gone through. `on_conn` and
+/// `unsettled` read each row then, the others numbers and expiries alone.
 ///
 /// The parts stand on the heap, so a book is moved as one address.
 pub struct IndexedBook {
     parts: Box<Parts>,
 }
 
-// Written out, so that whoever lets go of a book makes one call, and not one for each of its parts.
+// Written out, so that dropping a book is one call, and not one for each of its parts.
 impl Drop for IndexedBook {
     fn drop(self) {
         let Self { parts: _parts } = self;

@@ -1,5 +1,5 @@
-//! A book of sessions with indexes, in which a record, a look-up or a choice costs the same however
-//! many sessions live.
+//! A book of sessions with indexes, in which a record, a choice, or a look-up by number, id or startup
+//! number costs nearly the same however many sessions live. `IndexedBook` says what each call costs.
 //!
 //! The definitions of `specs/` read in this order: Placing, Lessers, Dating and Contents (the table
 //! of sessions with their expiries), Searching (what sessions are searched by), Following (a record

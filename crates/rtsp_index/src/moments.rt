@@ -7,12 +7,12 @@ use std::alloc::{AllocError, Global};
 
 /// A moment at each of so many places, in milliseconds; the greatest moment where nothing was
 /// written. The least of them is read at once. A write looks at two numbers for each doubling of
-/// the places, and no further up than where it changes something.
+/// the places, and stops where the lesser of the two stays as it was.
 #[derive(Drop)]
 pub(crate) struct Moments {
     places: usize,
-    // The moments stand from `places` on. Before them each number, from 1 on, is the lesser of the
-    // two at twice its index and behind.
+    // The moments stand from index `places` on. Before them each number, from index 1 on, is the
+    // lesser of the two at twice its index and right after that.
     least: Vec<u64>,
     ghost lessers: { AreLessers places least.items },
 }

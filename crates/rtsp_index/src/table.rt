@@ -24,7 +24,7 @@ use std::alloc::{AllocError, Global};
 
 /// The living sessions. Each has a place, where its row stands until it ends. No row is moved when
 /// another comes or goes, but where there is no room for one more: the slab grows then, and moves
-/// all once. A session's expiry stands once more beside the others', of which the least is at hand.
+/// all once. The expiries stand once more by place, so that the least of them is at hand.
 #[derive(Drop)]
 pub(crate) struct SessionTable {
     places: IndexMap<u64, usize>,
@@ -146,8 +146,8 @@ impl SessionTable {
         }
     }
 
-    // Whether the session of this number, which has this place, is one that is searched. Its row is
-    // read only for what the connection has of it, and for its admissions.
+    // Whether the session of this number, which has this place, passes the search. Its row is read for
+    // `OnConn` and `Unsettled` alone.
     fn takes(&self, search: &Search, session: u64, place: usize) -> bool
         requires { get_place nat_eq self.now.places session ≡ Some place }
         ensures { (f : Session) → get (sessions_in self.now) session ≡ Some f → result ≡ passes search.now (session, f) }
@@ -171,7 +171,7 @@ impl SessionTable {
         }
     }
 
-    // The number at this place in the order of the look-ups, where its session is searched.
+    // The number at this index of `places`, where its session passes the search.
     fn searched_at(&self, index: usize, search: &Search) -> Option<u64>
         ensures found { IfSome result (Passes (passes search.now) (sessions_in self.now)) }
         ensures only { (e : ℕ × ℕ) → slice_get self.now.places.entries index ≡ Some e → Passes (passes search.now) (sessions_in self.now) e.0 → result ≡ Some e.0 }
@@ -184,7 +184,7 @@ impl SessionTable {
         }
     }
 
-    /// The least number of a session that is searched. It looks at all.
+    /// The least number of a session that passes the search. It looks at all.
     pub(crate) fn least(&self, search: &Search) -> Option<u64>
         ensures { result ≡ number_of (passes search.now) (entries (sessions_in self.now)) }
     {
@@ -206,8 +206,7 @@ impl SessionTable {
         }
     }
 
-    // Puts the number at this place in the order of the look-ups among those before it, where it is
-    // above.
+    // Puts the number at this index of `places` among those found before it, where it is above.
     fn put_above(&self, index: usize, above: Option<u64>, found: &mut SessionNumbers)
         requires within { index < length self.now.places.entries }
         requires before { found.old ≡ take 256 (numbers_above above (entries (sessions_of_first self.now index))) }
@@ -219,7 +218,7 @@ impl SessionTable {
         }
     }
 
-    // The number at this place in the order of the look-ups.
+    // The number at this index of `places`.
     fn number_at(&self, index: usize) -> u64
         requires { index < length self.now.places.entries }
         ensures { StandsAt self.now index result }

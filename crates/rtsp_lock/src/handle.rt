@@ -28,8 +28,9 @@ impl BookHandle {
         BookHandle { lock, seat }
     }
 
-    /// A handle with a seat of its own, which bears a number that no seat has drawn. There is none
-    /// where the numbers are used up.
+    /// A handle with a seat of its own, whose actor is a number that no seat has drawn. There is
+    /// none where the numbers are used up, or where the lock is shared as often as its `Arc` can
+    /// count.
     pub fn split<R: Wait>(&mut self, rt: &R) -> Option<BookHandle>
         ensures same { SameSeat self.old.seat self.new.seat }
         ensures lock { arc_value self.new.lock ≡ arc_value self.old.lock }
@@ -65,8 +66,8 @@ impl BookHandle {
         self.seat.forget(rt, &self.lock);
     }
 
-    /// Makes a checkpoint: each session of which no SETUP is under way stands in the journal by
-    /// what makes it, and no more by all that it did.
+    /// Makes a checkpoint: each session of which no SETUP is under way then stands in the journal
+    /// by what makes it as it is, in place of all that it did.
     pub fn checkpoint<R: Wait>(&mut self, rt: &R)
         ensures same { SameSeat self.old.seat self.new.seat }
         ensures lock { arc_value self.new.lock ≡ arc_value self.old.lock }

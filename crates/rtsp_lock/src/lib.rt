@@ -1,15 +1,15 @@
 //! One book for any number of threads, with one history.
 //!
 //! A `BookLock` has the book, and each thread has a `BookSeat` of it; a `BookHandle` is the two in one.
-//! A call of a seat finds a journal, is answered as an object of one thread is answered there, and
-//! leaves its entries behind it under the seat's actor. Whenever the lock is free, the book is the
-//! replay of its journal.
+//! A call of a seat finds a journal, is answered as a kept book with that journal would answer it,
+//! and appends its entries to the journal, under the seat's actor. Whenever the lock is free, the
+//! book is the replay of its journal.
 //!
 //! The history has every entry that a seat ever made, in order. It exists in contracts only. The
-//! journal has its book, and is shorter: `forget` leaves the sessions out that have ended, and
-//! `checkpoint` restates those that live, under a number that is no seat's. Neither touches the
-//! history. So what a seat sees of it begins, for ever, with all that the seat had seen. `hand_out`
-//! gives what the history gained, for who writes it down.
+//! journal has the same book as the history, and is shorter once `forget` has left out the sessions
+//! that had ended, or `checkpoint` has restated those that live, under a number that is no seat's.
+//! Neither touches the history. So what a seat sees of it begins, for ever, with all that the seat
+//! had seen. `hand_out` gives what the history gained, for whoever writes it down.
 //!
 //! The definitions of `specs/` read in this order: Entries (whose they are, and what a history is),
 //! Rule (what the lock keeps over all seats), Steps (what a step of the lock tells its seat), Named,

@@ -173,7 +173,7 @@ fn shows_the_track(presentation: &Presentation) -> bool {
     }
 }
 
-// Whether those of the server do, too.
+// Whether the optional keys of the server say what they do above, and those of its track.
 fn shows_the_optional_keys(table: &Table) -> bool {
     let server = table.server();
     let shares = [server.sessions_per_address, server.connections_per_address];

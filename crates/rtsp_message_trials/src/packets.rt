@@ -129,10 +129,10 @@ const PLAYING: Phase = Phase::Playing {
     sent: 0,
 };
 
-// The header of its second packet.
+// The header of the second packet of that stream.
 const SECOND: [u8; 12] = [0x80, 0, 0, 0, 0, 0, 0, 0x40, 0, 0, 0, 1];
 
-// Whether this is its second packet, and so are its frames.
+// Whether this is the second packet of that stream, as a datagram and as a frame.
 fn is_second(packet: &mut Packet) -> bool {
     let datagram = packet.datagram();
     datagram.starts_with(&SECOND)

@@ -28,13 +28,6 @@ families_text-append [] b = refl
 families_text-append (f ∷ a) b =
     ap (λ (t : List ℕ). family_text f ++ t) (families_text-append a b) ∙ sym (append_assoc (family_text f) (families_text a) (families_text b))
 
--- figures, and then those that a last call appends
-pub appended_samples : {E : Type 0} (r : Result (Unit {0}) E) (old mid new name : List ℕ) (a b : List Sample) →
-    mid ≡ old ++ sample_lines name a → OnOk r (new ≡ mid ++ sample_lines name b) → OnOk r (new ≡ old ++ sample_lines name (a ++ b))
-appended_samples r old mid new name a b e h =
-    on_ok_weaker r (λ p. p ∙ ap (λ (t : List ℕ). old ++ t) (sym (sample_lines-append name a b)))
-    (appended r old mid new (sample_lines name a) (sample_lines name b) e h)
-
 -- families, and then those that a last call appends
 pub appended_families : {E : Type 0} (r : Result (Unit {0}) E) (old mid new : List ℕ) (a b : List Family) →
     mid ≡ old ++ families_text a → OnOk r (new ≡ mid ++ families_text b) → OnOk r (new ≡ old ++ families_text (a ++ b))

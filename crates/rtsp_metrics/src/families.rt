@@ -2,37 +2,26 @@
 
 ghost use Rattle.std.specs.Prelude.{◌≡◌, ◌++◌, OnOk, Some, None, codes, decimal};
 ghost use Rattle.rtsp_text.specs.Slices.{held};
-ghost use Rattle.rtsp_metrics.specs.Families.{head_text, sample_line, family_text, gauge, counter, held_and_free, unit_line};
+ghost use Rattle.rtsp_metrics.specs.Families.{head_text, sample_line, family_text, gauge, counter, held_and_free, sample_lines, seconds_text, unit_line};
 ghost use Rattle.rtsp_metrics.specs.FigureLines.{figure_line};
+ghost use Rattle.rtsp_metrics.specs.Figures.{method_samples, request_mark};
 ghost use Rattle.std.specs.List.{flat_map};
 
-use crate::snapshot::Held;
+use crate::snapshot::{ByOutcome, Held};
 use itoa::Buffer;
-use rtsp_text::append_all;
+use rtsp_text::{append_all, three_digits};
 use std::alloc::AllocError;
 
 /// A figure: what stands behind the name of its family, and its value.
 #[derive(Clone, Copy)]
-pub(crate) struct Figure<'a> {
-    pub(crate) mark: &'a [u8],
-    pub(crate) value: u128,
-}
-
-impl<'a> Figure<'a> {
-    pub(crate) fn new(mark: &'a [u8], value: u64) -> Figure<'a>
-        ensures { result ≡ record { mark = mark.entry; value = value } }
-    {
-        Figure {
-            mark,
-            value: u128::from(value),
-        }
-    }
-
-    pub(crate) fn wide(mark: &'a [u8], value: u128) -> Figure<'a>
-        ensures { result ≡ record { mark = mark.entry; value = value } }
-    {
-        Figure { mark, value }
-    }
+pub(crate) enum Figure<'a> {
+    Count(&'a [u8], u64),
+    /// A sum of counts.
+    Sum(&'a [u8], u128),
+    /// What was answered to the requests of a method.
+    Answers(&'a [u8], ByOutcome),
+    /// Milliseconds, told in seconds.
+    Seconds(&'a [u8], u64),
 }
 
 // The line of a unit, if there is one.
@@ -47,7 +36,7 @@ fn write_unit(out: &mut Vec<u8>, name: &[u8], unit: Option<&[u8]>) -> Result<(),
 
 /// The lines before the figures of a family.
 #[tactic(auto, using(crate::proofs::Appended::append_nil), unfolding(crate::specs::Families::head_text))]
-pub(crate) fn write_head(
+fn write_head(
     out: &mut Vec<u8>,
     name: &[u8],
     kind: &[u8],
@@ -61,14 +50,8 @@ pub(crate) fn write_head(
     append_all(out, &[b"# HELP ", name, b" ", help, b"\n"])
 }
 
-/// The line of a figure.
 #[tactic(auto, unfolding(crate::specs::Families::sample_line))]
-pub(crate) fn write_sample(
-    out: &mut Vec<u8>,
-    name: &[u8],
-    mark: &[u8],
-    value: u128,
-) -> Result<(), AllocError>
+fn write_sample(out: &mut Vec<u8>, name: &[u8], mark: &[u8], value: u128) -> Result<(), AllocError>
     ensures { OnOk result (out.new.items ≡ out.old.items ++ sample_line name.now mark.now (decimal value)) }
 {
     let mut digits = Buffer::new();
@@ -76,18 +59,95 @@ pub(crate) fn write_sample(
     append_all(out, &[name, mark, b" ", digits.as_bytes(), b"\n"])
 }
 
-/// Figures of a family: what stands behind its name, and the value.
-pub(crate) fn write_samples(
+fn write_seconds(out: &mut Vec<u8>, name: &[u8], mark: &[u8], ms: u64) -> Result<(), AllocError>
+    ensures { OnOk result (out.new.items ≡ out.old.items ++ sample_line name.now mark.now (seconds_text ms)) }
+{
+    let mut seconds = Buffer::new();
+    let seconds = seconds.format(ms / 1000);
+    let decimals = three_digits(ms);
+    append_all(
+        out,
+        &[name, mark, b" ", seconds.as_bytes(), b".", &decimals, b"\n"],
+    )
+}
+
+// A figure of the requests of a method.
+fn write_request<'a>(
+    out: &mut Vec<u8>,
+    name: &'a [u8],
+    method: &'a [u8],
+    class: &'a [u8],
+    count: u64,
+) -> Result<(), AllocError>
+    ensures { OnOk result (out.new.items ≡ out.old.items ++ sample_line name.entry.now (request_mark method.entry.now class.entry.now) (decimal count)) }
+{
+    let mut digits = Buffer::new();
+    let digits = digits.format(count);
+    append_all(
+        out,
+        &[
+            name,
+            b"_total{method=\"",
+            method,
+            b"\",class=\"",
+            class,
+            b"\"} ",
+            digits.as_bytes(),
+            b"\n",
+        ],
+    )
+}
+
+fn write_answers(
     out: &mut Vec<u8>,
     name: &[u8],
-    figures: &[Figure],
+    method: &[u8],
+    of: &ByOutcome,
 ) -> Result<(), AllocError>
+    ensures { OnOk result (out.new.items ≡ out.old.items ++ sample_lines name.now (method_samples method.now of.now)) }
+{
+    write_request(out, name, method, b"2xx", of.success)?;
+    write_request(out, name, method, b"3xx", of.redirection)?;
+    write_request(out, name, method, b"4xx", of.client_error)?;
+    write_request(out, name, method, b"5xx", of.server_error)
+}
+
+// The line of a figure, or those of a method.
+fn write_figure(out: &mut Vec<u8>, name: &[u8], figure: &Figure) -> Result<(), AllocError>
+    ensures { OnOk result (out.new.items ≡ out.old.items ++ figure_line name.now figure.now) }
+{
+    match figure {
+        Figure::Count(mark, count) => write_sample(out, name, mark, u128::from(*count)),
+        Figure::Sum(mark, sum) => write_sample(out, name, mark, *sum),
+        Figure::Answers(method, of) => write_answers(out, name, method, of),
+        Figure::Seconds(mark, ms) => write_seconds(out, name, mark, *ms),
+    }
+}
+
+// A line for each figure.
+fn write_samples(out: &mut Vec<u8>, name: &[u8], figures: &[Figure]) -> Result<(), AllocError>
     ensures { OnOk result (out.new.items ≡ out.old.items ++ flat_map (figure_line name.now) figures.now) }
 {
     for figure in figures {
-        write_sample(out, name, figure.mark, figure.value)?;
+        write_figure(out, name, figure)?;
     }
     Ok(())
+}
+
+/// A family: the lines before its figures, and a line for each.
+pub(crate) fn write_family(
+    out: &mut Vec<u8>,
+    name: &[u8],
+    kind: &[u8],
+    unit: Option<&[u8]>,
+    help: &[u8],
+    figures: &[Figure],
+) -> Result<(), AllocError>
+    ensures { OnOk result (out.new.items ≡ out.old.items ++ (head_text name.now kind.now (held unit.entry) help.now
+        ++ flat_map (figure_line name.now) figures.now)) }
+{
+    write_head(out, name, kind, unit, help)?;
+    write_samples(out, name, figures)
 }
 
 /// A value that goes up and down.
@@ -100,8 +160,8 @@ pub(crate) fn write_gauge(
 ) -> Result<(), AllocError>
     ensures { OnOk result (out.new.items ≡ out.old.items ++ family_text (gauge name.now (held unit.entry) help.now value)) }
 {
-    write_head(out, name, b"gauge", unit, help)?;
-    write_sample(out, name, b"", u128::from(value))
+    let figure = Figure::Count(b"", value);
+    write_family(out, name, b"gauge", unit, help, &[figure])
 }
 
 /// A count that only grows.
@@ -113,8 +173,8 @@ pub(crate) fn write_counter(
 ) -> Result<(), AllocError>
     ensures { OnOk result (out.new.items ≡ out.old.items ++ family_text (counter name.now help.now value)) }
 {
-    write_head(out, name, b"counter", None, help)?;
-    write_sample(out, name, b"_total", u128::from(value))
+    let figure = Figure::Count(b"_total", value);
+    write_family(out, name, b"counter", None, help, &[figure])
 }
 
 /// What is held of a whole, and what is free.
@@ -127,13 +187,9 @@ pub(crate) fn write_held(
 ) -> Result<(), AllocError>
     ensures { OnOk result (out.new.items ≡ out.old.items ++ family_text (held_and_free name.now (held unit.entry) help.now of.now)) }
 {
-    write_head(out, name, b"gauge", unit, help)?;
-    write_samples(
-        out,
-        name,
-        &[
-            Figure::new(b"{state=\"held\"}", of.held),
-            Figure::new(b"{state=\"free\"}", of.free),
-        ],
-    )
+    let figures = [
+        Figure::Count(b"{state=\"held\"}", of.held),
+        Figure::Count(b"{state=\"free\"}", of.free),
+    ];
+    write_family(out, name, b"gauge", unit, help, &figures)
 }

@@ -1,23 +1,14 @@
 //! Writing the figures of a server, family by family. After a refusal a part of the text may be at
 //! the end.
 
-ghost use Rattle.std.specs.Prelude.{◌≡◌, ◌++◌, IfOk, OnOk, codes, decimal};
-ghost use Rattle.rtsp_metrics.specs.Families.{family_text, families_text, sample_line, sample_lines};
+ghost use Rattle.std.specs.Prelude.{◌≡◌, ◌++◌, IfOk, OnOk};
+ghost use Rattle.rtsp_metrics.specs.Families.{family_text, families_text};
 ghost use Rattle.rtsp_metrics.specs.Figures.{server_families, book_families, traffic_families, answer_families, keeping_families};
 ghost use Rattle.rtsp_metrics.specs.Figures.{journal_family, requests_family, refusals_family, lateness_family, families, metrics_text};
-ghost use Rattle.rtsp_metrics.specs.Figures.{method_samples, first_samples, other_samples, early_buckets, late_buckets, lateness_sum, request_mark, early};
 
-use crate::families::{Figure, write_counter, write_gauge, write_head, write_held, write_samples};
-use crate::snapshot::{BookFigures, ByMethod, ByOutcome, Counts, Lateness, Refusals, Snapshot};
-use itoa::Buffer;
-use rtsp_text::{append_all, three_digits};
+use crate::families::{Figure, write_counter, write_family, write_gauge, write_held};
+use crate::snapshot::{BookFigures, ByMethod, Counts, Lateness, Refusals, Snapshot};
 use std::alloc::{AllocError, Global};
-
-const REQUESTS: &[u8] = b"rtspd_requests";
-
-const REFUSALS: &[u8] = b"rtspd_refusals";
-
-const LATENESS: &[u8] = b"rtspd_packet_lateness_seconds";
 
 fn write_server(out: &mut Vec<u8>, of: &Snapshot) -> Result<(), AllocError>
     ensures { OnOk result (out.new.items ≡ out.old.items ++ families_text (server_families of.now)) }
@@ -38,20 +29,23 @@ fn write_server(out: &mut Vec<u8>, of: &Snapshot) -> Result<(), AllocError>
     )
 }
 
+#[tactic(auto, unfolding(crate::specs::Figures::journal_family))]
 fn write_journal(out: &mut Vec<u8>, of: &BookFigures) -> Result<(), AllocError>
     ensures { OnOk result (out.new.items ≡ out.old.items ++ family_text (journal_family of.now)) }
 {
-    let name = b"rtspd_journal_entries";
     let help = b"Entries of the journal: written, owed to what is held, and free.";
-    write_head(out, name, b"gauge", None, help)?;
-    write_samples(
+    let figures = [
+        Figure::Count(b"{state=\"written\"}", of.entries),
+        Figure::Count(b"{state=\"owed\"}", of.owed),
+        Figure::Count(b"{state=\"free\"}", of.room),
+    ];
+    write_family(
         out,
-        name,
-        &[
-            Figure::new(b"{state=\"written\"}", of.entries),
-            Figure::new(b"{state=\"owed\"}", of.owed),
-            Figure::new(b"{state=\"free\"}", of.room),
-        ],
+        b"rtspd_journal_entries",
+        b"gauge",
+        None,
+        help,
+        &figures,
     )
 }
 
@@ -79,167 +73,69 @@ fn write_book(out: &mut Vec<u8>, of: &BookFigures) -> Result<(), AllocError>
     write_journal(out, of)
 }
 
-// A figure of the requests of a method.
-fn write_request(
-    out: &mut Vec<u8>,
-    method: &[u8],
-    class: &[u8],
-    count: u64,
-) -> Result<(), AllocError>
-    ensures { OnOk result (out.new.items ≡ out.old.items ++ sample_line (codes "rtspd_requests") (request_mark method.now class.now) (decimal count)) }
-{
-    let mut digits = Buffer::new();
-    let digits = digits.format(count);
-    append_all(
-        out,
-        &[
-            REQUESTS,
-            b"_total{method=\"",
-            method,
-            b"\",class=\"",
-            class,
-            b"\"} ",
-            digits.as_bytes(),
-            b"\n",
-        ],
-    )
-}
-
-fn write_method(out: &mut Vec<u8>, method: &[u8], of: &ByOutcome) -> Result<(), AllocError>
-    ensures { OnOk result (out.new.items ≡ out.old.items ++ sample_lines (codes "rtspd_requests") (method_samples method.now of.now)) }
-{
-    write_request(out, method, b"2xx", of.success)?;
-    write_request(out, method, b"3xx", of.redirection)?;
-    write_request(out, method, b"4xx", of.client_error)?;
-    write_request(out, method, b"5xx", of.server_error)
-}
-
-fn write_first_methods(out: &mut Vec<u8>, of: &ByMethod) -> Result<(), AllocError>
-    ensures { OnOk result (out.new.items ≡ out.old.items ++ sample_lines (codes "rtspd_requests") (first_samples of.now)) }
-{
-    write_method(out, b"OPTIONS", &of.options)?;
-    write_method(out, b"DESCRIBE", &of.describe)?;
-    write_method(out, b"SETUP", &of.setup)?;
-    write_method(out, b"PLAY", &of.play)
-}
-
-fn write_other_methods(out: &mut Vec<u8>, of: &ByMethod) -> Result<(), AllocError>
-    ensures { OnOk result (out.new.items ≡ out.old.items ++ sample_lines (codes "rtspd_requests") (other_samples of.now)) }
-{
-    write_method(out, b"PAUSE", &of.pause)?;
-    write_method(out, b"TEARDOWN", &of.teardown)?;
-    write_method(out, b"GET_PARAMETER", &of.get_parameter)?;
-    write_method(out, b"SET_PARAMETER", &of.set_parameter)?;
-    write_method(out, b"other", &of.other)
-}
-
 fn write_requests(out: &mut Vec<u8>, of: &ByMethod) -> Result<(), AllocError>
     ensures { OnOk result (out.new.items ≡ out.old.items ++ family_text (requests_family of.now)) }
 {
     let help = b"Requests that were answered.";
-    write_head(out, REQUESTS, b"counter", None, help)?;
-    write_first_methods(out, of)?;
-    write_other_methods(out, of)
+    let figures = [
+        Figure::Answers(b"OPTIONS", of.options),
+        Figure::Answers(b"DESCRIBE", of.describe),
+        Figure::Answers(b"SETUP", of.setup),
+        Figure::Answers(b"PLAY", of.play),
+        Figure::Answers(b"PAUSE", of.pause),
+        Figure::Answers(b"TEARDOWN", of.teardown),
+        Figure::Answers(b"GET_PARAMETER", of.get_parameter),
+        Figure::Answers(b"SET_PARAMETER", of.set_parameter),
+        Figure::Answers(b"other", of.other),
+    ];
+    write_family(out, b"rtspd_requests", b"counter", None, help, &figures)
 }
 
+#[tactic(auto, unfolding(crate::specs::Figures::refusals_family))]
 fn write_refusals(out: &mut Vec<u8>, of: &Refusals) -> Result<(), AllocError>
     ensures { OnOk result (out.new.items ≡ out.old.items ++ family_text (refusals_family of.now)) }
 {
     let help = b"Requests that were refused.";
-    write_head(out, REFUSALS, b"counter", None, help)?;
-    write_samples(
-        out,
-        REFUSALS,
-        &[
-            Figure::new(b"_total{reason=\"bandwidth\"}", of.bandwidth),
-            Figure::new(b"_total{reason=\"unavailable\"}", of.unavailable),
-            Figure::new(b"_total{reason=\"session\"}", of.session),
-            Figure::new(b"_total{reason=\"path\"}", of.path),
-            Figure::new(b"_total{reason=\"state\"}", of.state),
-            Figure::new(b"_total{reason=\"transport\"}", of.transport),
-            Figure::new(b"_total{reason=\"other\"}", of.other),
-        ],
-    )
-}
-
-// The packets that were at most 10 ms late.
-fn early(of: &Lateness) -> u128
-    ensures { result ≡ early of.now }
-{
-    u128::from(of.within_1_ms)
-        + u128::from(of.within_2_ms)
-        + u128::from(of.within_5_ms)
-        + u128::from(of.within_10_ms)
-}
-
-fn write_early(out: &mut Vec<u8>, of: &Lateness) -> Result<(), AllocError>
-    ensures { OnOk result (out.new.items ≡ out.old.items ++ sample_lines (codes "rtspd_packet_lateness_seconds") (early_buckets of.now)) }
-{
-    let one = u128::from(of.within_1_ms);
-    let two = one + u128::from(of.within_2_ms);
-    let five = two + u128::from(of.within_5_ms);
-    write_samples(
-        out,
-        LATENESS,
-        &[
-            Figure::wide(b"_bucket{le=\"0.001\"}", one),
-            Figure::wide(b"_bucket{le=\"0.002\"}", two),
-            Figure::wide(b"_bucket{le=\"0.005\"}", five),
-            Figure::wide(b"_bucket{le=\"0.01\"}", early(of)),
-        ],
-    )
-}
-
-fn write_late(out: &mut Vec<u8>, of: &Lateness) -> Result<(), AllocError>
-    ensures { OnOk result (out.new.items ≡ out.old.items ++ sample_lines (codes "rtspd_packet_lateness_seconds") (late_buckets of.now)) }
-{
-    let twenty = early(of) + u128::from(of.within_20_ms);
-    let forty = twenty + u128::from(of.within_40_ms);
-    let hundred = forty + u128::from(of.within_100_ms);
-    let four_hundred = hundred + u128::from(of.within_400_ms);
-    let all = four_hundred + u128::from(of.later);
-    write_samples(
-        out,
-        LATENESS,
-        &[
-            Figure::wide(b"_bucket{le=\"0.02\"}", twenty),
-            Figure::wide(b"_bucket{le=\"0.04\"}", forty),
-            Figure::wide(b"_bucket{le=\"0.1\"}", hundred),
-            Figure::wide(b"_bucket{le=\"0.4\"}", four_hundred),
-            Figure::wide(b"_bucket{le=\"+Inf\"}", all),
-            Figure::wide(b"_count", all),
-        ],
-    )
-}
-
-// How late all packets were together, in seconds.
-fn write_sum(out: &mut Vec<u8>, of: &Lateness) -> Result<(), AllocError>
-    ensures { OnOk result (out.new.items ≡ out.old.items ++ sample_lines (codes "rtspd_packet_lateness_seconds") (lateness_sum of.now)) }
-{
-    let mut seconds = Buffer::new();
-    let seconds = seconds.format(of.sum_ms / 1000);
-    let decimals = three_digits(of.sum_ms);
-    append_all(
-        out,
-        &[
-            LATENESS,
-            b"_sum ",
-            seconds.as_bytes(),
-            b".",
-            &decimals,
-            b"\n",
-        ],
-    )
+    let figures = [
+        Figure::Count(b"_total{reason=\"bandwidth\"}", of.bandwidth),
+        Figure::Count(b"_total{reason=\"unavailable\"}", of.unavailable),
+        Figure::Count(b"_total{reason=\"session\"}", of.session),
+        Figure::Count(b"_total{reason=\"path\"}", of.path),
+        Figure::Count(b"_total{reason=\"state\"}", of.state),
+        Figure::Count(b"_total{reason=\"transport\"}", of.transport),
+        Figure::Count(b"_total{reason=\"other\"}", of.other),
+    ];
+    write_family(out, b"rtspd_refusals", b"counter", None, help, &figures)
 }
 
 fn write_lateness(out: &mut Vec<u8>, of: &Lateness) -> Result<(), AllocError>
     ensures { OnOk result (out.new.items ≡ out.old.items ++ family_text (lateness_family of.now)) }
 {
+    let one = u128::from(of.within_1_ms);
+    let two = one + u128::from(of.within_2_ms);
+    let five = two + u128::from(of.within_5_ms);
+    let ten = five + u128::from(of.within_10_ms);
+    let twenty = ten + u128::from(of.within_20_ms);
+    let forty = twenty + u128::from(of.within_40_ms);
+    let hundred = forty + u128::from(of.within_100_ms);
+    let four_hundred = hundred + u128::from(of.within_400_ms);
+    let all = four_hundred + u128::from(of.later);
     let help = b"How late RTP packets were sent.";
-    write_head(out, LATENESS, b"histogram", Some(b"seconds"), help)?;
-    write_early(out, of)?;
-    write_late(out, of)?;
-    write_sum(out, of)
+    let figures = [
+        Figure::Sum(b"_bucket{le=\"0.001\"}", one),
+        Figure::Sum(b"_bucket{le=\"0.002\"}", two),
+        Figure::Sum(b"_bucket{le=\"0.005\"}", five),
+        Figure::Sum(b"_bucket{le=\"0.01\"}", ten),
+        Figure::Sum(b"_bucket{le=\"0.02\"}", twenty),
+        Figure::Sum(b"_bucket{le=\"0.04\"}", forty),
+        Figure::Sum(b"_bucket{le=\"0.1\"}", hundred),
+        Figure::Sum(b"_bucket{le=\"0.4\"}", four_hundred),
+        Figure::Sum(b"_bucket{le=\"+Inf\"}", all),
+        Figure::Sum(b"_count", all),
+        Figure::Seconds(b"_sum", of.sum_ms),
+    ];
+    let name = b"rtspd_packet_lateness_seconds";
+    write_family(out, name, b"histogram", Some(b"seconds"), help, &figures)
 }
 
 fn write_traffic(out: &mut Vec<u8>, of: &Counts) -> Result<(), AllocError>

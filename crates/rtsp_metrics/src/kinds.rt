@@ -50,31 +50,17 @@ impl Method {
     pub fn of(name: &[u8]) -> Method
         ensures { IsMethodOf name.now result }
     {
-        if is_word(name, b"OPTIONS") {
-            return Method::Options;
+        match name {
+            _ if is_word(name, b"OPTIONS") => Method::Options,
+            _ if is_word(name, b"DESCRIBE") => Method::Describe,
+            _ if is_word(name, b"SETUP") => Method::Setup,
+            _ if is_word(name, b"PLAY") => Method::Play,
+            _ if is_word(name, b"PAUSE") => Method::Pause,
+            _ if is_word(name, b"TEARDOWN") => Method::Teardown,
+            _ if is_word(name, b"GET_PARAMETER") => Method::GetParameter,
+            _ if is_word(name, b"SET_PARAMETER") => Method::SetParameter,
+            _ => Method::Other,
         }
-        if is_word(name, b"DESCRIBE") {
-            return Method::Describe;
-        }
-        if is_word(name, b"SETUP") {
-            return Method::Setup;
-        }
-        if is_word(name, b"PLAY") {
-            return Method::Play;
-        }
-        if is_word(name, b"PAUSE") {
-            return Method::Pause;
-        }
-        if is_word(name, b"TEARDOWN") {
-            return Method::Teardown;
-        }
-        if is_word(name, b"GET_PARAMETER") {
-            return Method::GetParameter;
-        }
-        if is_word(name, b"SET_PARAMETER") {
-            return Method::SetParameter;
-        }
-        Method::Other
     }
 }
 

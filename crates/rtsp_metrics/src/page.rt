@@ -6,7 +6,7 @@ ghost use Rattle.rtsp_metrics.specs.Page.{section_text, page_text};
 ghost use Rattle.rtsp_metrics.specs.Page.{server_rows, request_rows, refusal_rows, lateness_rows, count_rows};
 
 use crate::rows::{Row, section};
-use crate::snapshot::{BookFigures, ByMethod, Counts, Held, Lateness, Refusals, Snapshot};
+use crate::snapshot::{BookFigures, ByMethod, Counts, Lateness, Refusals, Snapshot};
 use rtsp_text::append_all;
 use std::alloc::{AllocError, Global};
 
@@ -22,13 +22,6 @@ td.n{text-align:right;font-variant-numeric:tabular-nums}meter{width:16rem;height
 </style><h1>rtspd</h1>\n";
 
 const END: &[u8] = b"<p>The same as text: <a href=\"/metrics\">/metrics</a>\n</html>\n";
-
-// What is held and what is free.
-fn whole(of: &Held) -> u128
-    ensures { result ≡ of.now.held + of.now.free }
-{
-    u128::from(of.held) + u128::from(of.free)
-}
 
 // What the journal takes.
 fn journal(of: &BookFigures) -> u128
@@ -47,24 +40,12 @@ fn server_section(alloc: Global, of: &Snapshot) -> Result<Vec<u8>, AllocError>
         &[
             Row::Number(b"Seconds since it began", of.uptime_seconds),
             Row::Number(b"Sessions", book.sessions),
-            Row::Bar(
-                b"Uplink, bit/s",
-                u128::from(book.rate.held),
-                whole(&book.rate),
-            ),
-            Row::Bar(
-                b"Pairs of ports",
-                u128::from(book.pairs.held),
-                whole(&book.pairs),
-            ),
-            Row::Bar(b"Ports", u128::from(book.ports.held), whole(&book.ports)),
+            Row::Held(b"Uplink, bit/s", book.rate),
+            Row::Held(b"Pairs of ports", book.pairs),
+            Row::Held(b"Ports", book.ports),
             Row::Bar(b"Journal, written", u128::from(book.entries), journal(book)),
             Row::Bar(b"Journal, owed", u128::from(book.owed), journal(book)),
-            Row::Bar(
-                b"Connections",
-                u128::from(of.connections.held),
-                whole(&of.connections),
-            ),
+            Row::Held(b"Connections", of.connections),
         ],
     )
 }

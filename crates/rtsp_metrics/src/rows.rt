@@ -1,11 +1,11 @@
 //! Rows of the page. After a refusal a part of the text may be at the end.
 
-ghost use Rattle.std.specs.Prelude.{◌≡◌, ◌++◌, IfOk, OnOk};
+ghost use Rattle.std.specs.Prelude.{◌≡◌, ◌+◌, ◌++◌, IfOk, OnOk};
 ghost use Rattle.std.specs.List.{flat_map};
 ghost use Rattle.rtsp_metrics.specs.Page.{groups, grouped, number_row, bar_row, answers_row, section_text};
 ghost use Rattle.rtsp_metrics.specs.RowTexts.{row_text};
 
-use crate::snapshot::ByOutcome;
+use crate::snapshot::{ByOutcome, Held};
 use itoa::Buffer;
 use rtsp_text::{append_all, three_digits};
 use std::alloc::{AllocError, Global};
@@ -16,6 +16,8 @@ pub(crate) enum Row<'a> {
     Number(&'a [u8], u64),
     /// A part of a whole.
     Bar(&'a [u8], u128, u128),
+    /// What is held of what is held and free.
+    Held(&'a [u8], Held),
     Answers(&'a [u8], ByOutcome),
     /// The heads of the columns.
     Heads(&'a [u8]),
@@ -92,6 +94,13 @@ fn write_bar(
     )
 }
 
+fn write_held(alloc: Global, out: &mut Vec<u8>, name: &[u8], of: &Held) -> Result<(), AllocError>
+    ensures { OnOk result (out.new.items ≡ out.old.items ++ bar_row name.now of.now.held (of.now.held + of.now.free)) }
+{
+    let held = u128::from(of.held);
+    write_bar(alloc, out, name, held, held + u128::from(of.free))
+}
+
 fn write_answers(
     alloc: Global,
     out: &mut Vec<u8>,
@@ -128,6 +137,7 @@ fn write_row(alloc: Global, out: &mut Vec<u8>, row: &Row) -> Result<(), AllocErr
     match row {
         Row::Number(name, number) => write_number(alloc, out, name, *number),
         Row::Bar(name, part, whole) => write_bar(alloc, out, name, *part, *whole),
+        Row::Held(name, of) => write_held(alloc, out, name, of),
         Row::Answers(name, of) => write_answers(alloc, out, name, of),
         Row::Heads(heads) => out.extend_from_slice(heads),
     }

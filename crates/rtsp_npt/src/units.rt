@@ -8,7 +8,7 @@ use crate::fault::OutOfMedia;
 use crate::range::Range;
 use crate::unit_length::UnitLength;
 
-// What a range is resolved against: the media, and where it was halted.
+// What a range is resolved against: the media, and the unit at which it is resumed.
 #[derive(Clone, Copy)]
 struct Media {
     // The unit at which a range without a start begins.
@@ -73,8 +73,8 @@ fn units_of(range: Range, media: Media) -> Result<(u32, u32), OutOfMedia>
     Ok((start as u32, range.stop_unit(media)))
 }
 
-/// The units of a range, from the first answered up to and without the second, which is above
-/// it. The media has `units` units of this length; a range without a start begins at the unit
+/// The units of a range: from the first number of the result on and before the second, which is
+/// greater. The media has `units` units of this length; a range without a start begins at the unit
 /// `resume`. The start is rounded down to a unit and the stop up, at most to the end.
 ///
 /// A range that starts at the end or later, or that stops no later than it starts, is refused.

@@ -48,7 +48,7 @@ fn put_stop(out: &mut Vec<u8>, stop: u32, unit_ms: UnitLength) -> Result<(), All
     put_time(out, stop, unit_ms)
 }
 
-/// Writes the time at which a unit begins at the end of `out`, as `2.500`. A refused write leaves
+/// Writes at the end of `out` the time at which a unit begins, as `2.500`. A refused write leaves
 /// `out` as it was.
 pub fn write_time(out: &mut Vec<u8>, unit: u32, unit_ms: UnitLength) -> Result<(), AllocError>
     ensures ok { OnOk result (out.new.items ≡ out.old.items ++ time_text unit unit_ms) }

@@ -23,7 +23,7 @@ use Rattle.rtsp_pacing.specs.declared.reports.Report.{Report}
 abbrev pub report_step : Server → ℕ
 report_step server = max server.renewal_step (200 * server.timeout)
 
--- the channel is the second one of these of its connection, which is RTCP's (RFC 7826 section 14)
+-- the address is a pair of channels of the report's connection, and the report's channel is the second one, which is RTCP's (RFC 7826 section 14)
 abbrev pub is_rtcp_of : Report → Option Thing → Bool
 is_rtcp_of report (Some (Chan conn first)) = conn == report.conn && first + 1 == report.channel
 is_rtcp_of report other = false

@@ -16,6 +16,9 @@ use std::rt::Clock;
 use std::sync::Wait;
 use std::time::Instant;
 
+// For how many turns one reading of the clock does: they take a fraction of a millisecond.
+const TURNS_A_READING: u32 = 64;
+
 /// The parts of a server that are lent to a pacer.
 #[derive(Drop)]
 pub struct PacerParts<'a> {
@@ -55,6 +58,9 @@ pub(crate) struct PacerDesk<'a, R> {
     pub(crate) paced: Paced,
     // Where packets are made, one after another.
     pub(crate) packet: Packet,
+    // The moment that was read last, and for how many turns more it does.
+    moment: u64,
+    turns_left: u32,
     seat: BookSeat,
     ghost ours: { IsSeatOf seat parts.lock.now },
 }
@@ -80,6 +86,8 @@ impl<'a, R> PacerDesk<'a, R> {
                 reported: 0,
             },
             packet: Packet::new(),
+            moment: 0,
+            turns_left: 0,
             seat,
         }
     }
@@ -106,7 +114,20 @@ impl<R> PacerDesk<'_, R> {
 impl<R: Clock> PacerDesk<'_, R> {
     // The present moment.
     pub(crate) fn now(&mut self) -> u64 {
-        rtsp_traits::Clock::now(&mut self.clock)
+        self.moment = rtsp_traits::Clock::now(&mut self.clock);
+        self.turns_left = TURNS_A_READING;
+        self.moment
+    }
+
+    // The moment of a turn, which isn't after the present one.
+    pub(crate) fn moment(&mut self) -> u64 {
+        match self.turns_left.checked_sub(1) {
+            Some(left) => {
+                self.turns_left = left;
+                self.moment
+            }
+            None => self.now(),
+        }
     }
 }
 

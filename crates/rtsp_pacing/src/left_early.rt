@@ -6,8 +6,9 @@ ghost use Rattle.rtsp_pacing.specs.declared.left_early.TheConstants.{MOST};
 
 use rtsp_record::Phase;
 
-// In each so many milliseconds so many of them are sent at most. Players who seek are far below; one
-// that asks for play after play, of which each counts a unit, is to keep a pacer from nothing.
+// In each window of so many milliseconds at most `MOST` of them are sent. Players who seek stay far
+// below that. A player who asks for play after play, each of which counts a unit, is not to keep a
+// pacer from the other plays.
 const WINDOW: u64 = 20;
 
 const MOST: u32 = 64;

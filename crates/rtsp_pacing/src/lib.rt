@@ -4,6 +4,7 @@
 //! session, by its `bell`. A pacer is a thread that runs `pace`: it sleeps until the next moment of
 //! its `wheel` at which one of its `plays` has something due, and takes the turn of each play there
 //! (`play`). The packets, and the RTCP that ends a play of GStreamer, go the `ways` of their streams.
+//! The other way round, `reports` is what a lane does with RTCP that a player sends.
 
 #![tactic(auto)]
 

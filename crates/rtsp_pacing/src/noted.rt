@@ -72,9 +72,9 @@ impl NotedPlays {
         self.begun.is_empty()
     }
 
-    /// Hands the plays that were begun over to the pacers of their sessions, once the answers to
-    /// their PLAYs are put into the outlet of the connection of this number. A play that finds no room with its
-    /// pacer is dropped: it is begun, and nothing of it is sent.
+    /// Hands the plays that were begun over to the pacers of their sessions. It is called once the answers
+    /// to their PLAYs are put into the outlet of the connection, whose number is `conn`. A play that finds
+    /// no room with its pacer is dropped: it is begun, and nothing of it is sent.
     pub fn hand_over<R: Wait>(&mut self, rt: &R, bells: &Bells, conn: u64)
         ensures begun { self.new.begun.items ≡ [] }
         ensures noted { self.new.noted ≡ self.old.noted }

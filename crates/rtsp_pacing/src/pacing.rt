@@ -122,10 +122,10 @@ impl<R: Wait + Clock> Pacing<'_, R> {
     }
 }
 
-/// Sends the packets of the plays that its bell hands over, until the bell ends it. Each unit is
-/// sent at the moment that counts from the beginning of its play, so that being late at one makes
-/// no other late, and only while the session is in that play, but for the units that the book counted
-/// as sent when the session left it: those that hadn't left go out then. At the end of a play the session is
+/// Sends the packets of the plays that its bell hands over, until the bell ends it. The moment of each
+/// unit is counted from the beginning of its play, so that being late at one makes no other late. Units
+/// are sent only while the session is in their play, but for those that the book counted as sent when
+/// the session left it: what of these hadn't gone out goes out then. At the end of a play the session is
 /// told so, and then the connection that asked for it, by a PLAY_NOTIFY (RFC 7826 section 13.5.1);
 /// where the players of the configuration are GStreamer, each of its streams says goodbye, too.
 /// Where there is room among the plays, a play needs no memory; where there is neither, it isn't

@@ -46,13 +46,14 @@ pub(crate) struct PacedPlay {
     // Until when it waits to hear of the session's next play.
     waits_until: Option<u64>,
     renewal: Renewal,
-    // The moments of its last turn and of its next one. A wheel that is late comes to it sooner.
+    // The moments of its last turn and of its next one. A wheel that is late may come to the play before
+    // that one.
     last: u64,
     next: u64,
 }
 
-// What came of sending: of a turn, with when the next packet is due, unless the unit that is due
-// isn't at hand; then when to look again.
+// What came of sending: a turn, with when the next packet is due; or, where the unit that is due isn't
+// at hand, when to look again.
 #[derive(Clone, Copy)]
 enum Sending {
     Turned(Turn, Option<u64>),
@@ -77,7 +78,7 @@ fn presentation_of(view: &SessionView) -> Option<u16> {
     None
 }
 
-// Whether the last unit of a play was due a unit ago.
+// Whether the last unit of a play was due a unit ago, or earlier.
 fn is_past(phase: Phase, unit_ms: u32, moment: u64) -> bool {
     match phase {
         Phase::Playing {
@@ -130,9 +131,9 @@ impl PacedPlay {
         self.asked.begun.noted.session
     }
 
-    // The session began another play, in this phase: what was counted up to there is this one's.
-    // Whether no more than that is. More is where the session was seen only after it had left the
-    // other play, too.
+    // The session began another play, in the phase `next`: this play still sends what was counted up to
+    // there. Whether it sends no more than that. It sends more where the session was seen only after it
+    // had left the other play, too.
     pub(crate) fn leave(&mut self, next: Phase) -> bool
         ensures left { self.new.left ≡ Some (unwrap_or self.old.left next) }
         ensures pacer { self.new.pacer ≡ self.old.pacer }
@@ -155,7 +156,7 @@ impl PacedPlay {
         desk: &mut PacerDesk<'_, R>,
     ) -> Next {
         // The moment comes before the look: what is sent was due while the session was playing.
-        let moment = desk.now();
+        let moment = desk.moment();
         if moment < self.next {
             return Next::At(self.next);
         }
@@ -218,7 +219,7 @@ impl PacedPlay {
 
     // Sends again to ports that have refused all, once the session is renewed: its player is there.
     fn heed_renewal<R: Wait>(&mut self, desk: &mut PacerDesk<'_, R>, moment: u64) {
-        if !self.ways.is_any_spared(desk.rt, moment) {
+        if !self.ways.is_any_spared(moment) {
             self.renewal = Renewal::unseen();
             return;
         }
@@ -228,7 +229,7 @@ impl PacedPlay {
         if let Some(view) = desk.look(self.session())
             && self.renewal.see(view.expires(), moment)
         {
-            self.ways.spare_none(desk.rt);
+            self.ways.spare_none();
         }
     }
 
@@ -280,8 +281,8 @@ impl PacedPlay {
         }
     }
 
-    // What came of a turn, also of a play that the session has left, for this phase. What can't be read
-    // then is lost.
+    // What came of a turn. `last` is what came of the last one of a play that the session has left, for
+    // the phase `left`. Media of such a play that can't be read is lost.
     fn after(&mut self, turn: Turn, last: Option<LastTurn>, left: Phase) -> Turn {
         match last {
             None => turn,
@@ -301,9 +302,9 @@ impl PacedPlay {
         }
     }
 
-    // When a play has its next turn that the session has left, and of which nothing is to be sent now.
-    // The next play may be on its way to the pacer: the phase of that says how far this one goes, and
-    // what this one has sent is not to be sent by that, too.
+    // When this play has its next turn, where the session has left it and nothing of it is to be sent now.
+    // The session's next play may be on its way to the pacer: its phase says how far this play goes, and
+    // what this play has sent is not to be sent by the next one, too.
     fn wait(&mut self, unit_ms: u32, moment: u64) -> Next {
         let until = *self
             .waits_until

@@ -39,9 +39,9 @@ impl Drop for PacerPlays {
 }
 
 impl PacerPlays {
-    /// No play yet. Memory for so many at once is taken here: with as many as there may be sessions
-    /// a play needs none later, unless its session begins another before the next unit of the last,
-    /// within a quarter of a second of leaving that, or before it has said goodbye.
+    /// No play yet. Memory for so many at once is taken here. With as many as there may be sessions a
+    /// play needs none later, unless the play before it of its session is still here: that stays until
+    /// its next turn, for up to a quarter of a second after it was left, or until it has said goodbye.
     pub fn open(alloc: Global, count: usize) -> Result<PacerPlays, AllocError>
         ensures room { IfOk result (λ p. HasRoom p count) }
     {
@@ -105,8 +105,8 @@ impl PacerPlays {
         }
     }
 
-    // A session began another play, in this phase: the one of it that was taken in last is left.
-    // Whether that sends nothing of what is counted for the other.
+    // A session began another play, in the phase `next`: the play of the session that was taken in last
+    // is left. Whether that one sends nothing of what is counted for the other.
     pub(crate) fn leave(&mut self, session: u64, next: Phase) -> bool
         ensures none { KeepsNone self.old self.new }
         ensures left { LeavesLatest self.old session next self.new }

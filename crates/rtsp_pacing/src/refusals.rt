@@ -36,11 +36,11 @@ impl Refusals {
         now < self.spared_until
     }
 
-    // A datagram was sent, and the one before it wasn't refused.
-    pub(crate) fn note_sent(&mut self)
-        ensures { self.new ≡ unrefused }
+    // Until when it is sent none; in the past where it is sent to.
+    pub(crate) fn spared_until(&self) -> u64
+        ensures { result ≡ self.now.spared_until }
     {
-        *self = Refusals::none();
+        self.spared_until
     }
 
     // At this moment the system tells that the datagram before was refused.

@@ -20,15 +20,16 @@ pub struct Report {
     pub moment: u64,
 }
 
-/// By so many milliseconds a report moves the end of its session at least, so more of them in that
-/// time needn't be heard.
+/// The least number of milliseconds by which a report moves the end of its session. So of the reports
+/// that come within that time one alone need be heard.
 pub fn report_step(server: &Server) -> u64
     ensures { result ≡ report_step server.now }
 {
     u64::from(server.renewal_step).max(200 * u64::from(server.timeout))
 }
 
-// Whether the report's channel is the second one of these of its connection.
+// Whether the address is a pair of channels of the report's connection, the second of which is the
+// report's channel.
 fn is_rtcp_of(report: Report, address: Option<Thing>) -> bool
     ensures { result ≡ is_rtcp_of report address }
 {
@@ -54,7 +55,7 @@ fn has_rtcp(report: Report, view: &SessionView) -> bool
     false
 }
 
-// The timeout, in seconds, from a moment on.
+// The end of a session that is renewed at a moment, with a timeout in seconds.
 #[tactic(auto, unfolding(rtsp_state::specs::Context::expiry))]
 fn expiry(moment: u64, timeout: u32) -> u64
     ensures { result ≡ expiry moment timeout }
@@ -87,7 +88,8 @@ fn report_end(server: &Server, report: Report, view: &SessionView) -> Option<u64
 }
 
 /// Hears a report about the session of this number: where the channel is RTCP's of one of its
-/// streams, the session lives for the timeout from then on. A renewal that is refused is none.
+/// streams, the session lives for the timeout from then on. Where the book refuses the renewal, the
+/// session's end stays.
 pub fn hear<R: Wait>(
     rt: &R,
     seat: &mut BookSeat,

@@ -6,9 +6,10 @@ use rtsp_book::SessionView;
 use rtsp_record::{Admission, Stream, Thing};
 use rtsp_rtp::Packet;
 use rtsp_sockets::{FrameRoom, Outlet, PortSockets, Put};
+use std::cell::Cell;
 use std::io::ErrorKind;
 use std::net::{Ipv4Addr, SocketAddrV4};
-use std::sync::{Arc, Mutex, Wait};
+use std::sync::{Arc, Wait};
 
 // The most tracks of a presentation.
 const TRACKS: usize = 8;
@@ -20,8 +21,8 @@ pub(crate) struct PlayerPort {
     sockets: Arc<PortSockets>,
     // Where RTCP goes.
     rtcp: SocketAddrV4,
-    // The pacer's alone: nobody waits for it.
-    refusals: Mutex<Refusals>,
+    // The pacer's alone: a cell, since what sends a turn's packets has a shared reference.
+    refusals: Cell<Refusals>,
 }
 
 // A channel of a connection that frames go to.
@@ -48,6 +49,8 @@ pub(crate) enum Way {
 #[derive(Drop)]
 pub(crate) struct Ways {
     ways: [Way; TRACKS],
+    // Until when one of the ports at least is sent none.
+    spared_until: Cell<u64>,
 }
 
 // The way of datagrams to a stream's player, where its address is still bound.
@@ -58,7 +61,7 @@ fn datagrams(sockets: Option<Arc<PortSockets>>, stream: &Stream) -> Way {
             Way::Datagrams(PlayerPort {
                 sockets,
                 rtcp,
-                refusals: Mutex::new(Refusals::none()),
+                refusals: Cell::new(Refusals::none()),
             })
         }
         _ => Way::Nowhere,
@@ -111,18 +114,19 @@ fn connect(sockets: &Arc<PortSockets>, stream: &Stream) -> bool {
 impl PlayerPort {
     // Sends a datagram. Whether it was sent. An error of a connected socket may be that of an earlier
     // datagram, and then this one wasn't sent yet.
-    fn send<R: Wait>(&self, rt: &R, now: u64, datagram: &[u8]) -> bool {
-        let mut refusals = self.refusals.lock(rt);
+    fn send(&self, now: u64, datagram: &[u8]) -> bool {
+        let mut refusals = self.refusals.get();
         if refusals.is_spared(now) {
             return false;
         }
         match self.sockets.rtp.send(datagram) {
             Ok(_) => {
-                refusals.note_sent();
+                self.refusals.set(Refusals::none());
                 return true;
             }
             Err(fault) if fault.kind() == ErrorKind::ConnectionRefused => {
                 refusals.note_refused(now);
+                self.refusals.set(refusals);
             }
             Err(_) => {}
         }
@@ -143,11 +147,11 @@ impl Channel {
 }
 
 impl Way {
-    // Whether its player's port is sent none at this moment.
-    fn is_spared<R: Wait>(&self, rt: &R, now: u64) -> bool {
+    // Until when its player's port is sent none.
+    fn spared_until(&self) -> u64 {
         match self {
-            Way::Datagrams(port) => port.refusals.lock(rt).is_spared(now),
-            Way::Nowhere | Way::Frames(_) => false,
+            Way::Datagrams(port) => port.refusals.get().spared_until(),
+            Way::Nowhere | Way::Frames(_) => 0,
         }
     }
 
@@ -155,7 +159,7 @@ impl Way {
     fn send<R: Wait>(&self, rt: &R, now: u64, packet: &mut Packet) -> bool {
         match self {
             Way::Nowhere => false,
-            Way::Datagrams(port) => port.send(rt, now, packet.datagram()),
+            Way::Datagrams(port) => port.send(now, packet.datagram()),
             Way::Frames(channel) => {
                 let put = channel.put(rt, now, packet.frame(channel.number));
                 matches!(put, Put::Sent | Put::Kept)
@@ -190,6 +194,7 @@ impl Ways {
                 Way::Nowhere,
                 Way::Nowhere,
             ],
+            spared_until: Cell::new(0),
         };
         let room = room_of(view);
         let admissions = view.admissions();
@@ -205,30 +210,31 @@ impl Ways {
     }
 
     // Whether a player's port has refused so much that it is sent none at this moment.
-    pub(crate) fn is_any_spared<R: Wait>(&self, rt: &R, now: u64) -> bool {
-        for way in &self.ways {
-            if way.is_spared(rt, now) {
-                return true;
-            }
-        }
-        false
+    pub(crate) fn is_any_spared(&self, now: u64) -> bool {
+        now < self.spared_until.get()
     }
 
     // Sends to all ports again.
-    pub(crate) fn spare_none<R: Wait>(&self, rt: &R) {
+    pub(crate) fn spare_none(&self) {
         for way in &self.ways {
             if let Way::Datagrams(port) = way {
-                *port.refusals.lock(rt) = Refusals::none();
+                port.refusals.set(Refusals::none());
             }
         }
+        self.spared_until.set(0);
     }
 
     // Sends a packet of a track. Whether it was sent, or waits.
     pub(crate) fn send<R: Wait>(&self, rt: &R, now: u64, track: u16, packet: &mut Packet) -> bool {
-        match self.ways.get(usize::from(track)) {
-            Some(way) => way.send(rt, now, packet),
-            None => false,
+        let Some(way) = self.ways.get(usize::from(track)) else {
+            return false;
+        };
+        let is_sent = way.send(rt, now, packet);
+        if !is_sent {
+            let until = way.spared_until().max(self.spared_until.get());
+            self.spared_until.set(until);
         }
+        is_sent
     }
 
     // Sends an RTCP packet of a track.

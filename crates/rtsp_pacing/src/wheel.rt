@@ -91,7 +91,7 @@ impl Wheel {
         None
     }
 
-    // The same, if it is not behind this moment.
+    // The next moment whose slot has a play, if it isn't later than this one.
     #[tactic(auto, using(crate::proofs::Turning::bare_all, crate::proofs::Turning::bare_short))]
     fn next_until(&self, end: u64) -> Option<u64>
         ensures some { IfSome result (λ moment. IsNext self.now moment × moment ≤ end) }

@@ -1,4 +1,4 @@
-//! A set of numbers, in which the least from a number on is found by looking at few words.
+//! A set of numbers, in which the least that isn't below a given one is found by looking at few words.
 
 ghost use Rattle.std.specs.Prelude.{◌≡◌, ℕ, ◌+◌, ◌<◌, ◌≤◌, ◌^◌, true, false, IfOk, IfSome, IfNone};
 ghost use Rattle.rtsp_pools.specs.Bits.{bit_of, has, IsPut, count_below, IsSummed};
@@ -7,8 +7,8 @@ use crate::words::{lowest_bit, lowest_number, write_bit};
 use std::alloc::{AllocError, Global};
 
 /// A set of numbers below a limit. For each word of its bits a summary has one bit, which is on
-/// where the word is not 0. So of 65,536 numbers the least from one on is found in 18 words at
-/// most.
+/// where the word is not 0. So of 65,536 numbers the least that isn't below a given one is found in
+/// 18 words at most.
 #[derive(Drop)]
 pub(crate) struct BitSet {
     limit: usize,
@@ -98,7 +98,7 @@ impl BitSet {
         }
     }
 
-    /// The least number from one on.
+    /// The least number that isn't below `from`.
     pub(crate) fn least_from(&self, from: usize) -> Option<usize>
         ensures found { IfSome result (λ k. (k < self.now.limit) × (from ≤ k) × (bit_of self.now.words.items k ≡ 1)) }
         ensures least { IfSome result (λ k. (j : ℕ) → from ≤ j → j < k → bit_of self.now.words.items j ≡ 0) }

@@ -30,14 +30,14 @@ fn with_bit(bits: u128, place: u32, on: bool) -> u128
     }
 }
 
-// Whether the bit is off. There is none past the 128 bits.
+// Whether the bit is off, as each past the 128 bits is.
 fn is_off(bits: u128, place: u32) -> bool
     ensures { result ≡ (bit_at bits place == 0) }
 {
     place >= 128 || (bits >> place) & 1 == 0
 }
 
-// One where it is so.
+// 1 where it is so, else 0.
 fn number_of(is_so: bool) -> usize
     ensures value { result ≡ one_if is_so }
     ensures small { result ≤ 1 }

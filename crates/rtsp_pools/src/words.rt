@@ -5,7 +5,7 @@ ghost use Rattle.std.specs.Int.{bit_at};
 ghost use Rattle.rtsp_record.specs.Sums.{one_if};
 ghost use Rattle.rtsp_pools.specs.Bits.{bit_of};
 
-/// The place of the lowest bit from `low` on.
+/// The place of the lowest bit that is on, not below `low`.
 pub(crate) fn lowest_bit(bits: u64, low: u32) -> Option<u32>
     requires { low < 64 }
     ensures found { IfSome result (λ k. (k < 64) × (low ≤ k) × (bit_at bits k ≡ 1)) }
@@ -45,7 +45,7 @@ pub(crate) fn write_bit(words: &mut Vec<u64>, number: usize, on: bool)
     words[index] = with_bit(words[index], number % 64, on);
 }
 
-/// The least number from one on whose bit is on. It looks at each word from that number's on.
+/// The least number whose bit is on, not below `from`. It looks at each word from that of `from` on.
 pub(crate) fn lowest_number(words: &[u64], from: usize) -> Option<usize>
     requires { length words.now ≤ 1024 }
     ensures found { IfSome result (λ k. (from ≤ k) × (k / 64 < length words.now) × (bit_of words.now k ≡ 1)) }

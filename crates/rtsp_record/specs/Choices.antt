@@ -4,7 +4,7 @@ use Rattle.rtsp_record.specs.declared.holdings.Whole.{Whole}
 use Rattle.rtsp_record.specs.Books.{Book}
 use Rattle.rtsp_record.specs.Sums.{Spot, UdpPort, Channel, amount, covering, one_if}
 
--- each pair of the whole has a port number, and so has its second port
+-- both ports of each pair of the whole have numbers of at most 65,535
 abbrev pub HasPorts : Whole → Type 0
 HasPorts w = w.first_port + 2 * w.pairs ≤ 2 ^ 16
 

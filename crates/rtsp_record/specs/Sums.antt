@@ -36,7 +36,7 @@ of_session m f = m.life f.id + m.phase f.phase + if_there m.binding f.binding + 
 abbrev pub amount : Measure → Book → ℕ
 amount m b = total (λ e. of_session m e.1) b
 
--- one where it is so, else none
+-- 1 where it is so, else 0
 abbrev pub one_if : Bool → ℕ
 one_if t = cond t 1 0
 

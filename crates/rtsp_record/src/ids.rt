@@ -4,7 +4,7 @@ ghost use Rattle.std.specs.Prelude.{◌≡◌};
 
 use std::marker::Model;
 
-// The numbers of the lower half of an id.
+// How many numbers the lower half of an id can be.
 const HALF: u128 = 1 << 64;
 
 /// A session's id: 128 bits, drawn at random (RFC 7826 section 4.3). It is kept in two halves: a

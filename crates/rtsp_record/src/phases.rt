@@ -53,8 +53,8 @@ impl Phase {
         matches!(self, Phase::Playing { .. })
     }
 
-    /// How many units of the present play are due at a moment, both in milliseconds: one at once,
-    /// and one more each `unit_ms`. A moment before the play counts as its beginning.
+    /// How many units of the present play are due at a moment: one at once, and one more each
+    /// `unit_ms`. Both are in milliseconds. A moment before the play counts as its beginning.
     pub fn due(&self, unit_ms: u32, moment: u64) -> u32
         requires { 0 < unit_ms }
         ensures { result ≡ due self.now unit_ms moment }

@@ -13,7 +13,7 @@ datagram_in buffer len = take len (drop 4 buffer)
 abbrev pub framed : ℕ → List ℕ → Frame
 framed channel packet = record { channel = channel; payload = packet }
 
--- the packet after so many of a source, with the octets that a sink gave for a unit of its track
+-- the packet that follows `sent` others of a source, with the octets that a sink gave for a unit of its track
 pub record Filled {S : Type 0} (calls : Calls S) (x : Source) (sent unit : ℕ) (whole : List ℕ) (s u : S) : Type 0 where
   pub payload : List ℕ
   pub full : length payload ≡ x.octets

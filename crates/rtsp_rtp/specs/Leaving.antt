@@ -39,7 +39,8 @@ module _ {S : Type 0} (calls : Calls S) (p q : Pacing) (session : ℕ) (phase : 
     pub sends : (m : ℕ) → IsLeftAt p session phase m → SendsAll calls p.phase (unsent_at p m) p.done q.done s u
     pub pacer : q ≡ record p { done = q.done }
 
-  -- of this, what is due at the moment was sent, before which the session can't be told to have left
+  -- of this, what is due at the given moment was sent; the session may have left at a later moment, so more
+  -- may come due
   pub record Continued (s u : S) : Type 0 where
     pub when : ℕ
     pub left : IsLeftAt p session phase when

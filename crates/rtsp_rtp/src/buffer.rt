@@ -64,7 +64,8 @@ impl Packet {
         &self.buffer[..4 + self.len]
     }
 
-    // Puts the packet after so many of a source in place of what is there, with this payload.
+    // Puts the packet that follows `sent` others of a source, with this payload, in place of what is
+    // there.
     pub(crate) fn put(&mut self, source: &Source, sent: u32, payload: &[u8])
         requires { length payload.now ≤ max_octets }
         ensures { self.new ≡ packet_of source.now sent payload.now }
@@ -83,8 +84,8 @@ impl Packet {
         self.len = packet.len();
     }
 
-    // Puts the packet after so many of a source in place of what is there, with the octets of a
-    // unit that the sink gives.
+    // Puts the packet that follows `sent` others of a source in place of what is there, with the
+    // octets of a unit that the sink gives.
     pub(crate) fn fill<S: Sink>(
         &mut self,
         source: &Source,

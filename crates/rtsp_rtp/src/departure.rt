@@ -33,7 +33,8 @@ impl Play {
         }
     }
 
-    // A moment up to `end` at which so many units were sent in all plays.
+    // A moment up to `end` at which `sent` is what was sent in earlier plays and what was due in
+    // this one, if there is such a moment.
     fn counted_by(&self, sent: u32, end: u64) -> Option<u64>
         requires { 0 < self.now.unit_ms }
         ensures some { IfSome result (λ m. sent ≡ sent_with_due (phase_of self.now) self.now.unit_ms m) }
@@ -54,7 +55,8 @@ impl Play {
         }
     }
 
-    // The first moment, counted from the beginning of the play, at which so many units are due.
+    // The first moment, from the beginning of the play on, at which so many units are due; the
+    // greatest moment where that would be beyond it.
     fn due_at(&self, count: u32) -> u64
         ensures { result ≡ min (self.now.since + (count - 1) * self.now.unit_ms) (2 ^ 64 - 1) }
     {

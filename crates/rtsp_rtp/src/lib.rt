@@ -8,8 +8,8 @@
 //!
 //! The definitions of `specs/` read in this order: Packets (the bytes of a packet), Buffers, Sinks
 //! (where packets go), Pacing (what is sent of a play, in which order), Turns (what a turn does),
-//! Leaving (what a last turn does), Moments (when the next packet is due), Goodbyes (RTCP that ends
-//! the streams of a play).
+//! Leaving (what a last turn does), Progress and PacerView (the same by a pacer's fields), Moments
+//! (when the next packet is due), Goodbyes (RTCP that ends the streams of a play).
 
 #![tactic(auto)]
 

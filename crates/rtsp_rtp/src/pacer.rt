@@ -39,8 +39,9 @@ impl Model for Pacer {
 }
 
 impl Pacer {
-    /// A pacer for a play of the session that the view shows, in this phase, where it is one of a
-    /// play. The session may have left it. The presentation is that of the session's streams.
+    /// A pacer for a play of the session that the view shows. The phase is the session's in that
+    /// play; there is no pacer where it is no phase of a play. The session may have left the play.
+    /// The presentation is that of the session's streams.
     pub fn start(view: &SessionView, phase: Phase, presentation: &Presentation) -> Option<Self>
         ensures { result ≡ started view.now phase presentation.now }
     {
@@ -82,9 +83,9 @@ impl Pacer {
     }
 
     /// Sends what is due at a moment, in milliseconds, and unsent: by unit, and then in the order
-    /// of the presentation's tracks. What was sent is never sent again. The session's phase is that
-    /// at the moment. `packet` is room to make packets in: what it holds counts for nothing, and a
-    /// caller that keeps it from turn to turn saves clearing it.
+    /// of the presentation's tracks. What was sent is never sent again. `phase` is the one that the
+    /// session is in at that moment. `packet` is room to make packets in: what it holds counts for
+    /// nothing, and a caller that keeps it from turn to turn saves clearing it.
     pub fn turn<S: Sink>(
         &mut self,
         session: u64,
@@ -108,10 +109,10 @@ impl Pacer {
         Turn::More
     }
 
-    /// Sends what the book counted as sent when the session left the play, and what hasn't been: by
-    /// unit, and then in the order of the presentation's tracks, as far as it is due at a moment, in
-    /// milliseconds. `phase` is the one that the session was in when it was seen to have left; each
-    /// further turn is to be given the same one.
+    /// Of what the book counted as sent when the session left the play, sends what hasn't been sent:
+    /// by unit, and then in the order of the presentation's tracks, as far as it is due at a moment,
+    /// in milliseconds. `phase` is the one that the session was in when it was seen to have left;
+    /// each further turn is to be given the same one.
     pub fn last_turn<S: Sink>(
         &mut self,
         session: u64,

@@ -41,9 +41,9 @@ impl Source {
         }
     }
 
-    // Puts the header of the packet after so many of the session, modulo 2^32, where a packet has
-    // it. It does so byte by byte: of these the compiler makes words, and it can't of an array that
-    // is copied.
+    // Puts the header of the packet that follows `sent` others of the session, modulo 2^32, at its
+    // place in a packet's buffer. It is put byte by byte: the compiler makes whole words of these
+    // stores, which it can't of an array that is copied.
     pub(crate) fn put_header(&self, sent: u32, buffer: &mut [u8; 1416])
         ensures { buffer.new ≡ take 4 buffer.old ++ (header_of self.now sent ++ drop 16 buffer.old) }
     {

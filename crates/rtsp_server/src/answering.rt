@@ -116,15 +116,15 @@ impl<R: Wait + Net + rt::Clock> PieceAnswerer for Front<'_, R> {
         piece: &[u8],
         room: &mut Room,
     ) -> Result<(), MessageFault> {
+        self.service.make_room(self.lane);
         let Service {
             rt,
-            table,
             shared,
             answers,
+            recorded,
             now,
             ..
         } = self.service;
-        shared.make_room(rt, table, self.lane);
         let all = input.len().saturating_add(piece.len());
         let given = self.words.given();
         let unavailable = answers.unavailable();
@@ -143,6 +143,10 @@ impl<R: Wait + Net + rt::Clock> PieceAnswerer for Front<'_, R> {
         );
         let has_setup = self.words.given() != given;
         self.activity.note(now, all, input, has_setup);
+        // A request for whose answer there was no memory may have done something all the same.
+        if pushed.is_err() {
+            recorded.note();
+        }
         // A session that is refused behind its first words has been opened, and has ended.
         if has_setup {
             shared.note_end();

@@ -68,7 +68,8 @@ pub(crate) struct Client {
     hearing: Hearing,
 }
 
-// The address of the host that a player connected to, or any where that isn't one of IPv4.
+// The address of the host that a player connected to, or all of them where that isn't known as one of
+// IPv4.
 fn host_of(stream: &TcpStream) -> Ipv4Addr {
     match stream.local_addr() {
         Ok(SocketAddr::V4(local)) => *local.ip(),
@@ -76,7 +77,7 @@ fn host_of(stream: &TcpStream) -> Ipv4Addr {
     }
 }
 
-// Where answers are put, and what else is put for the player.
+// The outlet, where answers are put, and whatever else goes to the player.
 fn open_outlet(alloc: Global, lent: &Lent, stream: TcpStream) -> Option<Arc<Outlet>> {
     let loan = Loan::of(&lent.frames)?;
     Arc::new(alloc, Outlet::new(alloc, stream, loan)).ok()
@@ -90,7 +91,8 @@ fn tell_fault<R: Wait + rt::Clock>(rt: &R, log: &Log, fault: MessageFault) {
 }
 
 impl Client {
-    /// A connection that was accepted. There is none where memory, or the numbers, are used up.
+    /// A connection that was accepted. `None` where its options can't be set, or where memory or the
+    /// numbers are used up.
     pub(crate) fn open<R: Wait>(
         service: &Service<'_, R>,
         lane: &mut BookHandle,
@@ -133,7 +135,7 @@ impl Client {
         self.outlet.fd()
     }
 
-    /// Its outlet, for others too.
+    /// One more reference to its outlet, for whoever else writes to the player.
     pub(crate) fn outlet(&self) -> Option<Arc<Outlet>> {
         Arc::try_clone(&self.outlet).ok()
     }

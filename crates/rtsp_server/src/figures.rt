@@ -55,9 +55,13 @@ impl<R: Wait + rt::Clock> Witness for AnswerCounter<'_, R> {
             shared,
             answers,
             lines,
+            recorded,
             ..
         } = self.service;
         answers.answered(method, told.status);
+        if !matches!(method, Method::Options | Method::Describe) || told.session().is_some() {
+            recorded.note();
+        }
         if method == Method::Teardown {
             shared.note_end();
         }

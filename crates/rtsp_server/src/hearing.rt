@@ -28,8 +28,8 @@ impl Hearing {
         self.heard = None;
     }
 
-    /// A frame came on a channel of the connection. It is a sign of life of the session, whose end
-    /// moves by steps: so often at most it is looked at.
+    /// A frame came on a channel of the connection. It is a sign of life of the session, whose end moves
+    /// by steps: within one such step one frame alone is looked at.
     pub(crate) fn hear<R: Wait>(
         &mut self,
         service: &Service<'_, R>,
@@ -48,6 +48,7 @@ impl Hearing {
             return;
         }
         self.heard = Some(moment);
+        service.recorded.note();
         let report = Report {
             conn,
             channel,

@@ -1,12 +1,14 @@
 //! The threads of a server: lanes that serve connections, what paces the packets, and what ends
 //! sessions whose time is over.
 //!
-//! `server` starts all of them and joins them, with what `opening` gives, and `threads` is what each
-//! does. `socket_lane` is a lane of sockets, `roster` has its connections, `client` is one of them, and
-//! `visiting` reads it:
-//! `answering` is what is done with its input by a thread's handle of the book, `writing` and `hearing`
-//! with its output and its RTCP; `unread` is what it holds of a message that isn't whole, and `lane_lines`
-//! what a lane holds of the log. `sweeper` and `stopping` are the threads that end sessions and the server.
+//! `server` starts all of them and joins them, with what `opening` gives; `threads` is what each does,
+//! and `shared` what all share. `socket_lane` is a lane of sockets, `roster` has its connections,
+//! `client` is one of them, and `visiting` reads it. `answering` is what is done with its input over its
+//! handle of the book, `writing` and `hearing` what is done with its output and its RTCP; `unread` is
+//! what it holds of a message that isn't whole. Of a lane, `service` and `tools` are what it answers
+//! with, `lane_lines` what it holds of the log, and `recorded` whether it has to look at the journal's
+//! room. `sweeper` and `stopping` are the threads that end sessions and the server, and `figures` is
+//! what is counted and shown.
 //! What they go by is in rtsp_threads, and how one player is kept from harming the others in rtsp_shares.
 
 #![tactic(auto)]
@@ -18,6 +20,7 @@ mod figures;
 mod hearing;
 mod lane_lines;
 mod opening;
+mod recorded;
 mod roster;
 mod server;
 mod service;

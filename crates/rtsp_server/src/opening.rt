@@ -21,7 +21,7 @@ use std::sync::{Arc, Wait};
 use std::thread::Threads;
 use std::{io, net, rt, thread};
 
-// What sends the packets of plays, and reads them ahead.
+// What sends the packets of plays, and reads their media ahead.
 #[derive(Drop)]
 pub(crate) struct Sending {
     pub(crate) media: Media,
@@ -104,9 +104,9 @@ impl Opened {
 #[derive(Drop)]
 pub(crate) struct Handles {
     pub(crate) lanes: BookHandle,
-    // That of the sweeper, and that of the thread that starts the others.
+    // Two: the last is that of the sweeper, and the first that of the thread that starts the others.
     pub(crate) others: Vec<BookHandle>,
-    // That by which the figures are shown, and the last one.
+    // That by which the figures are shown, and that by which the book is given up at the end.
     pub(crate) shown: BookHandle,
     pub(crate) last: BookHandle,
 }

@@ -11,8 +11,8 @@ use std::sync::Wait;
 #[derive(Drop)]
 pub(crate) struct Roster {
     of: Slab<Client>,
-    // Those to be visited, each once: whoever is taken out of the slab isn't among them. There is
-    // room in it for all.
+    // The keys of those to be visited, each once: whoever is taken out of the slab isn't among them.
+    // There is room in it for all.
     ready: VecDeque<usize>,
 }
 
@@ -30,7 +30,7 @@ impl Roster {
         self.of.len()
     }
 
-    /// Above the key of each connection.
+    /// A number above the keys of all connections.
     pub(crate) fn keys(&self) -> usize {
         self.of.capacity()
     }
@@ -44,24 +44,25 @@ impl Roster {
         self.of.get_mut(key)
     }
 
-    /// The key of a connection, which is now among them and has room in the queue.
+    /// Takes a connection in, for which there is room in the queue then, and gives its key. `None` where
+    /// there is no memory.
     pub(crate) fn place(&mut self, client: Client) -> Option<usize> {
         let more = self.of.len().saturating_sub(self.ready.len());
         self.ready.reserve(more.saturating_add(1)).ok()?;
         self.of.insert(client).ok()
     }
 
-    /// A connection that leaves, and isn't in the queue.
+    /// Takes a connection out, which isn't in the queue.
     pub(crate) fn remove(&mut self, key: usize) -> Option<Client> {
         self.of.try_remove(key)
     }
 
-    /// The connection that is to be visited next, which leaves the queue.
+    /// The key of the connection that is to be visited next, which leaves the queue.
     pub(crate) fn next_ready(&mut self) -> Option<usize> {
         self.ready.pop_front()
     }
 
-    /// The connection is to be visited: it takes this note of it.
+    /// Puts the connection into the queue, unless it is there already.
     pub(crate) fn queue(&mut self, key: usize) {
         if let Some(client) = self.of.get_mut(key)
             && client.queue()
@@ -70,8 +71,8 @@ impl Roster {
         }
     }
 
-    /// Closes the connection where it is stalled, and puts it into the queue where it is silent or late,
-    /// or bytes wait for its player.
+    /// Closes the connection where it is stalled, and puts it into the queue where it has been silent for
+    /// too long, owes the rest of a message for too long, or has bytes that wait for its player.
     pub(crate) fn sweep<R: Wait>(&mut self, rt: &R, key: usize, timeout: u64, moment: u64) {
         if let Some(client) = self.of.get_mut(key)
             && client.sweep(rt, timeout, moment)
@@ -80,7 +81,7 @@ impl Roster {
         }
     }
 
-    /// Puts the connection into the queue of which the system tells.
+    /// Notes what the system tells of the connection, and puts it into the queue.
     pub(crate) fn note(&mut self, key: usize, event: &Event) {
         if let Some(client) = self.of.get_mut(key)
             && client.note(event)

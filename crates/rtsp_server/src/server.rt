@@ -32,7 +32,7 @@ pub struct ServerEnd {
 
 /// Is told where a server listens, once all its threads stand.
 pub trait Announce: Drop {
-    /// Whether it could tell it on. Where it couldn't the server ends.
+    /// Whether it could pass the address on. Where it couldn't, the server ends.
     fn announce(&mut self, address: SocketAddr) -> bool;
 }
 
@@ -49,8 +49,8 @@ fn open_scribe<R: Files<File = File>>(
 }
 
 impl Parts {
-    // Ends all sessions once all threads but this are joined, and writes the rest of the journal. The
-    // book, where the others have let go of it.
+    // Ends all sessions once all threads but this are joined, and writes the rest of the journal. Returns
+    // the book, where the others have let go of it.
     fn close<R: Wait + Net + Files<File = File> + Eprint>(
         &self,
         rt: &R,
@@ -179,10 +179,10 @@ impl Server {
         self.connections < u64::from(self.parts.table.server().pairs)
     }
 
-    /// Runs the server until it ends, and joins all threads: once it has served as many connections
-    /// as it was opened for, or where the process is asked to end. Then no session lives in the last
-    /// journal, so that nothing is held. Where its folder of the journal takes no file, or it can't be
-    /// told where it listens, it is `DeviceFailed`.
+    /// Runs the server until it has served as many connections as it was opened for, or the process is
+    /// asked to end, and joins all threads. Then no session lives in the last journal, so nothing is
+    /// held. `DeviceFailed` where the folder of the journal takes no file, or where it couldn't be told
+    /// on which address the server listens.
     pub fn run<
         A: Announce,
         E: Write + Drop + Send,

@@ -3,10 +3,14 @@
 ghost use Rattle.std.specs.Prelude.{◌≡◌, ⊤};
 
 use crate::lane_lines::LaneLines;
+use crate::recorded::Recorded;
 use crate::shared::Shared;
 use rtsp_content::Table;
+use rtsp_lock::BookHandle;
 use rtsp_metrics::AnswerCounters;
 use std::alloc::{AllocError, Global};
+use std::rt;
+use std::sync::Wait;
 
 /// What a turn of a lane is made with: the server's parts, and the moment of the turn.
 pub(crate) struct Service<'a, R> {
@@ -14,9 +18,10 @@ pub(crate) struct Service<'a, R> {
     pub(crate) alloc: Global,
     pub(crate) table: &'a Table,
     pub(crate) shared: &'a Shared,
-    /// Those of the lane.
+    /// Where the lane counts its answers.
     pub(crate) answers: &'a AnswerCounters,
     pub(crate) lines: &'a LaneLines,
+    pub(crate) recorded: &'a Recorded,
     pub(crate) now: u64,
 }
 
@@ -32,3 +37,13 @@ impl<R> Clone for Service<'_, R> {
 
 // Not derived, since that would ask it of R.
 impl<R> Copy for Service<'_, R> {}
+
+impl<R: Wait + rt::Clock> Service<'_, R> {
+    /// Keeps the journal from filling, where the lane may have made entries since it did so last: the
+    /// look for that takes the lock of all lanes.
+    pub(crate) fn make_room(&self, lane: &mut BookHandle) {
+        if self.recorded.take() {
+            self.shared.make_room(self.rt, self.table, lane);
+        }
+    }
+}

@@ -65,7 +65,7 @@ pub(crate) struct Shared {
     /// From when on moments are counted.
     pub(crate) begun: Instant,
     watermark: Mutex<Watermark>,
-    // Whether a session may have ended since this was asked last.
+    // Whether a session may have ended since `take_ends` was called last.
     has_ended: AtomicBool,
     wakers: Mutex<Vec<Waker>>,
     // What each lane counts of its answers.
@@ -200,7 +200,7 @@ impl Shared {
         self.watermark.lock(rt).moment(now)
     }
 
-    /// The same for a sweep of sessions, which counts as one.
+    /// The same at the beginning of a sweep of sessions, which the watermark counts as one of its sweeps.
     pub(crate) fn begin_sweep<R: Wait>(&self, rt: &R, now: u64) -> u64 {
         let mut watermark = self.watermark.lock(rt);
         let moment = watermark.moment(now);
@@ -237,8 +237,8 @@ impl Shared {
         self.log.event(rt, Event::NoDescriptor);
     }
 
-    /// Requests were refused as there was no more of something. Where that is the journal's room, it
-    /// is told.
+    /// Requests were refused since there was no more of something. Where that may be the journal's room,
+    /// the log tells of it.
     pub(crate) fn note_unavailable<R: Wait + rt::Clock>(&self, rt: &R, lane: &mut BookHandle) {
         if lane.tally(rt).room < LAST_ROOM {
             self.log.event(rt, Event::JournalFull);
@@ -255,7 +255,8 @@ impl Shared {
         self.standing.load(Ordering::Relaxed)
     }
 
-    /// A session may have ended. Where that stands already nothing is written, since many lanes read it.
+    /// A session may have ended. Where that is noted already nothing is written: many lanes read the flag,
+    /// and a write would take its memory from their caches.
     pub(crate) fn note_end(&self) {
         if !self.has_ended.load(Ordering::SeqCst) {
             self.has_ended.store(true, Ordering::SeqCst);

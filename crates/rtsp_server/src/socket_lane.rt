@@ -2,6 +2,7 @@
 
 use crate::client::{Client, Visit};
 use crate::lane_lines::LaneLines;
+use crate::recorded::Recorded;
 use crate::roster::Roster;
 use crate::service::Service;
 use crate::shared::Shared;
@@ -39,6 +40,7 @@ pub struct SocketLane {
     shared: Arc<Shared>,
     answers: Arc<CachePadded<AnswerCounters>>,
     lines: LaneLines,
+    recorded: Recorded,
     clients: Clients,
     // Whether it has begun.
     stands: bool,
@@ -96,13 +98,14 @@ impl SocketLane {
             shared,
             answers,
             lines: LaneLines::new(alloc),
+            recorded: Recorded::new(),
             clients,
             stands: false,
         })
     }
 }
 
-// What the system tells of the listener of all lanes, and by which the others wake this one.
+// A poll that tells of the listener of all lanes, and that other threads wake.
 fn open_poll<R: Wait + Net>(rt: &R, shared: &Shared) -> io::Result<Poll> {
     let poll = Poll::new(rt)?;
     let fd = shared.listener.as_raw_fd();
@@ -139,8 +142,9 @@ impl Clients {
         })
     }
 
-    // Waits for something to do, but no longer than the lines of the log may wait. The moment up to which
-    // the system has told of all that had come, if it has: it tells so many events at once at most.
+    // Waits for something to do, but no longer than the lines of the log may wait. Returns the moment up
+    // to which the system has told of all that had come, unless it has told as many events as it can at
+    // once: then there may be more.
     fn wait<R: rt::Clock>(&mut self, rt: &R, lines: &LaneLines) -> Option<u64> {
         let mut time = 0;
         if self.roster.ready() == 0 {
@@ -178,8 +182,8 @@ impl Clients {
         }
     }
 
-    // Accepts some of the connections that wait. Whether there were none: what has come on one that
-    // is new is told by the next wait.
+    // Accepts some of the connections that wait. Whether there were none. What has come on a new one is
+    // only told by the next wait, so where there was one, not all is read that had come.
     fn accept_some<R: Wait + Net + rt::Clock>(
         &mut self,
         service: &Service<'_, R>,
@@ -339,8 +343,8 @@ impl Clients {
         }
     }
 
-    // Closes those that are stalled, and has those visited that are silent or late, or to whom
-    // bytes wait.
+    // Closes connections that are stalled, and has those visited that are silent or late, or that have
+    // bytes waiting for their players.
     fn sweep<R: Wait>(&mut self, service: &Service<'_, R>) {
         if service.now.saturating_sub(self.swept) < SWEEP_EVERY {
             return;
@@ -411,6 +415,7 @@ impl Lane for SocketLane {
             shared,
             answers,
             lines,
+            recorded,
             clients,
             ..
         } = self;
@@ -423,6 +428,7 @@ impl Lane for SocketLane {
             shared: &**shared,
             answers: &***answers,
             lines,
+            recorded,
             now: clients.now,
         };
         clients.serve(&service, handle, told)

@@ -1,4 +1,5 @@
-//! The thread that ends sessions whose time is over, and keeps the journal as long as what lives.
+//! The thread that ends sessions whose time is over, and keeps the journal from growing beyond what
+//! lives.
 
 use crate::shared::Shared;
 use rtsp_lock::BookHandle;
@@ -69,9 +70,9 @@ impl HeldJournal {
 
 /// Ends from time to time the sessions that had expired when all lanes had read what had come, until
 /// it is told to stop. After each sweep it forgets all sessions that have ended by then, however they
-/// ended, if any has, and has those that live restated where they have done much: so the journal is
-/// as long as what lives and what was done since. Where the journal is written to files, the thread
-/// that does so shortens it.
+/// ended, and has those that live restated where they have done much. So the journal is as long as
+/// what lives and what was done since. Where the journal is written to files, the thread that does
+/// that shortens it, and this one doesn't.
 pub(crate) fn run_sweeper<R: Wait + Net + rt::Clock>(
     rt: &R,
     mut handle: BookHandle,

@@ -67,8 +67,8 @@ impl Drop for Start {
     }
 }
 
-// What those beside them begin with, for whoever runs the server: where signals are seen, where the
-// log is written, and where the figures are shown, by a handle of their own.
+// What the threads for whoever runs the server begin with: where signals are seen, where the log is
+// written, and where the figures are shown, with a handle of the book for these.
 #[derive(Drop)]
 pub(crate) struct Beside<E> {
     pub(crate) signals: Option<OwnStatus>,
@@ -182,8 +182,9 @@ impl Parts {
         self.stop(rt);
     }
 
-    // What this thread does while the lanes run: it tells that all stand, and writes the journal where
-    // that is wanted. Whether it could tell it.
+    // What the thread that starts the others does while the lanes run: it tells that all stand, and
+    // writes the journal where that is wanted. Returns what writes the journal, and whether it could tell
+    // that all stand.
     fn attend<A: Announce, R: Wait + Net + rt::Clock + Files<File = File> + Eprint>(
         &self,
         rt: &R,

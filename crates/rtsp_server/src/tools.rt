@@ -12,7 +12,7 @@ use std::rt::Files;
 
 /// What a lane answers with, for one connection after another.
 pub(crate) struct Tools {
-    /// What the step made that was last.
+    /// What the last step made.
     pub(crate) made: Receipt,
     pub(crate) words: RandomWords,
     /// The plays that were begun and whose answers aren't written yet.

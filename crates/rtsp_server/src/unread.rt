@@ -6,7 +6,7 @@ ghost use Rattle.std.specs.Bool.{OnTrue};
 use rtsp_sockets::{Loan, SharedRoom};
 use std::sync::Arc;
 
-// So many bytes of a message that isn't whole a connection may hold whatever others hold.
+// How many bytes of a message that isn't whole a connection may hold, whatever others hold.
 const HELD: usize = 4 * 1_024;
 
 /// The most memory that is lent to all connections together for messages of which they hold more:

@@ -220,7 +220,7 @@ fn a_play_is_noted_and_settled(rt: HostRuntime) {
     assert!(rt; is_noted);
 }
 
-// What is other on a server, and what is answered then.
+// What a server has otherwise than `SERVER`, and what it answers then.
 const FAILING: [(Server, &str); 4] = [
     (
         Server {

@@ -1,4 +1,4 @@
-//! What is printed, beside what OpenMetrics has and what a reader expects.
+//! What is printed of a server's figures, for OpenMetrics and for a reader.
 
 use crate::parts::has_lines;
 use rtsp_metrics::{
@@ -35,7 +35,7 @@ fn add_answers(counts: &mut Counts) -> [u64; 2] {
     [before, lane.unavailable()]
 }
 
-// Those, with what two lanes have answered.
+// What these counters have, with what two lanes have answered.
 fn some_counts() -> Counts {
     let mut counts = some_counters().read();
     add_answers(&mut counts);

@@ -119,7 +119,7 @@ impl History {
             .turn(rt, &mut self.own, &self.lock, Then::Forget, sink)
     }
 
-    /// Does so by a scribe, until it is told to stop.
+    /// Writes by a scribe, until that is told to stop.
     pub fn run_scribe<R: Wait, S: JournalSink, P: Pause>(
         &mut self,
         rt: &R,

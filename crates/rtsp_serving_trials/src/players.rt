@@ -158,6 +158,24 @@ fn seen_of<R: AllocGlobal + Wait>(rt: &R, lines: &'static str) -> Option<Seen> {
     Some(converse(rt, Server { lines, ..SERVER }, WATCHED)?.seen)
 }
 
+const IN_SESSION: &str = "\
+SETUP rtsp://h/tone/a RTSP/2.0
+CSeq: 1
+Transport: RTP/AVP;unicast;dest_addr=\":9000\"/\":9001\"
+
+OPTIONS * RTSP/2.0
+CSeq: 2
+Session: 00000000000000000000000000000001
+
+";
+
+// An answer to what was asked in a session names it.
+#[test]
+fn a_session_is_told_of(rt: HostRuntime) {
+    let seen = converse(&rt, SERVER, IN_SESSION).map(|talk| talk.seen);
+    assert!(rt; seen == Some((2, 200, Some(0), 7 + 1)));
+}
+
 // The session's first eight digits are zeros.
 #[test]
 fn each_request_is_told_of(rt: HostRuntime) {

@@ -1,5 +1,5 @@
-//! Plays over a port of this host, to their end or until their session leaves them: that is at a
-//! moment that is still to come, when not all that is counted has gone.
+//! Plays over a port of this host, to their end or until their session leaves them. The PAUSE names a
+//! moment that is still to come, so that not all units that it counts have gone.
 
 ghost use Rattle.std.specs.Prelude.{◌≡◌, ◌<◌};
 ghost use Rattle.rtsp_book.specs.Replies.{IsAskable};

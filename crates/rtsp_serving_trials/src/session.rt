@@ -9,21 +9,22 @@ use rtsp_lock::{BookLock, BookSeat};
 use rtsp_record::{Id, Stream};
 use std::sync::Wait;
 
-/// Of a play that begins at moment 0 three units are counted here.
+/// A pause, by which three units are counted of a play that began at moment 0.
 pub const PAUSE: Step = Step::Pause {
     session: 2,
     unit_ms: 200,
     now: 500,
 };
 
-/// Of that play two units are counted here, and then two of this one up to the pause.
+/// Another play, from the unit 5 on: two units are counted of the one before it, and then two of this
+/// one up to the pause.
 pub fn seek() -> Step
     ensures { IsAskable result }
 {
     playing(Some(5), 250)
 }
 
-/// That play again from where it is, so that its numbers and units go on.
+/// The same play again from where it is, so that its numbers and units go on.
 pub fn resume() -> Step
     ensures { IsAskable result }
 {

@@ -180,7 +180,7 @@ fn scribe_of<R: Files<File = File> + AllocGlobal>(rt: &R) -> Option<Scribe> {
     Scribe::open(rt, rt.alloc(), operation.journal()?).ok()
 }
 
-// How long the file is that a scribe leaves which is stopped at once.
+// How long the file is that a scribe leaves that was told to stop before it began.
 fn length_at_end<R: Files<File = File> + Wait + Clock + Eprint + AllocGlobal>(
     rt: &R,
     handle: &mut BookHandle,

@@ -32,7 +32,7 @@ number_of p es = option_map (λ e. e.0) (first_with p es)
 abbrev pub first_from : ℕ → List (ℕ × Session) → Option ℕ
 first_from from es = number_of (λ e. nat_le from e.0) es
 
--- the number is above another, where there is one
+-- the number is above another, or there is no other
 abbrev pub is_above : Option ℕ → ℕ → Bool
 is_above None n = true
 is_above (Some m) n = nat_lt m n

@@ -79,7 +79,7 @@ abbrev pub plain_code : Coded Whole → Coded Admission → Coded Phase → Code
 plain_code whole admission phase =
     code_by (Whole × Book) (coded× whole (book_code admission phase)) (λ v. (v.whole, v.book)) (λ p. record { whole = p.0; book = p.1 }) (λ _. refl)
 
--- a record for which there is a place: an Open of a session that doesn't live, or a change of one that lives and has room for it
+-- a record for which there is a place: an Open of a session that doesn't live, a Close of one that lives, or a change for which this has room
 abbrev pub FitsIn : Book → Record → Type 0
 FitsIn b (Open k) = get b k.session ≡ None
 FitsIn b (Close k) = IsSome (get b k.session)

@@ -63,7 +63,7 @@ impl Admissions {
         &self.rows[..self.len]
     }
 
-    /// How many admissions hold something.
+    /// How many admissions there are: those under which anything stands.
     pub fn len(&self) -> usize
         ensures { result ≡ length (entries self.now) }
     {

@@ -1,6 +1,6 @@
 //! The table of living sessions: how it is seen, whoever represents it, and a plain one.
 //!
-//! `BookRep` is the book of sessions as a set of facts, with its look-ups, its choices of what is
+//! `BookRep` is the book of sessions, however it is kept, with its look-ups, its choices of what is
 //! free, and the changes by records. `SessionView` is one session of it, of fixed size. `PlainBook`
 //! is a book that is a vector of its sessions.
 //!

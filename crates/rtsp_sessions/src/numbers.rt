@@ -6,7 +6,7 @@ ghost use Rattle.rtsp_sessions.specs.Lookups.{is_above, inserted};
 use arrayvec::ArrayVec;
 use std::marker::Model;
 
-/// Whether a number is above another, where there is one.
+/// Whether a number is above another, or there is no other.
 pub fn is_above(above: Option<u64>, number: u64) -> bool
     ensures { result ≡ is_above above number }
 {
@@ -78,7 +78,7 @@ impl SessionNumbers {
         self.numbers.is_full() && self.numbers.as_slice()[255] <= number
     }
 
-    // Puts a number before the one at this place, unless it would be the 65th.
+    // Puts a number before the one at this place, unless it would be the 257th.
     fn insert_unless_last(&mut self, place: usize, number: u64)
         requires within { place ≤ length self.old }
         requires before { (k : ℕ) → k < place → slice_index_or self.old k 0 < number }

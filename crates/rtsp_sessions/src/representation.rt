@@ -23,7 +23,7 @@ pub trait BookRep: Drop {
     /// What there is to hold.
     ghost whole_of: { Self → Whole };
 
-    /// The book of no session. Each pair of the whole has to have its two port numbers.
+    /// The book of no session. Both ports of each pair of the whole have to be at most 65,535.
     fn open(alloc: Global, whole: &Whole) -> Result<Self, AllocError>
         requires { HasPorts whole.now }
         ensures contents { IfOk result (λ b. contents b ≡ empty) }
@@ -59,8 +59,8 @@ pub trait BookRep: Drop {
     fn next_session(&self, from: u64) -> Option<u64>
         ensures { result ≡ first_from from (entries (contents self.now)) };
 
-    /// The least numbers of living sessions above this one, or of all: as many as there are, and no
-    /// more than 256. They replace those that are there.
+    /// The least numbers of living sessions above this one, or of all where there is none: as many as
+    /// there are, and no more than 256. They replace the numbers in `found`.
     fn next_sessions(&self, above: Option<u64>, found: &mut SessionNumbers)
         ensures { found.new ≡ take 256 (numbers_above above (entries (contents self.now))) };
 

@@ -1,6 +1,6 @@
 //! A pair of UDP ports, or a single one.
 
-/// What of UDP is held as one thing, by its first port.
+/// How many UDP ports are held as one thing, which is named by its first port.
 #[derive(Clone, Copy)]
 pub enum UdpPorts {
     /// A port for RTP and the next one for RTCP.

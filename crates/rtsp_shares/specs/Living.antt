@@ -1,5 +1,5 @@
--- What was told of numbers, and what follows for the places that are kept for them. `tells before number lives after` says what becomes of
--- who is asked whether what has this number lives.
+-- What was told of numbers, and what follows for the places that are kept for them. `tells before number lives after` says that whoever is
+-- asked, as it was `before`, whether what has this number lives, tells `lives` and is `after` from then on.
 use Rattle.std.specs.Prelude.{◌≡◌, ◌⊎◌, ℕ, ◌≤◌, Bool, true, false, List, [], ◌∷◌, ◌++◌, length, count_by, All, Option, Some, None}
 use Rattle.rtsp_shares.specs.declared.place.Place.{Place}
 use Rattle.rtsp_shares.specs.Places.{Places, places_of, held, IsOf}

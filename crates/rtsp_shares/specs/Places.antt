@@ -39,7 +39,7 @@ pub record SameLimits (old new : Places) : Type 0 where
   pub share : new.share ≡ old.share
   pub most : new.most ≡ old.most
 
--- some are gone and others have come: whatever is looked for, there is as much more of it as that says
+-- some are gone and others have come: whatever is counted, there are as many more of it as came, and as many less as are gone
 abbrev pub Exchanges : {X : Type 0} → List X → List X → List X → List X → Type 0
 Exchanges {X} old new gone come = (test : X → Bool) → count_by test new + count_by test gone ≡ count_by test old + count_by test come
 

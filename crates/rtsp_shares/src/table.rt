@@ -45,7 +45,7 @@ fn places_of(places: &[Place], address: u32) -> usize
     count
 }
 
-// The place that an address took last of those that are held.
+// The index of a place that an address holds: of several, the last one in the table.
 fn held_at(places: &[Place], address: u32) -> Option<usize>
     ensures there { IfSome result (λ at. slice_get places.now at ≡ Some (held address)) }
     ensures none { IfNone result (HasHeld address places.now → ⊥) }
@@ -96,8 +96,8 @@ impl ShareTable {
         places_of(&self.taken, address) < self.share && self.taken.len() < self.most
     }
 
-    /// An address takes a place, if its share isn't spent, and whoever took it holds it. Each that is
-    /// taken has to be given back, or kept for what it was taken for.
+    /// An address takes a place, if its share isn't spent and the table isn't full, and whoever took it
+    /// holds it. Each place that is taken has to be given back, or kept for what it was taken for.
     pub fn take(&mut self, address: u32) -> bool
         ensures taken { OnTrue result (self.new ≡ record self.old { taken = self.old.taken ++ held address ∷ [] }) }
         ensures refused { OnFalse result (self.new ≡ self.old) }
@@ -161,8 +161,8 @@ impl ShareTable {
         }
     }
 
-    // Whose places are to be asked about for one more of an address: its own, or all where there is
-    // room for none.
+    // Whose places are to be asked about, so that an address may have one more: its own, or `None` for
+    // those of all where the table is full.
     fn whose(&self, address: u32) -> Option<u32>
         ensures { IfSome result (λ named. (named ≡ address) × (length self.now.taken < self.now.most)) }
     {
@@ -173,7 +173,7 @@ impl ShareTable {
         }
     }
 
-    // Gives those places of an address, or of all, back that are kept for what doesn't live any more.
+    // Gives back those places of an address, or of all, that are kept for what doesn't live any more.
     fn drop_ended<L: Living>(&mut self, living: &mut L, whose: Option<u32>)
         ensures limits { SameLimits self.old self.new }
         ensures asked { Asked L.tells living.old living.new }

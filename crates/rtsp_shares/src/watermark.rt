@@ -7,18 +7,18 @@ use std::alloc::{AllocError, Global};
 use std::collections::VecDeque;
 use std::marker::Model;
 
-/// For how many sweeps at most one goes no further than a lane that isn't at the end of what comes.
+/// For how many sweeps at most a lane that hasn't read all that has come holds the sweeps back.
 pub const HELD_SWEEPS: usize = 10;
 
 /// The moments up to which the lanes have read all that had come, and those of the last sweeps, in
-/// milliseconds of one clock. A sweep ends what was over at the least of the former: what came to a
-/// lane later may be a renewal. But no lane holds it up for more than `HELD_SWEEPS` sweeps. That they
-/// count, and not the time, leaves each lane time to read after a stall too.
+/// milliseconds of one clock. A sweep ends what was over at the least moment of the lanes: what came to
+/// a lane later may be a renewal. But no lane holds it up for more than `HELD_SWEEPS` sweeps. It is
+/// sweeps that are counted, and not time, so that each lane has time to read after a stall, too.
 #[derive(Drop)]
 pub struct Watermark {
     // By lane.
     read: Vec<u64>,
-    // The oldest first. There are as many at all times.
+    // The oldest first. There are always `HELD_SWEEPS` of them.
     sweeps: VecDeque<u64>,
 }
 

@@ -3,7 +3,7 @@ use Rattle.std.specs.Prelude.{◌≡◌, ℕ, ◌∷◌, length}
 use Rattle.std.specs.Option.{option_to_list}
 use Rattle.rtsp_sockets.specs.declared.ports.PortSockets.{PortSockets}
 
--- how many there are
+-- how many sockets an address has
 abbrev pub sockets_in : PortSockets → ℕ
 sockets_in s = length (s.rtp ∷ option_to_list s.rtcp)
 

@@ -14,9 +14,9 @@ use std::sync::Wait;
 
 impl<F: ReadAt> MediaOf<F> {
     /// Whether a unit of a track can be had without waiting for a disk, at a moment of the server's
-    /// clock in milliseconds: its file is held in memory, or was read there within the last minute.
-    /// If so, what comes behind it is asked for, and else the unit is. A unit that no file has can be
-    /// had: `octets` refuses it.
+    /// clock in milliseconds: its file is held in memory, or that part of it was read within the last
+    /// minute. If so, what comes behind it is asked for, and else the unit is. A unit that no file has
+    /// is at hand: `octets` refuses it without waiting.
     pub fn is_at_hand<R: Wait>(
         &self,
         rt: &R,

@@ -69,14 +69,14 @@ impl ChunkMarks {
         }
     }
 
-    // Whether a chunk has to be asked for: it wasn't read for long, and nobody has asked. Then
-    // whoever is told so asks.
+    // Whether a chunk has to be asked for: it wasn't read lately, and nobody has asked for it. Whoever
+    // is told so has to ask.
     pub(crate) fn take_wish(&self, chunk: u64, now: u64) -> bool {
         let Some(mark) = self.mark(chunk) else {
             return false;
         };
-        let is_new = is_within(mark.read_at.load(Ordering::SeqCst), now, RENEWED_AFTER);
-        !is_new && !mark.is_wanted.swap(true, Ordering::SeqCst)
+        let is_recent = is_within(mark.read_at.load(Ordering::SeqCst), now, RENEWED_AFTER);
+        !is_recent && !mark.is_wanted.swap(true, Ordering::SeqCst)
     }
 
     // Nobody has asked for a chunk after all.

@@ -12,7 +12,8 @@ pub const MOST_ROOM: usize = 4 * 1024 * 1024;
 /// The most bytes that are lent to all connections together for frames that wait: 256 MiB.
 pub const LENT_IN_ALL: u64 = 256 * 1024 * 1024;
 
-// What waits then leaves as much room to responses as `FRAME_ROOM` does in `ALL_ROOM`.
+// The most bytes that wait once a frame waits too, however much is lent. They leave as much room to
+// responses in `MOST_ROOM` as `FRAME_ROOM` does in `ALL_ROOM`.
 const MOST_FRAMES: usize = FRAME_ROOM + (MOST_ROOM - ALL_ROOM);
 
 /// How many bytes may wait once a frame of some streams waits too. What of them is beyond

@@ -1,5 +1,5 @@
-//! The sockets and files of a server, each a part by itself. No thread is started here, and none
-//! waits but for a lock, and a reader for what it has to read.
+//! The sockets and files of a server, each a part by itself. No thread is started here. None waits here
+//! for more than a lock, except a reader, which waits for what it has to read.
 //!
 //! `outlet` is the writing side of a connection, over `pending`, the bytes that wait to be written;
 //! `outlets` are those of all connections. `frame_room` is how much of a stream may wait, `loan` what

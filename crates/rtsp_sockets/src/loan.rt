@@ -53,7 +53,7 @@ impl SharedRoom {
     }
 }
 
-/// What a connection has of a shared room. It is given back when it is dropped.
+/// What a connection has of a shared room. Dropping the loan gives it back.
 pub struct Loan {
     room: Arc<SharedRoom>,
     bytes: usize,
@@ -75,7 +75,8 @@ impl Drop for Loan {
 }
 
 impl Loan {
-    /// A loan of this room, of no byte yet. It takes no memory. `None` where the room has too many.
+    /// A loan of this room, of no byte yet. It takes no memory. `None` where the room has too many
+    /// loans to count.
     pub fn of(room: &Arc<SharedRoom>) -> Option<Loan>
         ensures { IfSome result (λ l. l ≡ 0) }
     {

@@ -93,7 +93,7 @@ impl MediaOf<File> {
         Ok(media)
     }
 
-    // The place of a track's file, which is opened where no track before named it.
+    // The index of a track's file in `files`. The file is opened here, unless a track before named it.
     fn file_of<'t, R: Files<File = File>>(
         &mut self,
         rt: &R,

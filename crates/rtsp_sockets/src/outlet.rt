@@ -19,7 +19,7 @@ use std::sync::{Mutex, Wait};
 /// For how long, in milliseconds, a player may take none of the bytes that wait for it.
 pub const STALL_LIMIT: u64 = 10_000;
 
-// Within how many milliseconds a player takes some of what waits that takes bytes as they come.
+// A player who takes some of what waits within so many milliseconds counts as one who takes bytes soon.
 const SOON: u64 = 500;
 
 /// The writing side of a connection, shared by the lane that reads it and the pacers that send
@@ -33,7 +33,7 @@ pub struct Outlet {
     pending: Mutex<Pending>,
     // How many requests the server made on the connection.
     requests: Mutex<u32>,
-    // Whether the system keeps as much of it as it may.
+    // Whether the system was told to keep `SEND_BUFFER` bytes of it.
     is_wide: AtomicBool,
 }
 
@@ -92,7 +92,7 @@ impl Outlet {
         let _ = self.stream.shutdown(Shutdown::Both);
     }
 
-    // Has the system keep more, once.
+    // Has the system keep `SEND_BUFFER` bytes, at the first call alone.
     fn widen(&self) {
         if !self.is_wide.swap(true, Ordering::SeqCst) {
             widen(self.fd());
@@ -134,9 +134,9 @@ impl Outlet {
     }
 
     /// Writes what waits, as far as it goes at once: how many bytes are left, beside those that are
-    /// lent, or `None` where the connection is closed. None are left only where none wait. It is called whenever the system tells that the connection can be
-    /// written, and from time to time, since the system tells late: what it takes meanwhile is what
-    /// the player has taken.
+    /// lent, or `None` where the connection is closed. It is 0 only where no byte waits. It is called
+    /// whenever the system tells that the connection can be written, and from time to time, since the
+    /// system tells late: what it takes meanwhile is what the player has taken.
     pub fn flush<R: Wait>(&self, rt: &R, now: u64) -> Option<usize>
         ensures { IfSome result (λ left. left ≤ all_room) }
     {
@@ -165,7 +165,7 @@ impl Outlet {
         pending.unlent()
     }
 
-    /// How many bytes wait, beside those that are lent. None only where none wait.
+    /// How many bytes wait, beside those that are lent: 0 only where no byte waits.
     pub fn waiting<R: Wait>(&self, rt: &R) -> usize
         ensures { result ≤ all_room }
     {

@@ -49,11 +49,11 @@ pub(crate) struct Pending {
     condition: Condition,
     // The moment at which a byte was written, or at which the first came to wait.
     since: u64,
-    // The greatest of the frames that wait.
+    // The greatest room with which a frame came that waits.
     room: FrameRoom,
     // What frames take beyond the room that each connection has by itself.
     loan: Loan,
-    // How many bytes have waited at once in this memory.
+    // The most bytes that have waited at once in this memory.
     peak: usize,
 }
 
@@ -99,7 +99,7 @@ impl Pending {
         self.bytes.len()
     }
 
-    // How many bytes wait beside those that are lent. None only where none wait.
+    // How many bytes wait beside those that are lent: 0 only where no byte waits.
     pub(crate) fn unlent(&self) -> usize
         ensures count { result ≡ length self.now.bytes - self.now.lent }
         ensures most { result ≤ all_room }
@@ -134,7 +134,7 @@ impl Pending {
         self.loan.settle(0);
     }
 
-    // Frames of such a room are to be put.
+    // Frames come that may wait within this room. While some wait already, the greater room counts.
     pub(crate) fn widen(&mut self, room: FrameRoom)
         ensures { self.new ≡ record self.old { room = wider self.old.bytes self.old.room room } }
     {
@@ -272,8 +272,9 @@ impl Pending {
         self.keep(kind, bytes)
     }
 
-    // Holds no memory where nothing waits, and none of which less than half is needed where that is
-    // more than a connection may have by itself: then less is lent too.
+    // Gives memory back that isn't needed any more: all of it where nothing waits. Where more has waited
+    // than a connection may have by itself, what is left moves to less memory once it is less than half
+    // of that.
     fn shrink(&mut self)
         ensures bytes { self.new.bytes ≡ self.old.bytes }
         ensures alike { IsAlike self.old self.new }

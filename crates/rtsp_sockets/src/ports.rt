@@ -81,9 +81,9 @@ impl PortTable {
         sockets_of(rt, &self.single, admission, port)
     }
 
-    // Whether the pair is now bound under the admission, on this address of the host. The sockets
-    // are opened, and closed, while no one waits. Two that share a port can't both be: the system
-    // refuses the second its socket.
+    // Binds a pair under the admission, on this address of the host. Whether it is bound now. The
+    // sockets are opened and closed outside of the table's lock, so nobody waits for that. A pair and a
+    // single port that overlap can't both be bound: the system refuses the second its socket.
     pub(crate) fn bind_pair<R: Net + Wait>(
         &self,
         rt: &R,
@@ -158,8 +158,8 @@ fn take<R: Wait, const PORTS: usize>(
     slots.lock(rt).take(admission, port)
 }
 
-// A socket of this port, on an address of the host, from which packets leave then. Reports of
-// players come to it, and are never read.
+// A socket of this port on this address of the host, from which its packets leave. The reports that
+// players send to it are never read.
 fn open_socket<R: Net>(rt: &R, host: Ipv4Addr, port: u16) -> Option<UdpSocket> {
     let socket = UdpSocket::bind(rt, SocketAddrV4::new(host, port)).ok()?;
     socket.set_nonblocking(true).ok()?;

@@ -8,7 +8,7 @@ use crate::ports::PortSockets;
 use std::alloc::{AllocError, Global};
 use std::sync::Arc;
 
-// What is bound of a range of ports, of addresses of so many ports each.
+// What is bound in a range of ports that is divided into addresses of `PORTS` ports each.
 #[derive(Drop)]
 pub(crate) struct Slots<const PORTS: usize> {
     first_port: u16,
@@ -16,7 +16,7 @@ pub(crate) struct Slots<const PORTS: usize> {
     slots: Vec<Option<Bound<PORTS>>>,
 }
 
-// The place of an address, by its first port and that of all.
+// The place of an address of so many ports, by its first port and the first of the range.
 fn place_of(first: u16, ports: usize, port: u16) -> usize
     requires { 0 < ports }
     ensures { result ≡ place_of first ports port }

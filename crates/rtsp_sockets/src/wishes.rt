@@ -7,7 +7,7 @@ ghost use Rattle.rtsp_sockets.specs.Wishes.{PutsWish, TakesWish, HasNoWish};
 use std::alloc::{AllocError, Global};
 use std::collections::VecDeque;
 
-// A chunk of a file, which is named by its place.
+// A chunk of a file, which is named by its index among the media's files.
 #[derive(Clone, Copy, PartialEq, Eq, Drop)]
 pub(crate) struct Wish {
     pub(crate) file: usize,

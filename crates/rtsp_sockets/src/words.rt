@@ -69,7 +69,7 @@ impl<S: Read> SourceWords<S> {
     ghost use Rattle.std.specs.Io.KnownBytes.{Consumes};
     ghost use Rattle.rtsp_sockets.specs.SourceWords.{unread, Draws, Loses};
 
-    // Reads new bytes in place of those that were given. What was left of those is left out.
+    // Reads new bytes into the pool. Those of it that weren't given yet are never given.
     fn refill(&mut self) -> Result<(), WordsFault>
         ensures ok { OnOk result ((self.new.used ≡ 0) × (self.new.failed ≡ self.old.failed)) }
         ensures read { OnOk result (Consumes (S.remaining self.old.source) (S.remaining self.new.source) self.new.pool) }

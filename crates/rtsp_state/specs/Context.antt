@@ -33,7 +33,7 @@ context_value s = record { start = s.start; peer = s.peer; moment = s.moment; ta
 abbrev pub Living : Type 0
 Living = ℕ × Session
 
--- the session's streams, by the numbers of their admissions
+-- the session's streams, in the order of their admissions' numbers
 abbrev pub streams_of : Session → List Stream
 streams_of f = filter_map (λ e. e.1.stream) (entries f.admissions)
 

@@ -48,7 +48,7 @@ parameter_line timing at Duration = text_of words.DurationIs ++ time_text timing
 abbrev pub parameters_body : Timing → ℕ → List Parameter → List ℕ
 parameters_body timing at names = flat_map (parameter_line timing at) names
 
--- a session that there has to be for its position
+-- whether a parameter needs a living session: the position does
 abbrev pub is_position : Parameter → Bool
 is_position Position = true
 is_position Duration = false

@@ -221,7 +221,7 @@ id_in (Some v) drawn = v.1.id
 abbrev pub left_of : Living → Step → List (List ℕ)
 left_of v step = if ends v step then [] else shown (Some v)
 
--- a session stands in a response exactly where it lives or was opened
+-- once a session is looked up, it stands in a response exactly where it then lives or was opened
 pub record ShowsSession : Type 0 where
   -- before a session is looked up none is shown
   pub screened : (table : TableValue) (request : Request) (given : Response) → screen table request ≡ Answered given → sessions_in given ≡ []

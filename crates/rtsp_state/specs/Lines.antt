@@ -75,7 +75,7 @@ granted_text (Some granted) = transport_text granted
 abbrev pub transport_line : Thing → Stream → HeaderText
 transport_line address stream = record { name = name_of_field fields.Transport; value = granted_text (granted_of address stream) }
 
--- the URI of the request with a slash at its end
+-- the base of the URIs of tracks: the URI of the request without query and fragment, with a slash at its end
 abbrev pub base_line : List ℕ → HeaderText
 base_line base = record { name = name_of_field fields.ContentBase; value = base }
 

@@ -28,12 +28,12 @@ renewal table request view moment =
 unfoldable pub renewal_refused : ParsedValue → Living → Refusal → Response
 renewal_refused request view refusal = refusal_response (start_of request.cseq (Some view)) refusal
 
--- the end of a session that ended then, after its renewal
+-- the end of a session after its renewal, from the end that it had
 abbrev pub end_after : ℕ → Option ℕ → ℕ
 end_after expires None = expires
 end_after expires (Some until) = until
 
--- a session that a request renews by what is served, at some moment
+-- a session and a request that may renew it, at some moment: by any method but TEARDOWN
 pub record Renewing : Type 0 where
   pub table : TableValue
   pub request : ParsedValue

@@ -18,7 +18,7 @@ use Rattle.rtsp_state.specs.declared.status.Status.TheVariants.{BadRequest}
 use Rattle.rtsp_state.specs.declared.fault.Fault.{Fault}
 use Rattle.rtsp_state.specs.declared.fault.Fault.TheVariants.{Refused, OutOfMemory}
 
--- the value of a header that may stand once
+-- the value of a header that may stand once at most
 abbrev pub single_of : List (List ℕ) → Result (Option (List ℕ)) Fault
 single_of values = if nat_lt 1 (length values) then Err (Refused BadRequest) else Ok (slice_get values 0)
 

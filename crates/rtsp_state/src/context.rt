@@ -24,7 +24,7 @@ pub struct Context<'a> {
     pub body: &'a [u8],
 }
 
-/// The session's streams, by the numbers of their admissions.
+/// The session's streams, in the order of their admissions' numbers.
 pub fn streams_of(alloc: Global, view: &SessionView) -> Result<Vec<Stream>, AllocError>
     ensures { IfOk result (λ v. v.items ≡ streams_of view.now.1) }
 {

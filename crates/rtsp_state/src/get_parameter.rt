@@ -18,7 +18,7 @@ use rtsp_grammar::Text;
 use rtsp_npt::UnitLength;
 use std::alloc::Global;
 
-// The point of the session, where there is one.
+// The point of the session; 0 where none lives.
 fn point_of(context: &Context<'_>, view: Option<&SessionView>, unit_ms: UnitLength) -> u32
     ensures { result ≡ point_of (context_value context.now) (option_map (λ v. v.now) view.entry) unit_ms }
 {
@@ -70,8 +70,8 @@ fn get_parameter_body(
     }
 }
 
-/// GET_PARAMETER without a body renews its session; with one it asks for the position of a session
-/// and the duration of a presentation.
+/// GET_PARAMETER without a body asks for nothing, so all that it does is to renew its session. With
+/// one it asks for the position of a session and the duration of a presentation.
 pub fn get_parameter(
     alloc: Global,
     context: &Context<'_>,

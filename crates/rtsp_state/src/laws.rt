@@ -8,9 +8,10 @@ pub fn law_reads_once()
     ensures { ReadsOnce }
 {}
 
-/// A renewal moves the end of its session by the configuration's step at least. After a request
-/// that renews, the session ends later than the timeout from then, less the step. With the step 1
-/// its end is the later of the one that it had and the timeout from then.
+/// A renewal moves the end of its session by the configuration's `renewal_step` at least. After each
+/// request but TEARDOWN whose renewal isn't refused, the session ends later than the timeout from
+/// then, less that step. With the step 1 the session's end is then the later of the one that it had
+/// and the timeout from then.
 pub fn law_renews_in_steps()
     ensures { RenewsInSteps }
 {}
@@ -35,7 +36,8 @@ pub fn law_answers_in_order()
     ensures { AnswersInOrder }
 {}
 
-/// A response has a Session header exactly if the session is alive or was opened by it.
+/// Before a session is looked up no response has a Session header. From then on one has it exactly
+/// if the session is alive after the request, or was opened by it.
 pub fn law_shows_session()
     ensures { ShowsSession }
 {}

@@ -15,7 +15,7 @@ pub struct MediaBase {
     bare: Text,
 }
 
-// Written out, so that whoever lets go of one makes one call.
+// Written out, so that whoever drops a `MediaBase` makes one call.
 impl Drop for MediaBase {
     #[inline(always)]
     fn drop(self) {

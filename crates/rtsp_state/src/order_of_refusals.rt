@@ -54,7 +54,7 @@ fn version_rule(version: &Version) -> Result<(), Fault>
     }
 }
 
-// Refuses option tags where there are some.
+// Refuses these unknown option tags, where there are some.
 fn unless_unknown(alloc: Global, tags: &[&[u8]]) -> Result<(), Fault>
     ensures { Gives result (unless_unknown (texts tags.now)) }
 {
@@ -89,7 +89,7 @@ fn takes_star(method: Method) -> bool
     matches!(method, Method::GetParameter | Method::SetParameter)
 }
 
-// What the path of a plain URI names. Only what is found is copied.
+// What the path of a plain URI names. The URI is copied only where it names something.
 fn plain_media(alloc: Global, table: &Table, text: &[u8], path: &[u8]) -> Result<Target, Fault>
     ensures { Gives result (target_at (with_slash text.now) (find_of table.now path.now)) }
 {
@@ -189,7 +189,7 @@ fn name_of(method: Method, headers: &Headers) -> Result<Option<Name>, Fault>
     }
 }
 
-/// The second place to the sixth.
+/// The second place to the sixth: from the version to the form of the session's name.
 #[tactic(auto, unfolding(crate::specs::OrderOfRefusals::asked_of))]
 pub fn asked_of(alloc: Global, table: &Table, request: &Request) -> Result<Asked, Fault>
     ensures { Gives result (asked_of table.now request.now) }

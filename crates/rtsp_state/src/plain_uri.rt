@@ -86,7 +86,8 @@ fn after_port(text: &[u8]) -> Option<&[u8]>
     if is_port(digits) { Some(path) } else { None }
 }
 
-/// The path of a plain URI. None promises nothing: the text may be another URI. It takes no memory.
+/// The path of a plain URI. `None` says nothing of the text, which may be a URI of another form. It
+/// takes no memory.
 pub fn plain_path(text: &[u8]) -> Option<&[u8]>
     ensures { IfSome result (λ path. IsPlainUri text.now path.now) }
 {

@@ -24,10 +24,11 @@ fn later_by(step: u32, expires: u64, until: u64) -> Option<u64>
     }
 }
 
-/// The moment to which a request renews the living session that it names, before it is decided: by
-/// the timeout of the configuration, for every method but TEARDOWN, where that moves the session's
-/// end by the configuration's step at least. Milliseconds. Where that step of the book (`Touch`) is
-/// refused, the request ends with `renewal_refused`.
+/// The moment, in milliseconds, to which a request renews the living session that it names, before
+/// the request is decided: the one at which the configuration's timeout ends, counted from now.
+/// There is none for TEARDOWN, nor where the session's end would move by less than the
+/// configuration's `renewal_step`. Where the book refuses the renewal (`Step::Touch`), the request
+/// ends with `renewal_refused`.
 #[tactic(auto, unfolding(crate::specs::Renewal::renewal))]
 pub fn renewal(
     request: &ParsedRequest<'_>,

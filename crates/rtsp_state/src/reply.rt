@@ -45,7 +45,7 @@ pub struct Reply {
     kind: Kind,
 }
 
-// Written out, so that whoever lets go of one makes one call.
+// Written out, so that whoever drops a `Reply` makes one call.
 impl Drop for Reply {
     #[inline(always)]
     fn drop(self) {

@@ -11,7 +11,8 @@ use crate::plan::Plan;
 use crate::reply::Reply;
 use crate::status::Status;
 
-/// SET_PARAMETER without a body renews its session; no parameter can be set.
+/// SET_PARAMETER without a body sets nothing, so all that it does is to renew its session. No
+/// parameter can be set.
 pub fn set_parameter(context: &Context<'_>) -> Result<Plan, Fault>
     ensures value { result ≡ set_parameter (context_value context.now) }
     ensures conducted { IfOk result IsConducted }

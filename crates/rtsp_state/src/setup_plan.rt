@@ -51,8 +51,8 @@ pub enum Delivery {
     Udp { rtp_port: u16, rtcp_port: u16 },
     /// By UDP, RTP and RTCP both to this one port (RFC 5761).
     Mux { port: u16 },
-    /// Over the connection, on the even channel that the player wishes and the next, where it named
-    /// one.
+    /// Over the connection, on an even channel and the next: those that the player wishes, where it
+    /// named some and they are free.
     Interleaved { wish: Option<ChannelPair> },
 }
 
@@ -74,8 +74,9 @@ pub struct SetupPlan {
     pub timing: Timing,
 }
 
-/// What is drawn for an admission: the connection's number, the session's key where one is opened
-/// (a living session keeps its own), the admission's number, and the words of the stream.
+/// What an admission has beside its plan: the connection's number, and what is drawn for it. That is
+/// the session's key where one is opened (a living session keeps its own), the admission's number,
+/// and the words of the stream.
 #[derive(Clone, Copy)]
 pub struct Drawn {
     pub conn: u64,
@@ -225,7 +226,7 @@ impl SetupPlan {
         }
     }
 
-    /// Writes the response that refuses by a status, where nothing was drawn or asked for. It takes
+    /// Writes the response that refuses by a status, where it didn't come to an admission. It takes
     /// no memory and can't fail.
     pub fn refuse(&self, room: &mut Room, status: Status)
         requires { setup_room ≤ room.old.spare }

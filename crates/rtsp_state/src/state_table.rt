@@ -43,7 +43,7 @@ fn session_found(
 }
 
 // The row of a method. The rows that plan a step or an admission stand apart, so that a request that
-// is answered at once doesn't pay for their room.
+// is answered at once doesn't pay for their room on the stack.
 fn row(
     alloc: Global,
     context: &Context<'_>,

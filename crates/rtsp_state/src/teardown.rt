@@ -70,8 +70,9 @@ fn teardown_track(
     }))
 }
 
-/// TEARDOWN of a session's presentation ends the session, of its only track too. It is refused
-/// where no living session is named.
+/// TEARDOWN of a session's presentation, or of its only track, ends the session; that of one of
+/// several tracks takes that track down, where the session is Ready. It is refused where no living
+/// session is named.
 #[inline(never)]
 pub fn teardown(
     alloc: Global,

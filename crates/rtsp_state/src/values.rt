@@ -19,7 +19,7 @@ use rtsp_transport::{
 use std::alloc::{AllocError, Global};
 use std::borrow::CowSlice;
 
-/// The value of a header that may be given once.
+/// The value of a header that may be given once at most; more of them are refused as 400.
 pub fn single_value<'a>(headers: &'a Headers, name: &[u8]) -> Result<Option<&'a [u8]>, Fault>
     ensures { IsBy (option_map (λ v. v.now)) result (single_value name.now headers.now) }
 {

@@ -2,7 +2,7 @@
 use Rattle.std.specs.Prelude.{◌≡◌, ◌≢◌, ◌⊎◌, ℕ, List, [], codes}
 use Rattle.http_server.specs.declared.response.Response.{Response}
 use Rattle.rtsp_status.specs.declared.service.Asked.{Asked}
-use Rattle.rtsp_status.specs.declared.service.Asked.TheVariants.{Metrics, Page, Nothing, Forbidden}
+use Rattle.rtsp_status.specs.declared.service.Asked.TheVariants.{Metrics, Page, Nothing, NotAllowed}
 use Rattle.rtsp_status.specs.declared.shown.Shown.{Shown}
 
 -- a method that only looks
@@ -14,21 +14,21 @@ abbrev pub Asks : List ℕ → List ℕ → Asked → Type 0
 Asks method path Metrics = IsLook method × (path ≡ codes "/metrics")
 Asks method path Page = IsLook method × (path ≡ codes "/")
 Asks method path Nothing = IsLook method × (path ≢ codes "/metrics") × (path ≢ codes "/")
-Asks method path Forbidden = ¬ IsLook method
+Asks method path NotAllowed = ¬ IsLook method
 
 -- the status of each answer
 abbrev pub code : Asked → ℕ
 code Metrics = 200
 code Page = 200
 code Nothing = 404
-code Forbidden = 405
+code NotAllowed = 405
 
 -- what each answer has of what is shown
 abbrev pub body : Shown → Asked → List ℕ
 body shown Metrics = shown.metrics.items
 body shown Page = shown.page.items
 body shown Nothing = []
-body shown Forbidden = []
+body shown NotAllowed = []
 
 -- The answer to a request of this method for this path, where this is shown.
 pub record Answers (shown : Shown) (method path : List ℕ) (r : Response) : Type 0 where

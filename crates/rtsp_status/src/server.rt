@@ -26,7 +26,7 @@ const LISTENER: Token = Token(usize::MAX);
 // How often the server looks whether it is to end, and whether a connection has lasted too long.
 const LOOK: u64 = 250;
 
-/// Who tells what the server has now.
+/// Whoever tells what there is to show.
 pub trait Source {
     fn snapshot(&mut self) -> Snapshot;
 }
@@ -120,7 +120,7 @@ impl StatusServer {
         found
     }
 
-    // Closes a connection, with which the system tells of it no more.
+    // Closes a connection. Of a closed one the system tells no more.
     fn end(&mut self, key: usize) {
         drop(self.peers.try_remove(key));
     }

@@ -24,7 +24,7 @@ pub(crate) enum Asked {
     Metrics,
     Page,
     Nothing,
-    Forbidden,
+    NotAllowed,
 }
 
 fn is_look(method: &str) -> bool
@@ -37,7 +37,7 @@ fn asked_by(method: &str, path: &str) -> Asked
     ensures { Asks method.now path.now result }
 {
     if !is_look(method) {
-        return Asked::Forbidden;
+        return Asked::NotAllowed;
     }
     match path {
         "/metrics" => Asked::Metrics,
@@ -46,7 +46,7 @@ fn asked_by(method: &str, path: &str) -> Asked
     }
 }
 
-// The headers of a text that isn't to be kept.
+// Adds the headers of a text of this kind, which no cache is to keep.
 fn describe(response: &mut Response, kind: HeaderValue) -> Result<(), AllocError>
     ensures status { response.new.status ≡ response.old.status }
     ensures body { response.new.body ≡ response.old.body }
@@ -60,7 +60,7 @@ fn describe(response: &mut Response, kind: HeaderValue) -> Result<(), AllocError
     response.add_header(name, value)
 }
 
-// One request a connection.
+// Says that the connection ends behind this response: each has one request.
 fn say_close(response: &mut Response) -> Result<(), AllocError>
     ensures status { response.new.status ≡ response.old.status }
     ensures body { response.new.body ≡ response.old.body }
@@ -89,7 +89,7 @@ fn write_page(response: &mut Response, shown: &Shown) -> Result<(), AllocError>
     response.body.put_slice(&shown.page)
 }
 
-fn write_forbidden(response: &mut Response) -> Result<(), AllocError>
+fn write_not_allowed(response: &mut Response) -> Result<(), AllocError>
     ensures status { OnOk result (response.new.status ≡ 405) }
     ensures body { response.new.body ≡ response.old.body }
 {
@@ -113,7 +113,7 @@ fn fill(response: &mut Response, asked: Asked, shown: &Shown) -> Result<(), Allo
             response.status = StatusCode::NOT_FOUND;
             Ok(())
         }
-        Asked::Forbidden => write_forbidden(response),
+        Asked::NotAllowed => write_not_allowed(response),
     }
 }
 

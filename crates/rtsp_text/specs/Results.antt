@@ -7,7 +7,7 @@ abbrev pub ◌>>=◌ : {A B E : Type 0} → Result A E → (A → Result B E) �
 (Ok x) >>= f = f x
 (Err e) >>= f = Err e
 
--- a function returned what reading gives, unless memory ran out, which is this error
+-- a function returned what reading gives, or the given error: memory ran out
 abbrev pub Gives : {X E : Type 0} → E → Result X E → Result X E → Type 0
 Gives out_of_memory (Ok x) read = read ≡ Ok x
 Gives out_of_memory (Err e) read = (e ≡ out_of_memory) ⊎ (read ≡ Err e)

@@ -4,19 +4,19 @@ use Rattle.std.specs.List.{flat_map}
 use Rattle.std.specs.Option.{option_map}
 use Rattle.std.specs.Borrow.{Bor}
 
--- of a slice that may be missing
+-- the text of a slice that may be missing
 abbrev pub held : Option (Bor (List ℕ)) → Option (List ℕ)
 held slice = option_map (λ (s : Bor (List ℕ)). s.now) slice
 
--- of the two halves of a split
+-- the texts of the two halves of a split
 abbrev pub halves : Option (Bor (List ℕ) × Bor (List ℕ)) → Option (List ℕ × List ℕ)
 halves None = None
 halves (Some p) = Some (p.0.now, p.1.now)
 
--- of several slices
+-- the texts of several slices
 abbrev pub texts : List (Bor (List ℕ)) → List (List ℕ)
 texts slices = map (λ s. s.now) slices
 
--- of several slices, one after another
+-- the texts of several slices, joined to one
 abbrev pub joined : List (Bor (List ℕ)) → List ℕ
 joined slices = flat_map (λ s. s.now) slices

@@ -17,11 +17,11 @@ pub record IsPadded (text core : List ℕ) : Type 0 where
   pub behind_blank : list_all is_blank behind ≡ true
   pub ends : HasPlainEnds core
 
--- the text without those in front
+-- the text without the spaces and tabs at its front
 abbrev pub trim_start : List ℕ → List ℕ
 trim_start bytes = drop (prefix_len is_blank bytes) bytes
 
--- the text without those behind
+-- the text without the spaces and tabs at its end
 abbrev pub trim_end : List ℕ → List ℕ
 trim_end bytes = take (length bytes - suffix_len is_blank bytes) bytes
 

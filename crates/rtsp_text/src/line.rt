@@ -21,7 +21,7 @@ pub enum Line<'a> {
     Open { line: &'a [u8] },
 }
 
-// How many bytes there are before the first CR or LF. Apart, so that one number is handed on.
+// How many bytes there are before the first CR or LF. Never inlined, so that it hands back one number.
 #[inline(never)]
 fn plain_len(bytes: &[u8]) -> usize
     ensures { IsSpan is_line_byte bytes.now result }

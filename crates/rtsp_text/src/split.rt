@@ -7,7 +7,7 @@ ghost use Rattle.rtsp_text.specs.Slices.{halves};
 
 use memchr::memchr;
 
-// Where the first such byte is. Apart, so that one number is handed on, and not two texts.
+// Where the first such byte is. Never inlined, so that it hands back one number, and not two texts.
 #[inline(never)]
 fn place_of(text: &[u8], byte: u8) -> Option<usize>
     ensures { IsFirstByte (is_byte byte) text.now result }
@@ -15,7 +15,7 @@ fn place_of(text: &[u8], byte: u8) -> Option<usize>
     memchr(byte, text)
 }
 
-/// The text before the first such byte, and the text after it. None where no such byte is.
+/// The text before the first `byte`, and the text after it. None where there is no such byte.
 #[inline]
 pub fn split_once(text: &[u8], byte: u8) -> Option<(&[u8], &[u8])>
     ensures { halves result ≡ split_once byte text.now }

@@ -16,7 +16,7 @@ pub struct Text {
     bytes: Bytes,
 }
 
-// Written out, so that whoever lets go of a text makes one call.
+// Written out, so that dropping a text is one call.
 impl Drop for Text {
     fn drop(self) {
         let Self { bytes: _bytes } = self;

@@ -124,8 +124,8 @@ impl Acceptor {
         turned_away
     }
 
-    // What comes of a fault. Where a descriptor was at hand and none waits, the system tells of the
-    // next one; after any other fault it is tried again.
+    // What comes of a fault. Where no connection waits, the system tells of the next one; after any
+    // other fault a connection is accepted again after `ACCEPT_RETRY`.
     fn failed(&mut self, fault: &io::Error, now: u64) -> Accepted {
         if has_gone(fault) {
             return Accepted::Gone;

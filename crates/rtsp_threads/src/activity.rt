@@ -37,8 +37,8 @@ impl Activity {
     }
 
     /// Whether up to this moment the player was silent for too long, or owed the rest of a message for
-    /// too long. Where it has asked for a track to be set up, a session may live that long without a
-    /// request.
+    /// too long. Where it has asked for a track to be set up, it may be silent for `timeout`, for which
+    /// a session lives without a request.
     pub fn is_overdue(&self, moment: u64, timeout: u64) -> bool {
         let most = if self.has_setup {
             SILENCE_LIMIT.max(timeout)

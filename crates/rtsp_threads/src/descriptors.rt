@@ -19,8 +19,8 @@ pub fn descriptor_limit() -> Option<u64> {
     }
 }
 
-/// How many connections have descriptors, of so many in all, where so many are open or kept for
-/// others, and two for each of so many pairs of ports are kept.
+/// How many connections there are descriptors for, of `limit` in all. `kept` of these are open already
+/// or kept for something else, and two are kept for each pair of ports.
 pub fn connections_for(limit: u64, kept: u64, pairs: u16) -> u64
     ensures { result ≡ min (limit - kept - 2 * pairs) CONNECTIONS }
 {

@@ -28,7 +28,7 @@ fn channel_of(bytes: &[u8]) -> Option<u8> {
 }
 
 impl<I> HearingReader<I> {
-    /// Hears what the other one reads. Whether nothing of an item was read before.
+    /// Hears what `inner` reads. `is_between_items` says that nothing of an item was read before.
     pub fn new(inner: I, is_between_items: bool) -> HearingReader<I> {
         HearingReader {
             inner,

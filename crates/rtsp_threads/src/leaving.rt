@@ -65,7 +65,7 @@ pub fn take_leave<R: Wait, B: Binder>(
 }
 
 /// Ends the session of the least number of those that have expired at this moment, in milliseconds, and
-/// gives its number. The binder unbinds what it had. There is none where none has expired.
+/// gives its number. The binder unbinds what it had. `None` where none has expired.
 pub fn end_next_expired<R: Wait, B: Binder>(
     rt: &R,
     handle: &mut BookHandle,
@@ -94,8 +94,8 @@ pub fn end_expired<R: Wait, B: Binder>(
     ended
 }
 
-/// Ends the sessions that are left, once no thread serves them any more, and gives the book up. There
-/// is none where another thread has a handle still, or the numbers are used up.
+/// Ends the sessions that are left, once no thread serves them any more, and gives the book up. `None`
+/// where another thread has a handle still, or the numbers are used up.
 pub fn close_book<R: Wait, B: Binder>(
     rt: &R,
     mut handle: BookHandle,

@@ -1,10 +1,11 @@
 //! What the threads of a server go by, beside the sockets of their players.
 //!
-//! `limits` has the numbers, `descriptors` what the system allows. `acceptor` is where connections come from, `gate` says which are let in,
-//! `activity` when one was heard of, `hearing_reader` what it begins with. `pool` runs a thread for each
-//! lane, whatever a lane does, and `holdings` is what their book is opened over. `lane_shares` is what
-//! an address may have of the sessions, `relieving` keeps the journal from filling, `leaving` ends
-//! sessions. `signals` and `stop_bell` are how threads are asked to end.
+//! `limits` has the numbers, `descriptors` what the system allows. `acceptor` is where connections come
+//! from, `gate` says which are let in, `activity` when one was heard of, `hearing_reader` with which
+//! frame its input begins. `pool` runs a thread for each lane, whatever a lane does, and `holdings` is
+//! what their book is opened over. `lane_shares` is what an address may have of the sessions, `relieving`
+//! keeps the journal from filling, `leaving` ends sessions. `scribe` writes the journal to files, and
+//! `scribe_bell` wakes it. `signals` and `stop_bell` are how threads are asked to end.
 
 #![tactic(auto)]
 

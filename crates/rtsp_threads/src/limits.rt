@@ -30,8 +30,8 @@ pub const SILENCE_LIMIT: u64 = 60_000;
 /// A connection that has begun a message and not finished it for so long is closed.
 pub const MESSAGE_LIMIT: u64 = 30_000;
 
-/// How often a lane waits for the others before a piece, where the journal stays more than half full
-/// by sessions that they are setting tracks up in: for a millisecond, then twice as long each time.
+/// How often a lane waits for the others before it has a piece answered, where sessions in which they
+/// set tracks up keep the journal more than half full: for a millisecond, then twice as long each time.
 pub const WAITS: u32 = 7;
 
 /// A request that opens a session and sets a track up makes five entries at most and is owed five. Where
@@ -48,8 +48,7 @@ pub const SWEEP_EVERY: u64 = 1_000;
 /// The most sessions that a sweep ends before others get the lock.
 pub const SWEEP_SESSIONS: u32 = 64;
 
-/// So many milliseconds at most it is waited for all lanes to begin, before it is told that the server
-/// listens.
+/// The longest that a server waits for all its lanes to begin, before it tells that it listens.
 pub const STANDING_LIMIT: u64 = 1_000;
 
 /// The time between two looks at the signals that ask for an end.
@@ -70,7 +69,7 @@ pub const FEW_LINES: usize = 128;
 /// may hold it up.
 pub const HELD_AFTER: u64 = 100;
 
-/// After so many milliseconds at one turn it is told of.
+/// The log tells that the journal's writing is held up once one turn of that thread has taken so long.
 pub const HELD_TOLD_AFTER: u64 = 2_000;
 
 /// A file of the journal that has so many entries is followed by a new one. An audit reads a million,

@@ -1,4 +1,4 @@
-//! One thread a lane.
+//! A thread for each lane.
 
 ghost use Rattle.std.specs.Arc.{arc_value};
 ghost use Rattle.rtsp_lock.specs.Calls.{IsSeatOf, SameSeat};

@@ -27,13 +27,13 @@ pub fn make_room<R: Wait + rt::Clock>(rt: &R, table: &Table, lane: &mut BookHand
     }
 }
 
-// Whether a checkpoint would pay, with more entries than half of those that there is room for.
+// Whether the journal is more than half full, and a checkpoint would pay.
 fn is_crowded(tally: Tally, half: usize) -> bool {
-    let settled = tally
+    let twice_owed = tally
         .owed
         .saturating_mul(2)
         .saturating_add(CHECKPOINT_SLACK);
-    half < tally.entries && settled < tally.entries
+    half < tally.entries && twice_owed < tally.entries
 }
 
 /// Whether less than a quarter of the journal's room is left.
@@ -41,9 +41,10 @@ pub(crate) fn is_nearly_full(tally: Tally) -> bool {
     tally.room < tally.entries.saturating_add(tally.owed) / 3
 }
 
-/// The same where the journal is written to files, so that only the thread that writes it shortens
-/// it: that one is asked to. Where it can't write, or is held up by its disk, there is nothing to wait
-/// for; where entries may be lost then, the journal is shortened once it is nearly full.
+/// Does what `make_room` does where the journal is written to files, so that only the thread that
+/// writes it shortens it: that thread is asked to. Where it can't write, or is held up by its disk,
+/// there is nothing to wait for; where entries may be lost then, the journal is shortened here once it
+/// is nearly full.
 pub fn ask_for_room<R: Wait + rt::Clock>(
     rt: &R,
     table: &Table,

@@ -24,7 +24,7 @@ const SIGINT: u64 = 1 << 1;
 
 const SIGTERM: u64 = 1 << 14;
 
-/// What the signals ask for that have come.
+/// What is asked for by the signals that have come.
 #[derive(Clone, Copy, PartialEq, Eq)]
 pub enum StopAsked {
     /// None has come.

@@ -23,8 +23,9 @@ module _ {W : Type 0} (calls : WordCalls W) where
     pub call : calls.fails b c
     pub count : calls.failures c ≡ raised (calls.failures b)
 
--- those who learn of plays before and after a play is noted, by its session and by the number and the URI of its PLAY; one that finds no memory; and
--- what came of it: the phase that it began, or none where it was refused
+-- who learns of plays, before and after each call: a play is noted, by its session and by the CSeq and the
+-- URI of its PLAY; there is no memory to note it; and it is settled, by the phase that it began, or by none
+-- where it was refused
 pub record PlayCalls (P : Type 0) : Type 1 where
   pub notes : P → ℕ → ℕ → List ℕ → P → Type 0
   pub lacks : P → P → Type 0
@@ -46,8 +47,9 @@ module _ {P : Type 0} (calls : PlayCalls P) where
   Settled None begun b c = c ≡ b
   Settled (Some session) begun b c = calls.settles b begun c
 
--- those who count the sessions of each address before and after a place is taken by a player at an address, and one that is refused; before
--- and after the place that was taken last is settled, with the number of the session that was opened, if one was; and how many were refused
+-- who counts the sessions of each address, before and after each call: a place is taken for a player at an
+-- address; it is refused; and the place that was taken last is settled, by the number of the session that was
+-- opened, if one was. And how many places were refused
 pub record ShareCalls (S : Type 0) : Type 1 where
   pub takes : S → ℕ → S → Type 0
   pub refuses : S → ℕ → S → Type 0

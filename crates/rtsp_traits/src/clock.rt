@@ -4,7 +4,7 @@ ghost use Rattle.std.specs.Prelude.{ℕ};
 
 /// A clock that tells moments.
 pub trait Clock {
-    /// Which moment it tells, and what it then is.
+    /// A clock before a call, the moment that it tells, and the clock after.
     ghost tells: { Self → ℕ → Self → Type 0 };
 
     /// The present moment, in milliseconds.

@@ -1,8 +1,9 @@
 //! What a server is lent from outside, as traits: a clock, a source of words, who learns of plays, and
-//! who counts the sessions of each player; `no_shares` is such a one that refuses nobody, and
-//! `port_set` a binder that opens no socket.
+//! who counts the sessions of each player. Two need nothing from outside: `no_shares`, by which
+//! nobody is refused a session, and `port_set`, a binder that opens no socket.
 //!
-//! They stand below the engine that uses them, so that whoever implements them needn't stand on it.
+//! The traits stand below the engine that uses them, so that whoever implements them needn't stand
+//! on the engine.
 //! The definitions of `specs/`: Devices (what each call does), NoShares, PortSet (which ports are
 //! bound), Has (what of that an admission changes).
 

@@ -2,7 +2,7 @@
 
 use crate::shares::{ShareSpent, Shares};
 
-/// No address has a share: each has as many sessions as there are.
+/// No address has a share: each may have as many sessions as there are places for.
 #[derive(Drop)]
 pub struct NoShares;
 

@@ -11,7 +11,7 @@ pub trait Plays {
     /// What each call does.
     ghost calls: { PlayCalls Self };
 
-    /// A play is to be begun: that of this session, for the PLAY of this number and URI. All memory
+    /// A play is to be begun: that of this session, for the PLAY of this CSeq and URI. All memory
     /// that is needed for it is taken here. Where there is none, nothing is noted, and the play is
     /// not begun.
     fn note(&mut self, alloc: Global, session: u64, cseq: u32, uri: &[u8]) -> Result<(), AllocError>

@@ -7,8 +7,8 @@ use rtsp_admit::{BindFault, Binder};
 use std::alloc::{AllocError, Global};
 
 /// The ports that are bound, pairs and single ones, each with its admission. No socket is opened.
-/// It has the ports from its first one on, in pairs: what begins below that, or with the second port
-/// of a pair, is no address of it, and a bind of that is a fault.
+/// It has the ports of some pairs, from its first port on. A pair has to begin with the first port
+/// of one of these, and a single port may be either port of one; a bind of any other is a fault.
 #[derive(Drop)]
 pub struct PortSet {
     first_port: u16,
@@ -19,7 +19,7 @@ pub struct PortSet {
     failed: u64,
 }
 
-// A pair begins at the first port of all, or some pairs above it.
+// Whether a pair begins at the first port of all, or some pairs above it.
 fn is_own_pair(first: u16, pair: u16) -> bool
     ensures { IsTrue result ↔ IsOwnPair first pair }
 {
@@ -46,7 +46,7 @@ fn port_place(first: u16, port: u16) -> usize
     port.saturating_sub(first) as usize
 }
 
-// The place is there, and free.
+// Whether the place is there, and free.
 fn is_open(admissions: &[Option<u64>], place: usize) -> bool
     ensures { IsTrue result ↔ (slice_get admissions.now place ≡ Some None) }
 {
@@ -68,7 +68,7 @@ impl PortSet {
         })
     }
 
-    // A pair of the set is free, and so are its two ports.
+    // Whether this is a pair of the set that is free, and so are its two ports.
     fn is_open_pair(&self, pair: u16) -> bool
         ensures { IsTrue result ↔ IsOpenPair self.now pair }
     {
@@ -79,7 +79,7 @@ impl PortSet {
             && is_open(&self.ports, first + 1)
     }
 
-    // A port of the set is free, and so is its pair.
+    // Whether this is a port of the set that is free, and so is its pair.
     fn is_open_port(&self, port: u16) -> bool
         ensures { IsTrue result ↔ IsOpenPort self.now port }
     {

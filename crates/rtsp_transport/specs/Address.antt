@@ -44,12 +44,12 @@ pub record SpellsQuoted (text : List ℕ) (place : Place) : Type 0 where
 
 -- ---- the one address or pair of a text, read from left to right
 
--- the text after this byte
+-- what follows this byte, where the text begins with it
 abbrev pub after : ℕ → List ℕ → Option (List ℕ)
 after byte [] = None
 after byte (b ∷ bytes) = if b == byte then Some bytes else None
 
--- what is in quotes, and the text after them
+-- what is in quotes at the front, and the text after them
 unfoldable pub quoted_of : List ℕ → Option (List ℕ × List ℕ)
 quoted_of text = do
   rest ← after 34 text

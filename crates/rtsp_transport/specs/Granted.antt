@@ -1,4 +1,4 @@
--- The Transport header of an answer (RFC 7826 section 18.54).
+-- The Transport header of a response (RFC 7826 section 18.54).
 use Rattle.std.specs.Prelude.{ℕ, ◌+◌, List, ◌++◌, codes, decimal}
 use Rattle.rtsp_text.specs.Hexadecimal.{hex_text}
 use Rattle.rtsp_transport.specs.declared.write.Granted.{Granted}
@@ -27,7 +27,7 @@ abbrev pub inter_text : ℕ → ℕ → List ℕ
 inter_text channel ssrc =
     codes "RTP/AVP/TCP;unicast;interleaved=" ++ decimal channel ++ codes "-" ++ decimal (channel + 1) ++ codes ";ssrc=" ++ hex_text 8 ssrc
 
--- the header of each way
+-- the header's value for each kind of transport
 abbrev pub transport_text : Granted → List ℕ
 transport_text (Udp client_rtp client_rtcp server_rtp ssrc) = udp_text client_rtp client_rtcp server_rtp ssrc
 transport_text (Mux client server ssrc) = mux_text client server ssrc

@@ -9,7 +9,7 @@ use Rattle.rtsp_transport.specs.Address.{after}
 abbrev pub peer_text : ℕ → List ℕ
 peer_text peer = decimal (peer / 0x1000000) ++ 46 ∷ (decimal (peer / 0x10000 % 256) ++ 46 ∷ (decimal (peer / 0x100 % 256) ++ 46 ∷ decimal (peer % 256)))
 
--- the text after this front
+-- what follows this front, where the text begins with it
 unfoldable pub after_text : List ℕ → List ℕ → Option (List ℕ)
 after_text front text = if starts_with nat_eq text front then Some (drop (length front) text) else None
 

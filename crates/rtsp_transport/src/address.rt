@@ -21,7 +21,7 @@ pub struct Address<'a> {
     pub port: u16,
 }
 
-// The text after this byte.
+// What follows this byte, where the text begins with it.
 fn after(text: &[u8], byte: u8) -> Option<&[u8]>
     ensures { held result ≡ after byte text.now }
 {
@@ -106,7 +106,7 @@ impl Address<'_> {
     }
 }
 
-// The text after this front.
+// What follows this front, where the text begins with it.
 #[tactic(auto, unfolding(crate::specs::Peer::after_text))]
 fn after_text<'a>(text: &'a [u8], front: &[u8]) -> Option<&'a [u8]>
     ensures { held result ≡ after_text front.now text.now }
@@ -138,7 +138,7 @@ fn after_peer(text: &[u8], peer: u32) -> Option<&[u8]>
     after_number(rest, peer % 256)
 }
 
-/// The text is the address's, as four decimal numbers with dots between them.
+/// Whether the text is that of the IPv4 address: four decimal numbers with dots between them.
 pub fn is_peer(text: &[u8], peer: u32) -> bool
     ensures { result ≡ is_peer peer text.now }
 {

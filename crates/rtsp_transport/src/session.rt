@@ -57,8 +57,9 @@ fn is_session_name(name: &[u8]) -> bool
     !name.is_empty() && name.len() <= NAME_LIMIT && are_session_bytes(name)
 }
 
-/// Reads the session's name of a Session header: 1 to 256 letters, digits and `$ - _ . +`. From
-/// a semicolon on, as a timeout, the text is ignored (RFC 7826 section 18.49).
+/// Reads a session's name, which is its identifier as a Session header has it: 1 to 256 letters,
+/// digits and `$ - _ . +`. From a semicolon on, as a timeout, the text is ignored (RFC 7826 section
+/// 18.49).
 pub fn read_session(text: &[u8]) -> Result<&[u8], TextFault>
     ensures found { IfOk result (λ name. SpellsSession text.now name.now) }
     ensures only { (name : List ℕ) → SpellsSession text.now name

@@ -59,7 +59,7 @@ pub fn read_tags(alloc: Global, text: &[u8]) -> Result<Vec<Text>, TextFault>
     tags_of(alloc, text)
 }
 
-/// The tag names something that this server can do. Tags are compared with regard to case.
+/// Whether the tag names something that this server can do. Tags are compared with regard to case.
 pub fn is_known(tag: &[u8]) -> bool
     ensures { result ≡ is_known tag.now }
 {

@@ -6,7 +6,7 @@ ghost use Rattle.rtsp_admit.specs.Binder.{raised};
 use rtsp_engine::{BindFault, Binder, ByteIn, ByteOut, StreamFault, Words, WordsFault};
 use std::alloc::Global;
 
-/// At which of its calls each device fails. None does where that is 0.
+/// At which of its calls each device fails, counted from 1. One with 0 never fails.
 #[derive(Clone, Copy)]
 pub struct Failing {
     pub read: u32,

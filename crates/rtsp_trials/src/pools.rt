@@ -1,5 +1,6 @@
 //! A pool of lanes over devices that tell what they were asked. Each lane has one connection. A
-//! `run_pool` whose workers take turns (`workers-take-turns`) is refused by one of the two orders.
+//! `run_pool` that runs one lane after another fails by one of the two orders, though it meets its
+//! contract.
 
 use crate::world::{serve, tone};
 use rtsp_content::Table;
@@ -62,7 +63,7 @@ impl<R: Clock> Binder for WaitingBinder<'_, R> {
 struct OneSetup {
     // Its pair is bound once this is true.
     until: Arc<AtomicBool>,
-    // It is told here that the SETUP was answered with 200.
+    // It is set once the SETUP was answered with 200.
     answered: Arc<AtomicBool>,
     // Its session has the id after so many.
     ids: u64,
@@ -145,8 +146,8 @@ fn flag(alloc: Global, is_set: bool) -> Option<Arc<AtomicBool>> {
     Arc::new(alloc, AtomicBool::new(is_set)).ok()
 }
 
-// Two lanes, of which one binds its pair only once the other's SETUP is answered. That is the first
-// one, or the second.
+// Two lanes, of which one binds its pair only once the other's SETUP is answered: the first where
+// `is_waiting_first` says so, else the second.
 fn lanes(
     alloc: Global,
     is_waiting_first: bool,

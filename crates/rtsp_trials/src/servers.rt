@@ -53,7 +53,7 @@ fn session_id(said: &[u8]) -> Option<&[u8]> {
     Some(id)
 }
 
-// What a player is told that sets a track up and tears it down.
+// What a player is told who sets a track up and tears it down.
 fn play<R: Net<Stream = TcpStream> + AllocGlobal>(
     rt: &R,
     address: SocketAddr,
@@ -73,7 +73,7 @@ fn play<R: Net<Stream = TcpStream> + AllocGlobal>(
     Ok(said)
 }
 
-// Nobody is told where the server listens.
+// In place of whoever is told where the server listens: the test knows it.
 #[derive(Drop)]
 struct Untold;
 

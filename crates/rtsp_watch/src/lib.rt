@@ -1,7 +1,7 @@
 //! Requests that are answered, and told of. What is told changes no byte of an answer: whoever is
-//! watched answers as he does unwatched, and `push_watched` and `push_repaired_watched` say so in the
-//! words of the engine and of the players' dialect. `push_understood` and `push_lent` have answered at
-//! a desk what its items mean to the players of the configuration.
+//! watched answers as without it, and `push_watched` and `push_repaired_watched` say so in the
+//! words of the engine and of the players' dialect. `push_understood` and `push_lent` take the input of
+//! a connection, and have each item answered at a desk as the players of the configuration mean it.
 //!
 //! The definitions of `specs/`: Watching (how items are answered by one who is watched), Understanding
 //! (items at a desk, by the players).

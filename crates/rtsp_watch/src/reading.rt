@@ -2,16 +2,16 @@
 
 ghost use Rattle.std.specs.Prelude.{◌≤◌};
 
-use memchr::memmem;
+use memchr::memchr;
 use rtsp_text::hex_number;
 
 // Where the digits of the status begin: behind `RTSP/2.0 `.
 const STATUS: usize = 9;
 
-// The line of a response that names its session, with the end of the line before.
-const SESSION: &[u8] = b"\r\nSession: ";
+// How the line of a response begins that names its session.
+const SESSION: &[u8] = b"Session: ";
 
-// What a digit counts.
+// The value of a digit; of another byte some number up to 255.
 fn value_of(digit: u8) -> u16
     ensures { result ≤ 255 }
 {
@@ -28,11 +28,17 @@ pub(crate) fn status_of(response: &[u8]) -> u16 {
     }
 }
 
-/// The first eight digits of the session that a response names.
+// What stands behind the first line of a text.
+fn behind_line(text: &[u8]) -> Option<&[u8]> {
+    let at = memchr(b'\n', text)?;
+    text.get(at + 1..)
+}
+
+/// The first eight digits of the session that a response names: in its third line, behind those of the
+/// status and of the request's number.
 pub(crate) fn session_of(response: &[u8]) -> Option<u32> {
-    let at = memmem::find(response, SESSION)?;
-    let rest = response.get(at..)?;
-    let digits = rest.get(SESSION.len()..SESSION.len() + 8)?;
+    let third = behind_line(behind_line(response)?)?;
+    let digits = third.strip_prefix(SESSION)?.get(..8)?;
     let number = hex_number(digits)?;
     u32::try_from(number).ok()
 }

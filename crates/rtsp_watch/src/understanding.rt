@@ -1,5 +1,5 @@
-//! Takes the input of a player at a desk, has answered what it means to the players of the
-//! configuration, and tells of each request.
+//! Takes the input of a player at a desk, has each item answered as the players of the configuration
+//! mean it, and tells of each request.
 
 ghost use Rattle.std.specs.Prelude.{◌≡◌, ◌++◌, IfErr, OnOk};
 ghost use Rattle.rtsp_grammar.specs.Answer.{IsUndecided};
@@ -56,10 +56,10 @@ fn push_repaired<R: Wait, B: Binder, W: Words, C: Clock, P: Plays, S: Shares, T:
     push_repaired_watched(alloc, desk, witness, connection, piece, room)
 }
 
-/// Takes a piece of a connection's input as `Connection::push` does, has answered what its items mean
-/// to the players of the configuration, and tells the witness of each request that was answered. What
-/// stays of the desk for the next piece is what its seat knows then, so each piece may have devices
-/// that are lent for it alone.
+/// Takes a piece of a connection's input as `Connection::push` does, has each item answered as the
+/// players of the configuration mean it, and tells the witness of each request that was answered. Of
+/// the desk only what its seat has seen of the book matters for the next piece, so each piece may have
+/// devices that are lent for it alone.
 pub fn push_understood<R: Wait, B: Binder, W: Words, C: Clock, P: Plays, S: Shares, T: Witness>(
     alloc: Global,
     desk: &mut Desk<'_, R, B, W, C, P, S>,

@@ -16,8 +16,8 @@ pub struct Told<'a> {
 }
 
 impl Told<'_> {
-    /// The first eight digits of the session that the response names. It is looked for in the whole
-    /// response.
+    /// The first eight digits of the session that the response names: that in which the request was
+    /// asked, or which it has opened.
     pub fn session(&self) -> Option<u32> {
         session_of(self.response)
     }

@@ -137,23 +137,35 @@ fn file_fault(error: &io::Error) -> Exit {
     }
 }
 
+// The octets of a file.
+fn read_file<R: Files + AllocGlobal>(rt: &R, path: &str) -> Result<Vec<u8>, Exit> {
+    match fs::read(rt, path) {
+        Ok(text) => Ok(text),
+        Err(error) => Err(file_fault(&error)),
+    }
+}
+
+// How the program ends where a configuration can't be read.
+fn configured<T>(read: Result<T, TableFault>) -> Result<T, Exit> {
+    match read {
+        Ok(configured) => Ok(configured),
+        Err(TableFault::OutOfMemory) => Err(Exit::OutOfMemory),
+        Err(_) => Err(Exit::BadConfiguration),
+    }
+}
+
 // The configuration of a file, or the example where none is named.
 pub(crate) fn read_table<R: Files + AllocGlobal>(
     rt: &R,
     config: Option<&str>,
 ) -> Result<Table, Exit> {
-    let read = match config {
-        Some(path) => match fs::read(rt, path) {
-            Ok(text) => Table::read_at(rt.alloc(), &text, path),
-            Err(error) => return Err(file_fault(&error)),
-        },
+    configured(match config {
+        Some(path) => {
+            let text = read_file(rt, path)?;
+            Table::read_at(rt.alloc(), &text, path)
+        }
         None => Table::read(rt.alloc(), EXAMPLE.as_bytes()),
-    };
-    match read {
-        Ok(table) => Ok(table),
-        Err(TableFault::OutOfMemory) => Err(Exit::OutOfMemory),
-        Err(_) => Err(Exit::BadConfiguration),
-    }
+    })
 }
 
 // What `serve` keeps and shows by the configuration of a file.
@@ -161,19 +173,12 @@ pub(crate) fn read_operation<R: Files + AllocGlobal>(
     rt: &R,
     config: &str,
 ) -> Result<Operation, Exit> {
-    let text = match fs::read(rt, config) {
-        Ok(text) => text,
-        Err(error) => return Err(file_fault(&error)),
-    };
-    match Operation::read_at(rt.alloc(), &text, config) {
-        Ok(operation) => Ok(operation),
-        Err(TableFault::OutOfMemory) => Err(Exit::OutOfMemory),
-        Err(_) => Err(Exit::BadConfiguration),
-    }
+    let text = read_file(rt, config)?;
+    configured(Operation::read_at(rt.alloc(), &text, config))
 }
 
-// All that there is to hold by a configuration, for an audit. A file of a journal that is written to
-// files has more entries than stood at home at once, so it is read up to the greatest limit.
+// All that there is to hold by a configuration, for an audit. Where the journal is written to files, one
+// of these may have more entries than the limit of the journal, so it is read up to the greatest limit.
 fn audited_whole<R: Files + AllocGlobal>(
     rt: &R,
     config: Option<&str>,
@@ -248,10 +253,7 @@ fn write_out<R: Files + AllocGlobal>(rt: &R, path: &str, journal: &[Entry]) -> R
 }
 
 fn read_in<R: Files + AllocGlobal>(rt: &R, path: &str) -> Result<Vec<Entry>, Exit> {
-    let text = match fs::read(rt, path) {
-        Ok(text) => text,
-        Err(error) => return Err(file_fault(&error)),
-    };
+    let text = read_file(rt, path)?;
     match read_journal(rt.alloc(), &text) {
         Ok(journal) => Ok(journal),
         Err(JournalFault::NotARecord(n)) => Err(Exit::NotARecord(n as u64)),

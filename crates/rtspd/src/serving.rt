@@ -32,7 +32,7 @@ pub(crate) fn address_of(listen: Option<&str>) -> Result<SocketAddr, Exit> {
     }
 }
 
-// How the program ends where there is no server.
+// How the program ends where the server couldn't be started, or has failed.
 fn fault_exit(fault: ServerFault) -> Exit {
     match fault {
         ServerFault::WrongLength => Exit::BadConfiguration,
@@ -75,7 +75,7 @@ fn hold_standard_streams<R: Files<File = File>>(rt: &R, alloc: Global) -> Result
     Ok(held)
 }
 
-// Tells on standard error where the limit of descriptors leaves less connections than pairs of ports.
+// Tells on standard error where the limit of descriptors leaves fewer connections than pairs of ports.
 fn tell_of_descriptors<R: Eprint>(rt: &R, server: &Server) {
     if server.lacks_descriptors() {
         let room = server.connections();

@@ -44,7 +44,7 @@ impl<'a, B: BookRep> Model for Case<'a, B> {
 }
 
 impl<'a, B: BookRep> Case<'a, B> {
-    /// The limits of the journal and of what there is to hold are those of the book.
+    /// The case of a book, its whole, and so many entries: with what is owed they are within the limit.
     pub(crate) fn new(book: &'a B, whole: &'a Whole, entries: usize) -> Self
         requires whole { B.whole_of book.now ≡ whole.now }
         requires sound { Sound whole.now (B.contents book.now) }

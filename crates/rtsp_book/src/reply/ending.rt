@@ -15,7 +15,7 @@ use crate::steps::{Chain, Step};
 use rtsp_record::{Holding, Record, Thing};
 use rtsp_sessions::{BookRep, Measure, SessionView};
 
-// Whether nothing was done.
+// Whether the chain did nothing.
 fn is_empty(chain: &Chain) -> bool
     ensures { result ≡ is_empty_chain chain.now }
 {

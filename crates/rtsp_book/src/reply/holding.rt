@@ -52,7 +52,7 @@ fn is_wrong(view: &SessionView, admission: u64, thing: &Thing) -> bool
 }
 
 impl<'a, B: BookRep> Case<'a, B> {
-    // The session that is seen is to hold a thing that is free.
+    // The reply where the session of `view` is to hold a thing that is free.
     fn hold(
         &self,
         view: &SessionView,

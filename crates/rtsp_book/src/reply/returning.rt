@@ -50,7 +50,7 @@ pub(crate) fn free_rate(made: &mut Receipt, session: u64, admission: u64, rate: 
     }
 }
 
-// All that an admission holds.
+// Gives back all that stands under an admission: its stream, its address and its rate.
 pub(crate) fn give_back(made: &mut Receipt, session: u64, admission: u64, held: &Admission)
     requires { length made.old + length (giving_back session (admission, held.now)) ≤ 51 }
     ensures { made.new ≡ made.old ++ giving_back session (admission, held.now) }
@@ -60,7 +60,7 @@ pub(crate) fn give_back(made: &mut Receipt, session: u64, admission: u64, held: 
     free_rate(made, session, admission, held.rate);
 }
 
-// All that these admissions hold.
+// Gives back all that stands under these admissions.
 fn give_back_all(made: &mut Receipt, session: u64, admissions: &Admissions)
     requires { length made.old + length (flat_map (giving_back session) (entries admissions.now)) ≤ 51 }
     ensures { made.new ≡ made.old ++ flat_map (giving_back session) (entries admissions.now) }
@@ -97,7 +97,7 @@ pub(crate) fn unbind(made: &mut Receipt, session: u64, binding: Option<Startup>)
     }
 }
 
-// The end of the session.
+// The records that end the session, its Close the last.
 pub(crate) fn end(made: &mut Receipt, view: &SessionView)
     requires empty { made.old ≡ [] }
     requires short { length (ending view.now.0 view.now.1) ≤ 51 }

@@ -4,7 +4,7 @@ use rtsp_engine::Plays;
 use rtsp_record::Phase;
 use std::alloc::{AllocError, Global};
 
-/// Nobody who learns of plays.
+/// In place of whoever learns of plays: nothing is kept of them.
 #[derive(Drop)]
 pub struct NoPlays;
 

@@ -1,6 +1,6 @@
 use Rattle.std.proofs.Common.{append_assoc}
 use Rattle.rtsp_metrics.specs.Families.{sample_line}
-use Rattle.rtsp_metrics.proofs.figures.write_sum.Goals as goal
+use Rattle.rtsp_metrics.proofs.families.write_seconds.Goals as goal
 
 pub returns : goal.returns
 unfolding sample_line

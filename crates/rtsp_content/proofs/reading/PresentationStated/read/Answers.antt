@@ -1,6 +1,6 @@
 use Rattle.std.proofs.Common.{rules}
 use Rattle.rtsp_content.specs.Sdp.{sdp_of}
-use Rattle.rtsp_content.proofs.reading.read_presentation.Goals as goal
+use Rattle.rtsp_content.proofs.reading.PresentationStated.read.Goals as goal
 
 pub invariant_of-result : goal.invariant_of-result
 unfolding sdp_of

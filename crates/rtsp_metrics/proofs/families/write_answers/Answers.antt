@@ -1,6 +1,6 @@
 use Rattle.rtsp_metrics.proofs.Appended.{appended, appended_last}
 use Rattle.rtsp_metrics.specs.Figures.{method_samples}
-use Rattle.rtsp_metrics.proofs.figures.write_method.Goals as goal
+use Rattle.rtsp_metrics.proofs.families.write_answers.Goals as goal
 
 pub returns : goal.returns
 unfolding method_samples
