@@ -1,5 +1,5 @@
 -- What is printed is spelled.
-use Rattle.std.proofs.Common.{◌≡◌, ℕ, ◌+◌, ◌*◌, ◌/◌, ◌%◌, ◌^◌, ◌<◌, refl, sym, subst, arith, inl, inr, lit<, lit≤}
+use Rattle.std.proofs.Common.{◌≡◌, ℕ, ◌+◌, ◌*◌, ◌/◌, ◌%◌, ◌^◌, ◌<◌, [], Some, refl, sym, subst, arith, inl, inr, lit<, lit≤}
 use Rattle.std.specs.Prelude.{codes, decimal}
 use Rattle.std.specs.Char.{digit_value}
 use Rattle.std.proofs.Math.Nat.{div-div-eq-div-mul, mul-lt-mul_of_pos_right}
@@ -9,8 +9,7 @@ use Rattle.rtsp_npt.specs.Times.{SpellsFraction, SpellsTime}
 use Rattle.rtsp_text.specs.Decimal.{SpellsNumber, digit, three_digits}
 use Rattle.rtsp_npt.specs.Units.{unit_nanos, HoldsTime, ReachTime, IsOutOfMedia}
 use Rattle.rtsp_npt.specs.Printed.{millis_text, time_text}
-use Rattle.rtsp_npt.specs.Laws.{TimeReadsBack, RangeReadsBack, StopReadsBack, UnitsStay}
-use Rattle.rtsp_npt.specs.declared.range.Range.TheVariants as ranges
+use Rattle.rtsp_npt.specs.Laws.{unit_time, unit_range, TimeReadsBack, RangeReadsBack, StopReadsBack, UnitsStay}
 use Rattle.rtsp_npt.proofs.UnitLemmas.{below_times, one_start}
 
 -- ---- times
@@ -74,8 +73,10 @@ range_back from stop unit_ms first last = record {
 
 pub stop_back : StopReadsBack
 stop_back stop unit_ms last = record {
+  first = [];
   last = time_text stop unit_ms;
   times = record { unit = codes "npt"; npt = refl; parts = refl };
+  spells_start = refl;
   spells_stop = time_back stop unit_ms last;
 }
 
@@ -91,18 +92,15 @@ reach_itself unit_ms n pos = record {
 }
 
 pub units_back : UnitsStay
-units_back resume from stop unit_ms units pos some fits =
-    let n = unit_nanos unit_ms in
-    record {
-      starts = holds_itself unit_ms from pos;
-      stops = (stop, reach_itself unit_ms stop pos, omega arith);
-      inside = not_outside;
-    }
-  where
-    not_outside : ¬ IsOutOfMedia (ranges.Between (record { nanos = from * unit_nanos unit_ms }) (record { nanos = stop * unit_nanos unit_ms })) resume unit_ms units
-    not_outside (inl h) =
-        let same = one_start (ranges.Between (record { nanos = from * unit_nanos unit_ms }) (record { nanos = stop * unit_nanos unit_ms })) resume unit_ms h.0 from h.1 (holds_itself unit_ms from pos) in
-        absurd (omega (arith, same, h.2))
-    not_outside (inr h) =
-        let below : from * unit_nanos unit_ms < stop * unit_nanos unit_ms = mul-lt-mul_of_pos_right some (omega arith) in
-        absurd (omega (arith, below, h))
+units_back resume from stop unit_ms units pos some fits = record {
+  starts = holds_itself unit_ms from pos;
+  stops = (stop, reach_itself unit_ms stop pos, omega arith);
+  inside = not_outside;
+} where
+  not_outside : ¬ IsOutOfMedia (unit_range from stop unit_ms) resume unit_ms units
+  not_outside (inl h) =
+      let same = one_start (Some (unit_time from unit_ms)) resume unit_ms h.0 from h.1 (holds_itself unit_ms from pos) in
+      absurd (omega (arith, same, h.2))
+  not_outside (inr h) =
+      let below : from * unit_nanos unit_ms < stop * unit_nanos unit_ms = mul-lt-mul_of_pos_right some (omega arith) in
+      absurd (omega (arith, below, h))

@@ -9,11 +9,10 @@ use Rattle.std.proofs.lemmas.Bool.{and_parts, and_from, both_ways, eqb-true, fal
 use Rattle.std.proofs.lemmas.List.{take-append-drop}
 use Rattle.std.proofs.lemmas.List.Prefix.{end_rest}
 use Rattle.rtsp_npt.specs.Bytes.{equals, dash, IsToken, IsNpt}
-use Rattle.rtsp_npt.specs.Times.{SpellsTime}
-use Rattle.rtsp_npt.specs.Ranges.{HasTimes, SpellsRange, IsOtherUnit, IsNotNpt, HasNow, IsBadNpt, HasFault}
-use Rattle.rtsp_npt.specs.Reading.{time_of, is_npt, has_now, sides_of, times_of, spec_of, range_of}
+use Rattle.rtsp_npt.specs.Ranges.{HasTimes, SpellsSide, SpellsSides, SpellsRange, IsOtherUnit, IsNotNpt, HasNow, IsBadNpt, HasFault}
+use Rattle.rtsp_npt.specs.Reading.{time_of, is_npt, has_now, side_of, bounds_of, sides_of, times_of, spec_of, range_of}
 use Rattle.rtsp_npt.specs.declared.range.Range.{Range}
-use Rattle.rtsp_npt.specs.declared.range.Range.TheVariants as ranges
+use Rattle.rtsp_npt.specs.declared.time.Time.{Time}
 use Rattle.rtsp_npt.specs.declared.fault.RangeFault.{RangeFault}
 use Rattle.rtsp_npt.specs.declared.fault.RangeFault.TheVariants as faults
 use Rattle.rtsp_text.specs.Bytes.{is_other, is_token, is_token_byte}
@@ -61,7 +60,7 @@ token_no_equals unit h = all_other is_token_byte equals unit refl h.bytes
 
 -- ---- what is spelled is read
 
-npt_alone : (text : List ℕ) → IsNpt text → range_of text ≡ Ok ranges.Rest
+npt_alone : (text : List ℕ) → IsNpt text → range_of text ≡ Ok (record { start = None; stop = None })
 unfolding range_of
 npt_alone text h = rw (split_missed equals text (npt_no_equals text h), npt_test text h) refl
 
@@ -122,39 +121,31 @@ no_now times h =
     both_ways false refl (subst (λ (t : List ℕ). list_all (is_other 110) t ≡ true) (sym same) (no_n_parts (length times - 4) times h).1)) in
     rw (first, last) refl
 
-time_no_n : (text : List ℕ) (t : ℕ) → SpellsTime text t → HasNoN text
-time_no_n text t h = all_other is_time_byte 110 text refl (time_bytes text t h)
+side_bytes : (text : List ℕ) (time : Option Time) → SpellsSide text time → list_all is_time_byte text ≡ true
+side_bytes text None h = rw h refl
+side_bytes text (Some time) h = time_bytes text time.nanos h
 
-time_no_dash : (text : List ℕ) (t : ℕ) → SpellsTime text t → list_all (is_other dash) text ≡ true
-time_no_dash text t h = all_other is_time_byte dash text refl (time_bytes text t h)
+side_read : (text : List ℕ) (time : Option Time) → SpellsSide text time → side_of text ≡ Some time
+side_read text None h = rw h refl
+side_read [] (Some time) h = absurd (let some = time_some [] time.nanos h in omega (arith, some))
+side_read (b ∷ text) (Some time) h = rw (time_reads (b ∷ text) time.nanos h) refl
 
-sides_read : (first last : List ℕ) (range : Range) → HasNoN first → list_all (is_other dash) first ≡ true → HasNoN last → sides_of first last ≡ Some range → times_of (first ++ dash ∷ last) ≡ Ok range
+sides_read : (text : List ℕ) (range : Range) → SpellsSides text range.start range.stop → bounds_of range.start range.stop ≡ Some range → range_of text ≡ Ok range
 unfolding times_of
-sides_read first last range f d l e =
-    let n = no_now (first ++ dash ∷ last) (all_joined (is_other 110) first (dash ∷ last) f l) in
-    rw (n, split_found dash first last d, e) refl
-
-from_side : (first : List ℕ) (start : ℕ) → SpellsTime first start → sides_of first [] ≡ Some (ranges.From (record { nanos = start }))
-from_side first start h = rw (time_reads first start h) refl
-
-until_side : (last : List ℕ) (stop : ℕ) → SpellsTime last stop → sides_of [] last ≡ Some (ranges.Until (record { nanos = stop }))
-until_side [] stop h = absurd (let some = time_some [] stop h in omega (arith, some))
-until_side (b ∷ last) stop h = rw (time_reads (b ∷ last) stop h) refl
-
-between_sides : (first last : List ℕ) (start stop : ℕ) → SpellsTime first start → SpellsTime last stop → sides_of first last ≡ Some (ranges.Between (record { nanos = start }) (record { nanos = stop }))
-between_sides [] last start stop f l = absurd (let some = time_some [] start f in omega (arith, some))
-between_sides (a ∷ first) [] start stop f l = absurd (let some = time_some [] stop l in omega (arith, some))
-between_sides (a ∷ first) (b ∷ last) start stop f l = rw (time_reads (a ∷ first) start f, time_reads (b ∷ last) stop l) refl
+sides_read text range h e =
+    let no_n = λ (side : List ℕ) (bytes : list_all is_time_byte side ≡ true). all_other is_time_byte 110 side refl bytes in
+    let first = side_bytes h.first range.start h.spells_start in
+    let last = side_bytes h.last range.stop h.spells_stop in
+    let n = no_now (h.first ++ dash ∷ h.last) (all_joined (is_other 110) h.first (dash ∷ h.last) (no_n h.first first) (no_n h.last last)) in
+    let at = split_found dash h.first h.last (all_other is_time_byte dash h.first refl first) in
+    times_read text (h.first ++ dash ∷ h.last) h.times ∙ rw (n, at, side_read h.first range.start h.spells_start, side_read h.last range.stop h.spells_stop, e) refl
 
 pub spelled_read : (text : List ℕ) (range : Range) → SpellsRange text range → range_of text ≡ Ok range
-spelled_read text ranges.Rest h = npt_alone text h
-spelled_read text (ranges.From start) h =
-    times_read text (h.first ++ dash ∷ []) h.times ∙ sides_read h.first [] (ranges.From start) (time_no_n h.first start.nanos h.spells_start) (time_no_dash h.first start.nanos h.spells_start) refl (from_side h.first start.nanos h.spells_start)
-spelled_read text (ranges.Until stop) h =
-    times_read text (dash ∷ h.last) h.times ∙ sides_read [] h.last (ranges.Until stop) refl refl (time_no_n h.last stop.nanos h.spells_stop) (until_side h.last stop.nanos h.spells_stop)
-spelled_read text (ranges.Between start stop) h =
-    times_read text (h.first ++ dash ∷ h.last) h.times
-    ∙ sides_read h.first h.last (ranges.Between start stop) (time_no_n h.first start.nanos h.spells_start) (time_no_dash h.first start.nanos h.spells_start) (time_no_n h.last stop.nanos h.spells_stop) (between_sides h.first h.last start.nanos stop.nanos h.spells_start h.spells_stop)
+spelled_read text range h = go range.start range.stop h where
+  go : (start stop : Option Time) → SpellsRange text (record { start = start; stop = stop }) → range_of text ≡ Ok (record { start = start; stop = stop })
+  go None None h = npt_alone text h
+  go None (Some stop) h = sides_read text (record { start = None; stop = Some stop }) h refl
+  go (Some start) stop h = sides_read text (record { start = Some start; stop = stop }) h refl
 
 -- ---- what is read is spelled
 
@@ -165,20 +156,22 @@ Tells text (Err faults.NotNpt) = IsNotNpt text
 Tells text (Err faults.Now) = HasNow text
 Tells text (Err faults.BadNpt) = Unit {0}
 
+side_spells : (text : List ℕ) (time : Option Time) → side_of text ≡ Some time → SpellsSide text time
+side_spells [] None e = refl
+side_spells [] (Some time) e = absurd cc
+side_spells (b ∷ text) time e = go (time_of (b ∷ text)) refl time e where
+  go : (o : Option ℕ) → time_of (b ∷ text) ≡ o → (time : Option Time) → (o >>= λ nanos. Some (Some (record { nanos = nanos }))) ≡ Some time → SpellsSide (b ∷ text) time
+  go None f time e = absurd cc
+  go (Some nanos) f time e = subst (SpellsSide (b ∷ text)) (let same : Some (record { nanos = nanos }) ≡ time = cc e in same) (time_spells (b ∷ text) nanos f)
+
 sides_tell : (text first last : List ℕ) → HasTimes text (first ++ dash ∷ last) → Tells text (ok_or (sides_of first last) faults.BadNpt)
-sides_tell text first [] times = go (time_of first) refl where
-  go : (o : Option ℕ) → time_of first ≡ o → Tells text (ok_or (o >>= λ start. Some (ranges.From (record { nanos = start }))) faults.BadNpt)
-  go None e = tt
-  go (Some start) e = record { first = first; times = times; spells_start = time_spells first start e }
-sides_tell text [] (b ∷ last) times = go (time_of (b ∷ last)) refl where
-  go : (o : Option ℕ) → time_of (b ∷ last) ≡ o → Tells text (ok_or (o >>= λ stop. Some (ranges.Until (record { nanos = stop }))) faults.BadNpt)
-  go None e = tt
-  go (Some stop) e = record { last = b ∷ last; times = times; spells_stop = time_spells (b ∷ last) stop e }
-sides_tell text (a ∷ first) (b ∷ last) times = go (time_of (a ∷ first)) refl (time_of (b ∷ last)) refl where
-  go : (o : Option ℕ) → time_of (a ∷ first) ≡ o → (p : Option ℕ) → time_of (b ∷ last) ≡ p → Tells text (ok_or (o >>= λ start. p >>= λ stop. Some (ranges.Between (record { nanos = start }) (record { nanos = stop }))) faults.BadNpt)
-  go None e p f = tt
+sides_tell text first last times = go (side_of first) refl (side_of last) refl where
+  go : (a : Option (Option Time)) → side_of first ≡ a → (b : Option (Option Time)) → side_of last ≡ b → Tells text (ok_or (a >>= λ start. b >>= λ stop. bounds_of start stop) faults.BadNpt)
+  go None e b f = tt
   go (Some start) e None f = tt
-  go (Some start) e (Some stop) f = record { first = a ∷ first; last = b ∷ last; times = times; spells_start = time_spells (a ∷ first) start e; spells_stop = time_spells (b ∷ last) stop f }
+  go (Some None) e (Some None) f = tt
+  go (Some None) e (Some (Some stop)) f = record { first = first; last = last; times = times; spells_start = side_spells first None e; spells_stop = side_spells last (Some stop) f }
+  go (Some (Some start)) e (Some stop) f = record { first = first; last = last; times = times; spells_start = side_spells first (Some start) e; spells_stop = side_spells last stop f }
 
 along : (text a b : List ℕ) → a ≡ b → HasTimes text a → HasTimes text b
 along text a b e h = subst (HasTimes text) e h
@@ -210,7 +203,7 @@ times_tell text times h = go (has_now times) refl where
 other_unit : (unit : List ℕ) → is_npt unit ≡ false → is_token unit ≡ true → IsOtherUnit unit
 other_unit unit n t = record { token = token_is unit t; other = λ h. both_ways (is_npt unit) n (npt_test unit h) }
 
-alone_tells : (text : List ℕ) (a b : Bool) → is_npt text ≡ a → is_token text ≡ b → Tells text (cond a (Ok ranges.Rest) (Err (cond b faults.NotNpt faults.BadNpt)))
+alone_tells : (text : List ℕ) (a b : Bool) → is_npt text ≡ a → is_token text ≡ b → Tells text (cond a (Ok (record { start = None; stop = None })) (Err (cond b faults.NotNpt faults.BadNpt)))
 alone_tells text true b n t = npt_is text n
 alone_tells text false true n t = inl (other_unit text n t)
 alone_tells text false false n t = tt

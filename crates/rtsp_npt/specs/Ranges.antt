@@ -1,9 +1,9 @@
 -- What a Range header spells (RFC 7826, sections 18.40 and 20.2.3), and what is wrong with one.
-use Rattle.std.specs.Prelude.{◌≡◌, ℕ, ◌⊎◌, List, [], ◌∷◌, ◌++◌, codes}
+use Rattle.std.specs.Prelude.{◌≡◌, ℕ, ◌⊎◌, List, [], ◌∷◌, ◌++◌, codes, Option, Some, None}
 use Rattle.rtsp_npt.specs.Bytes.{equals, dash, IsToken, IsNpt}
 use Rattle.rtsp_npt.specs.Times.{SpellsTime}
 use Rattle.rtsp_npt.specs.declared.range.Range.{Range}
-use Rattle.rtsp_npt.specs.declared.range.Range.TheVariants as ranges
+use Rattle.rtsp_npt.specs.declared.time.Time.{Time}
 use Rattle.rtsp_npt.specs.declared.fault.RangeFault.{RangeFault}
 use Rattle.rtsp_npt.specs.declared.fault.RangeFault.TheVariants as faults
 
@@ -13,32 +13,28 @@ pub record HasTimes (text times : List ℕ) : Type 0 where
   pub npt : IsNpt unit
   pub parts : text ≡ unit ++ equals ∷ times
 
--- a start alone
-pub record SpellsFrom (text : List ℕ) (start : ℕ) : Type 0 where
-  pub first : List ℕ
-  pub times : HasTimes text (first ++ dash ∷ [])
-  pub spells_start : SpellsTime first start
+-- what stands at a side of the dash: nothing, or a time
+abbrev pub SpellsSide : List ℕ → Option Time → Type 0
+SpellsSide text None = text ≡ []
+SpellsSide text (Some time) = SpellsTime text time.nanos
 
--- a stop alone
-pub record SpellsUntil (text : List ℕ) (stop : ℕ) : Type 0 where
-  pub last : List ℕ
-  pub times : HasTimes text (dash ∷ last)
-  pub spells_stop : SpellsTime last stop
-
--- both
-pub record SpellsBetween (text : List ℕ) (start stop : ℕ) : Type 0 where
+-- both sides of the dash
+pub record SpellsSides (text : List ℕ) (start stop : Option Time) : Type 0 where
   pub first : List ℕ
   pub last : List ℕ
   pub times : HasTimes text (first ++ dash ∷ last)
-  pub spells_start : SpellsTime first start
-  pub spells_stop : SpellsTime last stop
+  pub spells_start : SpellsSide first start
+  pub spells_stop : SpellsSide last stop
 
--- the text spells the range; the unit alone is the range from the resume point to the end
+-- the unit alone, without a dash, has neither a start nor a stop
+abbrev pub SpellsBounds : List ℕ → Option Time → Option Time → Type 0
+SpellsBounds text None None = IsNpt text
+SpellsBounds text None (Some stop) = SpellsSides text None (Some stop)
+SpellsBounds text (Some start) stop = SpellsSides text (Some start) stop
+
+-- the text spells the range
 abbrev pub SpellsRange : List ℕ → Range → Type 0
-SpellsRange text ranges.Rest = IsNpt text
-SpellsRange text (ranges.From start) = SpellsFrom text start.nanos
-SpellsRange text (ranges.Until stop) = SpellsUntil text stop.nanos
-SpellsRange text (ranges.Between start stop) = SpellsBetween text start.nanos stop.nanos
+SpellsRange text range = SpellsBounds text range.start range.stop
 
 -- a token that is another unit
 pub record IsOtherUnit (unit : List ℕ) : Type 0 where

@@ -10,7 +10,7 @@ use Rattle.rtsp_text.specs.Options.{◌>>=◌}
 use Rattle.rtsp_text.specs.SplitOnce.{split_once}
 use Rattle.rtsp_npt.specs.Bytes.{equals, dash, colon, point}
 use Rattle.rtsp_npt.specs.declared.range.Range.{Range}
-use Rattle.rtsp_npt.specs.declared.range.Range.TheVariants as ranges
+use Rattle.rtsp_npt.specs.declared.time.Time.{Time}
 use Rattle.rtsp_npt.specs.declared.fault.RangeFault.{RangeFault}
 use Rattle.rtsp_npt.specs.declared.fault.RangeFault.TheVariants as faults
 
@@ -62,18 +62,25 @@ is_npt unit = pointwise nat_eq (map to_ascii_lowercase unit) (codes "npt")
 abbrev pub has_now : List ℕ → Bool
 has_now times = starts_with nat_eq times (codes "now-") || ends_with nat_eq times (codes "-now")
 
+-- the time at a side of the dash, or nothing
+abbrev pub side_of : List ℕ → Option (Option Time)
+side_of [] = Some None
+side_of (b ∷ text) = do
+  nanos ← time_of (b ∷ text)
+  Some (Some (record { nanos = nanos }))
+
+-- one of the sides may be missing
+abbrev pub bounds_of : Option Time → Option Time → Option Range
+bounds_of None None = None
+bounds_of None (Some stop) = Some (record { start = None; stop = Some stop })
+bounds_of (Some start) stop = Some (record { start = Some start; stop = stop })
+
 -- the times at the sides of the dash
 abbrev pub sides_of : List ℕ → List ℕ → Option Range
-sides_of first [] = do
-  start ← time_of first
-  Some (ranges.From (record { nanos = start }))
-sides_of [] (b ∷ last) = do
-  stop ← time_of (b ∷ last)
-  Some (ranges.Until (record { nanos = stop }))
-sides_of (a ∷ first) (b ∷ last) = do
-  start ← time_of (a ∷ first)
-  stop ← time_of (b ∷ last)
-  Some (ranges.Between (record { nanos = start }) (record { nanos = stop }))
+sides_of first last = do
+  start ← side_of first
+  stop ← side_of last
+  bounds_of start stop
 
 -- the times after `npt=`
 unfoldable pub times_of : List ℕ → Result Range RangeFault
@@ -85,7 +92,7 @@ fault_of unit = if is_token unit then faults.NotNpt else faults.BadNpt
 
 -- a unit alone, or with the times after it
 abbrev pub spec_of : List ℕ → Option (List ℕ × List ℕ) → Result Range RangeFault
-spec_of text None = if is_npt text then Ok ranges.Rest else Err (fault_of text)
+spec_of text None = if is_npt text then Ok (record { start = None; stop = None }) else Err (fault_of text)
 spec_of text (Some parts) = if is_npt parts.0 then times_of parts.1 else Err (fault_of parts.0)
 
 -- a Range header

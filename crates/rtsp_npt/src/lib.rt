@@ -18,5 +18,5 @@ pub use crate::range::Range;
 pub use crate::reading::read_range;
 pub use crate::time::Time;
 pub use crate::unit_length::UnitLength;
-pub use crate::units::resolve;
+pub use crate::units::{Span, resolve};
 pub use crate::writing::{write_range, write_stop, write_time};

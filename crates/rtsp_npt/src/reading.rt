@@ -1,7 +1,7 @@
 //! Reading a Range header.
 
 ghost use Rattle.std.specs.Prelude.{◌≡◌, ◌↔◌};
-ghost use Rattle.rtsp_npt.specs.Reading.{is_npt, sides_of, times_of, fault_of, range_of};
+ghost use Rattle.rtsp_npt.specs.Reading.{is_npt, side_of, sides_of, times_of, fault_of, range_of};
 ghost use Rattle.rtsp_npt.specs.Ranges.{SpellsRange, HasFault};
 ghost use Rattle.rtsp_npt.specs.declared.range.Range.{Range};
 ghost use Rattle.rtsp_npt.specs.declared.fault.RangeFault.{RangeFault};
@@ -18,29 +18,27 @@ fn is_npt(unit: &[u8]) -> bool
     unit.eq_ignore_ascii_case(b"npt")
 }
 
+// The time at a side of the dash, or nothing.
+fn read_side(text: &[u8]) -> Option<Option<Time>>
+    ensures { result ≡ side_of text.now }
+{
+    if text.is_empty() {
+        return Some(None);
+    }
+    let nanos = read_nanos(text)?;
+    Some(Some(Time { nanos }))
+}
+
 // The times at the sides of the dash, of which one may be missing.
 fn read_sides(first: &[u8], last: &[u8]) -> Option<Range>
     ensures { result ≡ sides_of first.now last.now }
 {
-    if last.is_empty() {
-        let nanos = read_nanos(first)?;
-        return Some(Range::From {
-            start: Time { nanos },
-        });
+    let start = read_side(first)?;
+    let stop = read_side(last)?;
+    match (start, stop) {
+        (None, None) => None,
+        _ => Some(Range { start, stop }),
     }
-    if first.is_empty() {
-        let nanos = read_nanos(last)?;
-        return Some(Range::Until {
-            stop: Time { nanos },
-        });
-    }
-    let start = Time {
-        nanos: read_nanos(first)?,
-    };
-    let stop = Time {
-        nanos: read_nanos(last)?,
-    };
-    Some(Range::Between { start, stop })
 }
 
 // The times after `npt=`.
@@ -75,7 +73,10 @@ fn range_of(text: &[u8]) -> Result<Range, RangeFault>
 {
     let Some((unit, times)) = split_once(text, b'=') else {
         if is_npt(text) {
-            return Ok(Range::Rest);
+            return Ok(Range {
+                start: None,
+                stop: None,
+            });
         }
         return Err(unit_fault(text));
     };

@@ -8,74 +8,69 @@ use crate::fault::OutOfMedia;
 use crate::range::Range;
 use crate::unit_length::UnitLength;
 
-// What a range is resolved against: the media, and the unit at which it is resumed.
+/// The units from `from` on and before `stop`.
 #[derive(Clone, Copy)]
-struct Media {
-    // The unit at which a range without a start begins.
-    resume: u32,
-    // The length of a unit in milliseconds.
-    unit_ms: u32,
-    // How many units there are.
-    units: u32,
-    ghost long: { 0 < unit_ms },
+pub struct Span {
+    pub from: u32,
+    pub stop: u32,
 }
 
 impl Range {
     // The unit at which the range starts, which may be after the media.
-    fn start_unit(self, media: Media) -> u128
-        ensures { result ≡ start_unit self media.resume media.unit_ms }
+    fn start_unit(self, resume: u32, unit_ms: u32) -> u128
+        requires { 0 < unit_ms }
+        ensures { result ≡ start_unit self.start resume unit_ms }
     {
-        match self {
-            Range::Rest => u128::from(media.resume),
-            Range::From { start } => start.unit(media.unit_ms),
-            Range::Until { .. } => u128::from(media.resume),
-            Range::Between { start, .. } => start.unit(media.unit_ms),
+        match self.start {
+            None => u128::from(resume),
+            Some(start) => start.unit(unit_ms),
         }
     }
 
     // The unit before which the range stops.
-    fn stop_unit(self, media: Media) -> u32
-        ensures { result ≡ stop_unit self media.unit_ms media.units }
+    fn stop_unit(self, unit_ms: u32, units: u32) -> u32
+        requires { 0 < unit_ms }
+        ensures { result ≡ stop_unit self.stop unit_ms units }
     {
-        match self {
-            Range::Rest => media.units,
-            Range::From { .. } => media.units,
-            Range::Until { stop } => stop.units(media.unit_ms).min(u128::from(media.units)) as u32,
-            Range::Between { stop, .. } => {
-                stop.units(media.unit_ms).min(u128::from(media.units)) as u32
-            }
+        match self.stop {
+            None => units,
+            Some(stop) => stop.units(unit_ms).min(u128::from(units)) as u32,
         }
     }
 
-    // Whether a written stop is not above the start.
-    fn is_backwards(self, media: Media) -> bool
-        ensures { result ≡ is_backwards self media.resume media.unit_ms media.units }
+    // Whether a written stop, which stops at this unit, is not above the start.
+    fn is_backwards(self, resume: u32, stop_unit: u32) -> bool
+        ensures { result ≡ is_backwards self.start self.stop resume stop_unit }
     {
-        match self {
-            Range::Rest => false,
-            Range::From { .. } => false,
-            Range::Until { .. } => self.stop_unit(media) <= media.resume,
-            Range::Between { start, stop } => stop <= start,
+        match (self.start, self.stop) {
+            (_, None) => false,
+            (None, Some(_)) => stop_unit <= resume,
+            (Some(start), Some(stop)) => stop <= start,
         }
     }
 }
 
 // The units of the range, as `resolve` gives them.
 #[tactic(auto, unfolding(crate::specs::Units::units_of))]
-fn units_of(range: Range, media: Media) -> Result<(u32, u32), OutOfMedia>
-    ensures { result ≡ units_of range media.resume media.unit_ms media.units }
+fn units_of(range: Range, resume: u32, unit_ms: u32, units: u32) -> Result<Span, OutOfMedia>
+    requires { 0 < unit_ms }
+    ensures { result ≡ units_of range resume unit_ms units }
 {
-    let start = range.start_unit(media);
-    let backwards = range.is_backwards(media);
-    if start >= u128::from(media.units) || backwards {
+    let start = range.start_unit(resume, unit_ms);
+    let stop = range.stop_unit(unit_ms, units);
+    let backwards = range.is_backwards(resume, stop);
+    if start >= u128::from(units) || backwards {
         return Err(OutOfMedia);
     }
-    Ok((start as u32, range.stop_unit(media)))
+    Ok(Span {
+        from: start as u32,
+        stop,
+    })
 }
 
-/// The units of a range: from the first number of the result on and before the second, which is
-/// greater. The media has `units` units of this length; a range without a start begins at the unit
-/// `resume`. The start is rounded down to a unit and the stop up, at most to the end.
+/// The units of a range, of which there is one at least. The media has `units` units of this
+/// length; a range without a start begins at the unit `resume`. The start is rounded down to a unit
+/// and the stop up, at most to the end.
 ///
 /// A range that starts at the end or later, or that stops no later than it starts, is refused.
 pub fn resolve(
@@ -83,16 +78,11 @@ pub fn resolve(
     resume: u32,
     unit_ms: UnitLength,
     units: u32,
-) -> Result<(u32, u32), OutOfMedia>
+) -> Result<Span, OutOfMedia>
     ensures value { result ≡ units_of range resume unit_ms units }
-    ensures units { IfOk result (λ taken. TakesUnits range resume unit_ms units taken.0 taken.1) }
-    ensures within { IfOk result (λ taken. (taken.0 < taken.1) × (taken.1 ≤ units)) }
+    ensures units { IfOk result (λ taken. TakesUnits range resume unit_ms units taken.from taken.stop) }
+    ensures within { IfOk result (λ taken. (taken.from < taken.stop) × (taken.stop ≤ units)) }
     ensures outside { IsErr result ↔ IsOutOfMedia range resume unit_ms units }
 {
-    let media = Media {
-        resume,
-        unit_ms: unit_ms.ms(),
-        units,
-    };
-    units_of(range, media)
+    units_of(range, resume, unit_ms.ms(), units)
 }
