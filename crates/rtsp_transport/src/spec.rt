@@ -44,13 +44,8 @@ fn allows(peer: u32, host: &[u8]) -> bool
 }
 
 impl Parameter {
-    ghost use Rattle.std.specs.Prelude.{is_some};
-    ghost use Rattle.std.specs.List.{list_any};
-    ghost use Rattle.std.specs.Option.{option_copied};
-    ghost use Rattle.rtsp_text.specs.Slices.{held};
     ghost use Rattle.rtsp_transport.specs.Names.{is_unserved};
-    ghost use Rattle.rtsp_transport.specs.Parameters.{asks_more, is_play, mux_has_value, has_mux};
-    ghost use Rattle.rtsp_transport.specs.Parameters.{first_named, first_value};
+    ghost use Rattle.rtsp_transport.specs.Parameters.{asks_more, is_play, mux_has_value};
     ghost use Rattle.rtsp_transport.specs.TransportReading.{parameter_of, parameters_of};
 
     #[tactic(auto, unfolding(crate::specs::TransportReading::parameter_of))]
@@ -125,53 +120,14 @@ impl Parameter {
             || self.mux_has_value()
             || (is_named(name, b"mode") && !self.is_play())
     }
-
-    /// Whether one of the parameters asks for more than this server serves.
-    pub fn any_asks_more(parameters: &[Parameter]) -> bool
-        ensures { result ≡ list_any asks_more parameters.now }
-    {
-        parameters.iter().any(|p| p.asks_more())
-    }
-
-    // The first parameter of a name.
-    fn first_named<'a>(parameters: &'a [Parameter], name: &[u8]) -> Option<&'a Parameter>
-        ensures { option_copied result ≡ first_named name.now parameters.now }
-    {
-        parameters
-            .iter()
-            .find(|p| is_named(p.name.as_bytes(), name))
-    }
-
-    /// Whether a parameter has this name.
-    pub fn any_named(parameters: &[Parameter], name: &[u8]) -> bool
-        ensures { result ≡ is_some (first_named name.now parameters.now) }
-    {
-        Parameter::first_named(parameters, name).is_some()
-    }
-
-    /// Whether RTP and RTCP are to share one port (RFC 5761).
-    pub fn has_mux(parameters: &[Parameter]) -> bool
-        ensures { result ≡ has_mux parameters.now }
-    {
-        Parameter::any_named(parameters, b"RTCP-mux")
-    }
-
-    /// The value of the first parameter of a name.
-    pub fn first_value<'a>(parameters: &'a [Parameter], name: &[u8]) -> Option<&'a [u8]>
-        ensures { held result ≡ first_value name.now parameters.now }
-    {
-        match Parameter::first_named(parameters, name) {
-            Some(parameter) => match &parameter.value {
-                Some(value) => Some(value.as_bytes()),
-                None => None,
-            },
-            None => None,
-        }
-    }
 }
 
 impl Spec {
+    ghost use Rattle.std.specs.List.{list_any};
+    ghost use Rattle.std.specs.Option.{option_copied};
+    ghost use Rattle.rtsp_text.specs.Slices.{held};
     ghost use Rattle.rtsp_transport.specs.Fitting.{udp_fit, mux_fit, inter_fit, fit_of};
+    ghost use Rattle.rtsp_transport.specs.Parameters.{asks_more, first_named, first_value, has_mux};
     ghost use Rattle.rtsp_transport.specs.TransportReading.{protocol_of, spec_of, specs_of};
 
     #[tactic(auto, unfolding(crate::specs::TransportReading::protocol_of))]
@@ -212,14 +168,40 @@ impl Spec {
         Ok(specs)
     }
 
+    // One of the parameters asks for more than this server serves.
+    fn asks_more(&self) -> bool
+        ensures { result ≡ list_any asks_more self.now.parameters }
+    {
+        self.parameters.as_slice().iter().any(|p| p.asks_more())
+    }
+
+    // The first parameter of a name.
+    fn first_named(&self, name: &[u8]) -> Option<&Parameter>
+        ensures { option_copied result ≡ first_named name.now self.now.parameters }
+    {
+        let mut parameters = self.parameters.as_slice().iter();
+        parameters.find(|p| is_named(p.name.as_bytes(), name))
+    }
+
+    // RTP and RTCP are to share one port (RFC 5761).
+    fn has_mux(&self) -> bool
+        ensures { result ≡ has_mux self.now.parameters }
+    {
+        self.first_named(b"RTCP-mux").is_some()
+    }
+
+    // The value of the first parameter of a name.
+    fn first_value(&self, name: &[u8]) -> Option<&[u8]>
+        ensures { held result ≡ first_value name.now self.now.parameters }
+    {
+        Some(self.first_named(name)?.value.as_ref()?.as_bytes())
+    }
+
     #[tactic(auto, unfolding(crate::specs::Fitting::udp_fit))]
     fn udp_fit(&self, peer: u32) -> Pick
         ensures { result ≡ udp_fit peer self.now.parameters }
     {
-        let Some(text) = Parameter::first_value(self.parameters.as_slice(), b"dest_addr") else {
-            return Pick::Unsupported;
-        };
-        let Some((rtp, rtcp)) = Address::read_pair(text) else {
+        let Some((rtp, rtcp)) = self.first_value(b"dest_addr").and_then(Address::read_pair) else {
             return Pick::Unsupported;
         };
         if is_bracketed(rtp.host) || is_bracketed(rtcp.host) {
@@ -238,10 +220,7 @@ impl Spec {
     fn mux_fit(&self, peer: u32) -> Pick
         ensures { result ≡ mux_fit peer self.now.parameters }
     {
-        let Some(text) = Parameter::first_value(self.parameters.as_slice(), b"dest_addr") else {
-            return Pick::Unsupported;
-        };
-        let Some(place) = Address::read_one(text) else {
+        let Some(place) = self.first_value(b"dest_addr").and_then(Address::read_one) else {
             return Pick::Unsupported;
         };
         if is_bracketed(place.host) {
@@ -257,10 +236,10 @@ impl Spec {
     fn inter_fit(&self) -> Pick
         ensures { result ≡ inter_fit self.now.parameters }
     {
-        if Parameter::any_named(self.parameters.as_slice(), b"dest_addr") {
+        if self.first_named(b"dest_addr").is_some() {
             return Pick::Unsupported;
         }
-        match Parameter::first_value(self.parameters.as_slice(), b"interleaved") {
+        match self.first_value(b"interleaved") {
             Some(text) => Pick::Inter {
                 wish: ChannelPair::read(text),
             },
@@ -273,10 +252,10 @@ impl Spec {
     pub fn fit(&self, peer: u32) -> Pick
         ensures { result ≡ fit_of peer self.now }
     {
-        if Parameter::any_asks_more(self.parameters.as_slice()) {
+        if self.asks_more() {
             return Pick::Unsupported;
         }
-        let has_mux = Parameter::has_mux(self.parameters.as_slice());
+        let has_mux = self.has_mux();
         if is_udp(self.protocol.as_bytes()) {
             return if has_mux {
                 self.mux_fit(peer)
