@@ -5,6 +5,7 @@ ghost use Rattle.std.specs.Option.{option_map};
 ghost use Rattle.rtsp_text.specs.Slices.{held, halves};
 ghost use Rattle.rtsp_transport.specs.Address.{after, quoted_of, quoted_pair, quoted_whole};
 ghost use Rattle.rtsp_transport.specs.Address.{port_of, place_of, quoted_place_of, places_of};
+ghost use Rattle.rtsp_transport.specs.Hosts.{is_bracketed, allows};
 ghost use Rattle.rtsp_transport.specs.Peer.{after_text, after_peer, is_peer};
 
 use itoa::Buffer;
@@ -104,6 +105,20 @@ impl Address<'_> {
         let rtcp = Address::read(rtcp)?;
         Some((rtp, rtcp))
     }
+
+    /// Whether the host has a bracket, as an IPv6 address has.
+    pub fn is_bracketed(&self) -> bool
+        ensures { result ≡ is_bracketed self.now.host.now }
+    {
+        self.host.contains(&b'[')
+    }
+
+    /// Whether the host is empty or the peer's.
+    pub fn is_allowed(&self, peer: u32) -> bool
+        ensures { result ≡ allows peer self.now.host.now }
+    {
+        self.host.is_empty() || is_peer(self.host, peer)
+    }
 }
 
 // What follows this front, where the text begins with it.
@@ -138,8 +153,9 @@ fn after_peer(text: &[u8], peer: u32) -> Option<&[u8]>
     after_number(rest, peer % 256)
 }
 
-/// Whether the text is that of the IPv4 address: four decimal numbers with dots between them.
-pub fn is_peer(text: &[u8], peer: u32) -> bool
+// Whether the text is that of the IPv4 address: four decimal numbers with dots between them.
+#[tactic(auto, using(crate::proofs::PeerLemmas::peer_some, crate::proofs::PeerLemmas::peer_none))]
+fn is_peer(text: &[u8], peer: u32) -> bool
     ensures { result ≡ is_peer peer text.now }
 {
     match after_peer(text, peer) {

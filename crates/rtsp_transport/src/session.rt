@@ -45,10 +45,7 @@ fn are_session_bytes(text: &[u8]) -> bool
 fn name_of(text: &[u8]) -> &[u8]
     ensures { result.now ≡ name_of text.now }
 {
-    match split_once(text, b';') {
-        Some((name, _)) => name,
-        None => text,
-    }
+    split_once(text, b';').map_or(text, |(name, _)| name)
 }
 
 fn is_session_name(name: &[u8]) -> bool
@@ -60,6 +57,7 @@ fn is_session_name(name: &[u8]) -> bool
 /// Reads a session's name, which is its identifier as a Session header has it: 1 to 256 letters,
 /// digits and `$ - _ . +`. From a semicolon on, as a timeout, the text is ignored (RFC 7826 section
 /// 18.49).
+#[tactic(auto, using(crate::proofs::SessionLemmas::name_spelled))]
 pub fn read_session(text: &[u8]) -> Result<&[u8], TextFault>
     ensures found { IfOk result (λ name. SpellsSession text.now name.now) }
     ensures only { (name : List ℕ) → SpellsSession text.now name
@@ -87,6 +85,7 @@ fn digit_value(byte: u8) -> u8
 
 // The number of which the text is the digits, in lower case. The bytes of a number are made each
 // for itself and without a branch, so that many of them are made at once.
+#[tactic(auto, using(crate::proofs::IdLemmas::pairs_none, crate::proofs::IdLemmas::pairs_number))]
 fn id_of(digits: &[u8]) -> Option<u128>
     requires { length digits.now ≡ 32 }
     ensures found { IfSome result (IsHexOf digits.now) }

@@ -3,10 +3,9 @@
 ghost use Rattle.std.specs.Prelude.{◌≡◌};
 ghost use Rattle.rtsp_text.specs.Results.{Gives, GivesBy};
 ghost use Rattle.rtsp_text.specs.Slices.{texts};
-ghost use Rattle.rtsp_transport.specs.Hosts.{is_bracketed, allows};
 ghost use Rattle.rtsp_transport.specs.declared.fault.TextFault.TheVariants.{OutOfMemory};
 
-use crate::address::{Address, is_peer};
+use crate::address::Address;
 use crate::channels::ChannelPair;
 use crate::fault::TextFault;
 use crate::names::{is_named, is_tcp, is_udp};
@@ -27,20 +26,6 @@ pub struct Parameter {
 pub struct Spec {
     pub protocol: Text,
     pub parameters: List<Parameter>,
-}
-
-// The host has a bracket, as an IPv6 address has.
-fn is_bracketed(host: &[u8]) -> bool
-    ensures { result ≡ is_bracketed host.now }
-{
-    host.contains(&b'[')
-}
-
-// The host is empty or the peer's.
-fn allows(peer: u32, host: &[u8]) -> bool
-    ensures { result ≡ allows peer host.now }
-{
-    host.is_empty() || is_peer(host, peer)
 }
 
 impl Parameter {
@@ -68,6 +53,7 @@ impl Parameter {
         }
     }
 
+    #[tactic(auto, using(rtsp_text::proofs::EachLemmas::step_on, rtsp_text::proofs::EachLemmas::step_done))]
     fn read_each(alloc: Global, parts: &[&[u8]]) -> Result<List<Parameter>, TextFault>
         ensures { Gives OutOfMemory result (parameters_of (texts parts.now)) }
     {
@@ -158,6 +144,7 @@ impl Spec {
     }
 
     /// The specifications that these parts spell, in order. One malformed part refuses all.
+    #[tactic(auto, using(rtsp_text::proofs::EachLemmas::step_on, rtsp_text::proofs::EachLemmas::step_done))]
     pub fn read_each(alloc: Global, parts: &[&[u8]]) -> Result<Vec<Spec>, TextFault>
         ensures { GivesBy OutOfMemory (λ v. v.items) result (specs_of (texts parts.now)) }
     {
@@ -204,10 +191,10 @@ impl Spec {
         let Some((rtp, rtcp)) = self.first_value(b"dest_addr").and_then(Address::read_pair) else {
             return Pick::Unsupported;
         };
-        if is_bracketed(rtp.host) || is_bracketed(rtcp.host) {
+        if rtp.is_bracketed() || rtcp.is_bracketed() {
             return Pick::Unsupported;
         }
-        if !(allows(peer, rtp.host) && allows(peer, rtcp.host)) {
+        if !(rtp.is_allowed(peer) && rtcp.is_allowed(peer)) {
             return Pick::Prohibited;
         }
         Pick::Udp {
@@ -223,10 +210,10 @@ impl Spec {
         let Some(place) = self.first_value(b"dest_addr").and_then(Address::read_one) else {
             return Pick::Unsupported;
         };
-        if is_bracketed(place.host) {
+        if place.is_bracketed() {
             return Pick::Unsupported;
         }
-        if !allows(peer, place.host) {
+        if !place.is_allowed(peer) {
             return Pick::Prohibited;
         }
         Pick::Mux { port: place.port }

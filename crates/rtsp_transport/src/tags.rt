@@ -23,6 +23,7 @@ fn tag_of(alloc: Global, part: &[u8]) -> Result<Text, TextFault>
     Ok(Text::from_slice(alloc, tag)?)
 }
 
+#[tactic(auto, using(rtsp_text::proofs::EachLemmas::step_on, rtsp_text::proofs::EachLemmas::step_done))]
 fn tags_in(alloc: Global, parts: &[&[u8]]) -> Result<Vec<Text>, TextFault>
     ensures { GivesBy OutOfMemory (λ v. v.items) result (tags_in (texts parts.now)) }
 {
