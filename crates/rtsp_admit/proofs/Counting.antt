@@ -19,7 +19,7 @@ use Rattle.rtsp_admit.specs.declared.failure.Failure.TheVariants as failure
 use Rattle.rtsp_admit.specs.declared.failure.NoAddress.{NoAddress}
 use Rattle.rtsp_admit.specs.declared.udp_ports.UdpPorts.{UdpPorts}
 use Rattle.rtsp_admit.specs.declared.udp_ports.UdpPorts.TheVariants as udp
-use Rattle.rtsp_admit.specs.Binder.{Calls, raised, Released, UnboundAll}
+use Rattle.rtsp_admit.specs.Binder.{Calls, Released, UnboundAll}
 use Rattle.rtsp_admit.specs.Steps.{bound_address, open_step, rate_step, ports_from, ports_step, address_step, commit_step, opening_steps, refusal_of}
 use Rattle.rtsp_admit.specs.Runs.{State, with_view, Held, Opened, NotOpened, Rated, PortsRefused, Tried, PortsGranted, NoPortsGranted, Addressed, NotAddressed, Fails}
 use Rattle.rtsp_admit.specs.Faults.{Accepts, earlier_steps, BreaksFirst, AdmissionsCountFaults}

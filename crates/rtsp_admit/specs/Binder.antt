@@ -1,5 +1,6 @@
 -- What the calls of a binder do.
-use Rattle.std.specs.Prelude.{◌≡◌, ℕ, ◌+◌, ◌-◌, ◌^◌, min, List, [], ◌∷◌, ◌++◌, map, filter_map, Option, Some}
+use Rattle.std.specs.Prelude.{◌≡◌, ℕ, List, [], ◌∷◌, ◌++◌, map, filter_map, Option, Some}
+use Rattle.rtsp_record.specs.Counters.{raised}
 use Rattle.rtsp_record.specs.declared.changes.Record.{Record}
 use Rattle.rtsp_record.specs.declared.holdings.Thing.{Thing}
 use Rattle.rtsp_record.specs.declared.holdings.Thing.TheVariants.{Pair, Port}
@@ -16,10 +17,6 @@ pub record Calls (B : Type 0) : Type 1 where
   pub fails : B → ℕ → Thing → B → Type 0
   pub unbinds : B → ℕ → Thing → B → Type 0
   pub failures : B → ℕ
-
--- one more, up to the greatest u64
-abbrev pub raised : ℕ → ℕ
-raised n = min (n + 1) (2 ^ 64 - 1)
 
 -- pairs of ports as things, each under its admission
 abbrev pub as_pairs : List (ℕ × ℕ) → List (ℕ × Thing)

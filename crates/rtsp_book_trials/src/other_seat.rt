@@ -37,7 +37,7 @@ pub struct OtherSeat<'r, 'l, R> {
 
 impl<'r, 'l, R: Wait> OtherSeat<'r, 'l, R> {
     ghost use Rattle.std.specs.Prelude.{OnOk, OnErr};
-    ghost use Rattle.rtsp_admit.specs.Binder.{raised};
+    ghost use Rattle.rtsp_record.specs.Counters.{raised};
 
     pub fn new(rt: &'r R, lock: &'l BookLock, seat: BookSeat, alloc: Global) -> Self
         requires { IsSeatOf seat lock.now }

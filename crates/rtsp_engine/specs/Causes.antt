@@ -2,7 +2,7 @@
 -- is at its end, and spent turns where each of them has read something.
 use Rattle.std.specs.Prelude.{◌≡◌, ◌≤◌, ◌<◌, ℕ, List, length, Option, Some, None}
 use Rattle.std.specs.Io.KnownBytes.{IsAtEnd, Consumes}
-use Rattle.rtsp_engine.specs.Streams.{raised}
+use Rattle.rtsp_record.specs.Counters.{raised}
 use Rattle.rtsp_engine.specs.declared.serving.ServeEnd.{ServeEnd}
 use Rattle.rtsp_engine.specs.declared.serving.ServeEnd.TheVariants.{Closed, ReadFault, WriteFault, Fault, TurnsSpent}
 

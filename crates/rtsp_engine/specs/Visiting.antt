@@ -1,11 +1,12 @@
 -- What one visit to a connection has read, answered and written, where neither reading nor writing waits.
 use Rattle.std.specs.Prelude.{◌≡◌, ◌<◌, ◌≤◌, ◌*◌, ◌⊎◌, ℕ, List, [], length, take, Option, Some, None, Result, Ok, Err}
 use Rattle.std.specs.Io.KnownBytes.{Appends, Consumes, Keeps, IsAtEnd}
+use Rattle.rtsp_record.specs.Counters.{raised}
 use Rattle.rtsp_grammar.specs.Answer.{IsUndecided}
 use Rattle.rtsp_grammar.specs.declared.message.Item.{Item}
 use Rattle.rtsp_engine.specs.Served.{Line, Parts, Progress, LastBreaksOff, Tells}
 use Rattle.rtsp_engine.specs.Serving.{Serving}
-use Rattle.rtsp_engine.specs.Streams.{WritesPart, raised}
+use Rattle.rtsp_engine.specs.Streams.{WritesPart}
 use Rattle.rtsp_engine.specs.declared.serving.ServeEnd.{ServeEnd}
 use Rattle.rtsp_engine.specs.declared.serving.ServeEnd.TheVariants as serve
 use Rattle.rtsp_engine.specs.declared.visiting.Reading.{Reading}

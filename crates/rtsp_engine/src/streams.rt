@@ -2,7 +2,8 @@
 
 ghost use Rattle.std.specs.Prelude.{◌≡◌, ◌≤◌, ℕ, List, length, take, Option, IfOk, OnOk, OnErr};
 ghost use Rattle.std.specs.Io.KnownBytes.{Appends, ReadConsumes};
-ghost use Rattle.rtsp_engine.specs.Streams.{HasCause, WritesPart};
+ghost use Rattle.rtsp_record.specs.Counters.{HasCause};
+ghost use Rattle.rtsp_engine.specs.Streams.{WritesPart};
 
 use std::io::{ErrorKind, Read, Write};
 

@@ -6,7 +6,8 @@ ghost use Rattle.rtsp_grammar.specs.Answer.{IsUndecided};
 ghost use Rattle.rtsp_grammar.specs.declared.message.Item.{Item};
 ghost use Rattle.rtsp_engine.specs.Served.{Answered, FaultedAfter, Written, at, parts};
 ghost use Rattle.rtsp_engine.specs.Serving.{Serving};
-ghost use Rattle.rtsp_engine.specs.Streams.{HasCause, WritesPart};
+ghost use Rattle.rtsp_record.specs.Counters.{HasCause};
+ghost use Rattle.rtsp_engine.specs.Streams.{WritesPart};
 ghost use Rattle.rtsp_engine.specs.Visiting.{Reads, ReadsCounted, Came, FindsNone, sides, ended, serve_end, Delivers, CountsWrite, CountsRead, CountsDelivery, ClosesAtEnd, ReadsPieces, Visits, VisitsChain};
 
 use crate::connection::Connection;

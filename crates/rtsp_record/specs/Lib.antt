@@ -9,3 +9,4 @@ pub mod Ports
 pub mod Moments
 pub mod LastWord
 pub mod Journals
+pub mod Counters

@@ -5,9 +5,10 @@ use Rattle.std.proofs.lemmas.Option.{slice_get_within}
 use Rattle.std.proofs.Math.Seq.{take-length}
 use Rattle.std.proofs.lemmas.Nat.{mul-le}
 use Rattle.rtsp_record.specs.declared.phases.Phase.{Phase}
+use Rattle.rtsp_record.specs.Counters.{raised}
 use Rattle.rtsp_record.specs.Moments.{due}
 use Rattle.rtsp_rtp.specs.declared.source.Source.{Source}
-use Rattle.rtsp_rtp.specs.Sinks.{Calls, raised}
+use Rattle.rtsp_rtp.specs.Sinks.{Calls}
 use Rattle.rtsp_rtp.specs.Pacing.{Pacing, IsOfPlay, IsPacing, schedule, units_in, packets_in}
 use Rattle.rtsp_rtp.specs.Turns.{unsent_at, PacketFailed, AllSent, SendsAll, SendsSome, Went, Failing}
 use Rattle.rtsp_rtp.proofs.Dues.{due_most}

@@ -2,10 +2,11 @@
 use Rattle.std.specs.Prelude.{◌≡◌, ℕ, ◌<◌, ◌≤◌, ◌^◌, min}
 use Rattle.rtsp_record.specs.declared.phases.Phase.{Phase}
 use Rattle.rtsp_record.specs.declared.phases.Phase.TheVariants.{Ready, Playing, Ended}
+use Rattle.rtsp_record.specs.Counters.{raised}
 use Rattle.rtsp_record.specs.Moments.{point, sent_with_due}
 use Rattle.rtsp_rtp.specs.declared.turn.LastTurn.{LastTurn}
 use Rattle.rtsp_rtp.specs.declared.turn.LastTurn.TheVariants.{Done, More, NotLeft, SinkFailed}
-use Rattle.rtsp_rtp.specs.Sinks.{Calls, raised}
+use Rattle.rtsp_rtp.specs.Sinks.{Calls}
 use Rattle.rtsp_rtp.specs.Pacing.{Pacing}
 use Rattle.rtsp_rtp.specs.Turns.{unsent_at, SendsAll, SendsSome}
 

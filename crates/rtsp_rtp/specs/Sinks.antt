@@ -1,5 +1,6 @@
 -- What the calls of a sink do.
-use Rattle.std.specs.Prelude.{◌≡◌, ℕ, ◌+◌, ◌-◌, ◌^◌, min, List}
+use Rattle.std.specs.Prelude.{◌≡◌, ℕ, List}
+use Rattle.rtsp_record.specs.Counters.{raised}
 
 -- a sink before and after it gave the octets of a unit of a track, after it sent a packet of a track, and after a call that failed; and how many calls have failed, up to the greatest u64
 pub record Calls (S : Type 0) : Type 1 where
@@ -7,10 +8,6 @@ pub record Calls (S : Type 0) : Type 1 where
   pub sends : S → ℕ → List ℕ → S → Type 0
   pub fails : S → S → Type 0
   pub failures : S → ℕ
-
--- one more, up to the greatest u64
-abbrev pub raised : ℕ → ℕ
-raised n = min (n + 1) (2 ^ 64 - 1)
 
 module _ {S : Type 0} (calls : Calls S) where
   -- it gave the octets of a unit, and no failure was counted

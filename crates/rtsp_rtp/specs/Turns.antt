@@ -1,12 +1,13 @@
 -- What a turn of a pacer does.
 use Rattle.std.specs.Prelude.{◌≡◌, ◌⊎◌, ℕ, ◌+◌, ◌<◌, List, [], ◌∷◌, drop, take, length, slice_get, Some}
 use Rattle.rtsp_record.specs.declared.phases.Phase.{Phase}
+use Rattle.rtsp_record.specs.Counters.{raised}
 use Rattle.rtsp_record.specs.Moments.{due, sent_before}
 use Rattle.rtsp_rtp.specs.declared.source.Source.{Source}
 use Rattle.rtsp_rtp.specs.declared.turn.Turn.{Turn}
 use Rattle.rtsp_rtp.specs.declared.turn.Turn.TheVariants.{More, AtEnd, OtherPlay, SinkFailed}
 use Rattle.rtsp_rtp.specs.Packets.{packet_of}
-use Rattle.rtsp_rtp.specs.Sinks.{Calls, Took, Sent, Failed, raised}
+use Rattle.rtsp_rtp.specs.Sinks.{Calls, Took, Sent, Failed}
 use Rattle.rtsp_rtp.specs.Pacing.{Pacing, IsOfPlay, first_unit, packets_in, schedule}
 
 -- the packets that are due at a moment and unsent

@@ -1,7 +1,7 @@
 //! Binds ports by their sockets.
 
 ghost use Rattle.std.specs.Prelude.{◌≡◌, ◌↔◌, IsOk, OnOk, OnErr, IsTrue};
-ghost use Rattle.rtsp_admit.specs.Binder.{raised};
+ghost use Rattle.rtsp_record.specs.Counters.{raised};
 
 use crate::ports::PortTable;
 use rtsp_admit::{BindFault, Binder};

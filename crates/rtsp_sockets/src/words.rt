@@ -1,7 +1,7 @@
 //! Words of a source of bytes.
 
 ghost use Rattle.std.specs.Prelude.{◌≡◌, ◌<◌, ◌≤◌, ◌+◌, ◌-◌, ◌%◌, ◌^◌, slice_range, IsOk, IfOk, OnOk, OnErr};
-ghost use Rattle.rtsp_admit.specs.Binder.{raised};
+ghost use Rattle.rtsp_record.specs.Counters.{raised};
 
 use rtsp_traits::WordsFault;
 use std::fs::File;

@@ -1,7 +1,8 @@
 -- What the calls of a source of words, of a clock, of those who learn of plays and of those who count sessions by address do.
 use Rattle.std.specs.Prelude.{◌≡◌, ℕ, Bool, true, false, List, Option, Some, None}
+use Rattle.rtsp_record.specs.Counters.{raised}
 use Rattle.rtsp_record.specs.declared.phases.Phase.{Phase}
-use Rattle.rtsp_admit.specs.Binder.{Calls, raised}
+use Rattle.rtsp_admit.specs.Binder.{Calls}
 
 -- a source of words before and after each word that it gives, and a call that fails; and how many have failed
 pub record WordCalls (W : Type 0) : Type 1 where

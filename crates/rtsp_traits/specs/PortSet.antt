@@ -1,8 +1,9 @@
 -- Which ports are bound, pairs and single ones, each by its admission.
 use Rattle.std.specs.Prelude.{◌≡◌, ◌≢◌, ◌≤◌, ℕ, ◌+◌, ◌-◌, ◌*◌, ◌/◌, ◌%◌, slice_get, replicate, List, Option, Some, None}
+use Rattle.rtsp_record.specs.Counters.{raised}
 use Rattle.rtsp_record.specs.declared.holdings.Thing.{Thing}
 use Rattle.rtsp_record.specs.declared.holdings.Thing.TheVariants.{Pair, Port, Chan, Rate}
-use Rattle.rtsp_admit.specs.Binder.{Calls, raised}
+use Rattle.rtsp_admit.specs.Binder.{Calls}
 use Rattle.rtsp_traits.specs.declared.port_set.PortSet.{PortSet}
 
 -- a pair of the set begins at its first port, or some pairs above it

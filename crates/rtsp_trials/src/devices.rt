@@ -1,7 +1,7 @@
 //! Devices that fail at one of their calls, or at none.
 
 ghost use Rattle.std.specs.Prelude.{◌≡◌, OnOk, OnErr};
-ghost use Rattle.rtsp_admit.specs.Binder.{raised};
+ghost use Rattle.rtsp_record.specs.Counters.{raised};
 
 use rtsp_engine::{BindFault, Binder, ByteIn, ByteOut, StreamFault, Words, WordsFault};
 use std::alloc::Global;

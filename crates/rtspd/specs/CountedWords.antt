@@ -1,6 +1,6 @@
 -- Ids and SSRCs that are counted from 1; sequence numbers and timestamps begin at 0.
 use Rattle.std.specs.Prelude.{◌≡◌, ◌⊎◌, ℕ, ◌+◌, ◌-◌, ◌^◌}
-use Rattle.rtsp_admit.specs.Binder.{raised}
+use Rattle.rtsp_record.specs.Counters.{raised}
 use Rattle.rtsp_traits.specs.Devices.{WordCalls}
 use Rattle.rtspd.specs.declared.devices.counted_words.CountedWords.{CountedWords}
 
