@@ -96,13 +96,6 @@ impl BookRep for IndexedBook {
         self.parts().sessions.get(session)
     }
 
-    fn session(&self, session: u64) -> Option<SessionView> {
-        match self.get(session) {
-            Some(view) => Some(view.copied()),
-            None => None,
-        }
-    }
-
     fn lives(&self, session: u64) -> bool {
         self.parts().sessions.lives(session)
     }

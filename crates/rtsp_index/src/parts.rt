@@ -17,7 +17,7 @@ use crate::pools::Pools;
 use crate::search::Search;
 use crate::table::SessionTable;
 use rtsp_record::{Record, Thing, Whole};
-use rtsp_sessions::allowed_for_session;
+use rtsp_sessions::{allowed_for_session, openings};
 use std::alloc::{AllocError, Global};
 
 /// The parts of an indexed book.
@@ -28,16 +28,6 @@ pub(crate) struct Parts {
     pub(crate) pools: Pools,
     pub(crate) names: Names,
     pub(crate) counts: Counts,
-}
-
-// How many records open a session.
-fn openings(changes: &[Record]) -> usize
-    ensures { result ≡ count_by is_open changes.now }
-{
-    changes
-        .iter()
-        .filter(|change| matches!(change, Record::Open(_)))
-        .count()
 }
 
 // How many records bind a startup number.

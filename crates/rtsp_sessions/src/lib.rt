@@ -22,7 +22,7 @@ mod views;
 pub use admissions::{Admissions, MOST_HOLDING};
 pub use measures::Measure;
 pub use numbers::{SessionNumbers, is_above};
-pub use plain::{PlainBook, allowed_for_session};
+pub use plain::{PlainBook, allowed_for_session, openings};
 pub use representation::BookRep;
 pub use startups::Startup;
 pub use udp_ports::UdpPorts;

@@ -18,6 +18,7 @@ use crate::udp_ports::UdpPorts;
 use crate::views::SessionView;
 pub use own::allowed_for_session;
 use rows::Rows;
+pub use rows::openings;
 use rtsp_record::{Record, Whole};
 use std::alloc::{AllocError, Global};
 use std::marker::Model;
@@ -90,13 +91,6 @@ impl BookRep for PlainBook {
 
     fn get(&self, session: u64) -> Option<&SessionView> {
         self.rows().get(session)
-    }
-
-    fn session(&self, session: u64) -> Option<SessionView> {
-        match self.rows().get(session) {
-            Some(view) => Some(view.copied()),
-            None => None,
-        }
     }
 
     fn lives(&self, session: u64) -> bool {

@@ -49,7 +49,10 @@ pub trait BookRep: Drop {
 
     /// The session of this number, where it lives.
     fn session(&self, session: u64) -> Option<SessionView>
-        ensures { result ≡ session_at (contents self.now) session };
+        ensures { result ≡ session_at (contents self.now) session }
+    {
+        self.get(session).map(|view| view.copied())
+    }
 
     /// Whether the session of this number lives.
     fn lives(&self, session: u64) -> bool
