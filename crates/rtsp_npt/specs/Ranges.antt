@@ -26,7 +26,7 @@ pub record SpellsSides (text : List ℕ) (start stop : Option Time) : Type 0 whe
   pub spells_start : SpellsSide first start
   pub spells_stop : SpellsSide last stop
 
--- the unit alone, without a dash, has neither a start nor a stop
+-- the unit alone has neither a start nor a stop; with a dash there is one of them at least
 abbrev pub SpellsBounds : List ℕ → Option Time → Option Time → Type 0
 SpellsBounds text None None = IsNpt text
 SpellsBounds text None (Some stop) = SpellsSides text None (Some stop)

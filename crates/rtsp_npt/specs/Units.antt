@@ -62,11 +62,11 @@ abbrev pub stop_unit : Option Time → ℕ → ℕ → ℕ
 stop_unit None unit_ms units = units
 stop_unit (Some stop) unit_ms units = min (div_ceil stop.nanos (unit_nanos unit_ms)) units
 
--- whether a written stop, before the unit `last`, is no later than the start
+-- whether a written stop is no later than the start, where the range stops before the unit `end`
 abbrev pub is_backwards : Option Time → Option Time → ℕ → ℕ → Bool
-is_backwards start None resume last = false
-is_backwards None (Some stop) resume last = nat_le last resume
-is_backwards (Some start) (Some stop) resume last = nat_le stop.nanos start.nanos
+is_backwards start None resume end = false
+is_backwards None (Some stop) resume end = nat_le end resume
+is_backwards (Some start) (Some stop) resume end = nat_le stop.nanos start.nanos
 
 -- the units of a range
 unfoldable pub units_of : Range → ℕ → ℕ → ℕ → Result Span OutOfMedia

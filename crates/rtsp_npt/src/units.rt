@@ -38,13 +38,13 @@ impl Range {
         }
     }
 
-    // Whether a written stop, which stops at this unit, is not above the start.
-    fn is_backwards(self, resume: u32, stop_unit: u32) -> bool
-        ensures { result ≡ is_backwards self.start self.stop resume stop_unit }
+    // Whether a written stop is not above the start. The range stops before the unit `end`.
+    fn is_backwards(self, resume: u32, end: u32) -> bool
+        ensures { result ≡ is_backwards self.start self.stop resume end }
     {
         match (self.start, self.stop) {
             (_, None) => false,
-            (None, Some(_)) => stop_unit <= resume,
+            (None, Some(_)) => end <= resume,
             (Some(start), Some(stop)) => stop <= start,
         }
     }
