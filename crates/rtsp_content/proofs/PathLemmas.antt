@@ -1,11 +1,13 @@
 -- What is found is what the path names.
-use Rattle.std.proofs.Common.{◌≡◌, ◌∙◌, ap, sym, refl, ℕ, ◌+◌, ◌<◌, ◌≤◌, Bool, true, false, List, [], ◌∷◌, ◌++◌, length, drop, get_or, Option, None, Some, inl, inr, arith, suc, zero, codes, slice_get, ◌≢◌, subst}
-use Rattle.std.specs.List.{position_from}
+use Rattle.std.proofs.Common.{◌≡◌, ◌∙◌, ap, sym, refl, ℕ, ◌+◌, ◌<◌, ◌≤◌, Bool, true, false, cond, ltb, List, [], ◌∷◌, ◌++◌, length, drop, get_or, Option, None, Some, inl, inr, arith, suc, zero, codes, slice_get, ◌≢◌, subst}
+use Rattle.std.specs.List.{position_from, position_or_len}
 use Rattle.std.specs.Str.{bytes_eq}
-use Rattle.std.proofs.lemmas.List.{drop_more, drop_all}
+use Rattle.std.proofs.lemmas.List.{drop_more, drop_all, length-drop}
+use Rattle.std.proofs.lemmas.List.Sums.{passes_at_first, fails_before_first}
+use Rattle.std.proofs.lemmas.Iterator.Adapters.{position_from-zero}
+use Rattle.std.proofs.lemmas.Option.{slice_get-get_or, get_or_from_slice_get, slice_get_within, same_Some}
 use Rattle.std.proofs.lemmas.Slice.Eq.{bytes_eq-Decides}
-use Rattle.std.proofs.lemmas.Bool.{cases_Bool, false≢true}
-use Rattle.rtsp_content.specs.declared.found.Found.{Found}
+use Rattle.std.proofs.lemmas.Bool.{cases_Bool, cases_lt, ltb-true, ltb-false, false≢true}
 use Rattle.rtsp_content.specs.declared.found.Found.TheVariants.{Presentation, Track, Nothing}
 use Rattle.rtsp_content.specs.TrackValue.{TrackValue}
 use Rattle.rtsp_content.specs.PresentationValue.{PresentationValue}
@@ -48,148 +50,77 @@ presentation_path-false p path h (inr slash) =
       | inr other ↦ false≢true (sym h ∙ rw (other, (bytes_eq-Decides path (presentation_path p ++ codes "/")).1 slash) refl)
     ]
 
--- an element that passes stands there, where places are counted from i
-pub record PassesAt {X : Type 0} (test : X → Bool) (i : ℕ) (xs : List X) (j : ℕ) : Type 0 where
-  pub index : ℕ
-  pub element : X
-  pub counted : j ≡ i + index
-  pub stands : slice_get xs index ≡ Some element
-  pub passes : test element ≡ true
+-- an element that passes stands at the place
+record PassesAt {X : Type 0} (test : X → Bool) (xs : List X) (j : ℕ) : Type 0 where
+  element : X
+  stands : slice_get xs j ≡ Some element
+  passes : test element ≡ true
 
--- the place of an element that passes, counted from i, or none that passes
-abbrev pub Places : {X : Type 0} → (X → Bool) → ℕ → List X → Option ℕ → Type 0
-Places {X} test i xs (Some j) = PassesAt test i xs j
-Places {X} test i xs None = (k : ℕ) (x : X) → slice_get xs k ≡ Some x → test x ≡ false
+-- the place of an element that passes, or none passes
+abbrev Places : {X : Type 0} → (X → Bool) → List X → Option ℕ → Type 0
+Places {X} test xs (Some j) = PassesAt test xs j
+Places {X} test xs None = (k : ℕ) (x : X) → slice_get xs k ≡ Some x → test x ≡ false
 
-none_behind : {X : Type 0} (test : X → Bool) (y : X) (xs : List X) → test y ≡ false → ((k : ℕ) (x : X) → slice_get xs k ≡ Some x → test x ≡ false)
-    → (k : ℕ) (x : X) → slice_get (y ∷ xs) k ≡ Some x → test x ≡ false
-none_behind test y xs fails all zero x there = let same : y ≡ x = cc in ap test (sym same) ∙ fails
-none_behind test y xs fails all (suc k) x there = all k x there
+places : {X : Type 0} (test : X → Bool) (xs : List X) → Places test xs (position_from test 0 xs)
+places test [] = λ k x there. absurd cc
+places {X} test (x ∷ rest) = subst (Places test xs) (position_from-zero test xs) (go (ltb j (length xs)) refl) where
+  xs : List X
+  xs = x ∷ rest
 
-places-behind : {X : Type 0} (test : X → Bool) (i : ℕ) (y : X) (xs : List X) (r : Option ℕ) → test y ≡ false → Places test (i + 1) xs r → Places test i (y ∷ xs) r
-places-behind test i y xs (Some j) fails h = record {
-  index = suc h.index;
-  element = h.element;
-  counted = omega (arith, h.counted);
-  stands = h.stands;
-  passes = h.passes;
-}
-places-behind test i y xs None fails all = none_behind test y xs fails all
+  j : ℕ
+  j = position_or_len test xs
 
-pub position_from-places : {X : Type 0} (test : X → Bool) (i : ℕ) (xs : List X) → Places test i xs (position_from test i xs)
-position_from-places test i [] = λ k x there. absurd (cc)
-position_from-places test i (y ∷ xs) =
-    elim (cases_Bool (test y)) [
-      | inl pass ↦ rw pass (here pass)
-      | inr fails ↦ rw fails (places-behind test i y xs (position_from test (i + 1) xs) fails (position_from-places test (i + 1) xs))
-    ] where
-      here : test y ≡ true → PassesAt test i (y ∷ xs) i
-      here pass = record { index = 0; element = y; counted = omega arith; stands = refl; passes = pass }
+  go : (b : Bool) → ltb j (length xs) ≡ b → Places test xs (cond b (Some j) None)
+  go true low = record { element = get_or xs j x; stands = slice_get-get_or xs j x (ltb-true j (length xs) low); passes = passes_at_first test xs x (ltb-true j (length xs) low) }
+  go false high = λ k y there.
+      ap test (sym (get_or_from_slice_get xs k y y there)) ∙ fails_before_first test xs k y (omega (arith, ltb-false j (length xs) high, slice_get_within xs k y there))
+
+-- what stands at a place, and what follows it
+at_front : {X : Type 0} (xs : List X) (i : ℕ) (x : X) (rest : List X) → drop i xs ≡ x ∷ rest → (slice_get xs i ≡ Some x) × (drop (i + 1) xs ≡ rest)
+at_front [] zero x rest h = absurd cc
+at_front [] (suc i) x rest h = absurd cc
+at_front (y ∷ xs) zero x rest h = (cc, cc)
+at_front (y ∷ xs) (suc i) x rest h =
+    let later = at_front xs i x rest h in
+    let next : suc i + 1 ≡ suc (i + 1) = omega arith in
+    (later.0, ap (λ k. drop k (y ∷ xs)) next ∙ later.1)
 
 -- no path of the presentation, and of none of its tracks
-abbrev pub IsElsewhere : PresentationValue → List ℕ → Type 0
-IsElsewhere p path = (¬ IsPathOf p path) × ((j : ℕ) (t : TrackValue) → slice_get p.tracks j ≡ Some t → path ≢ track_path p t)
+abbrev IsElsewhere : List ℕ → PresentationValue → Type 0
+IsElsewhere path p = (¬ IsPathOf p path) × ((j : ℕ) (t : TrackValue) → slice_get p.tracks j ≡ Some t → path ≢ track_path p t)
 
--- the presentation there, where they are counted from i, has the path
-pub record NamesPresentationFrom (i : ℕ) (ps : List PresentationValue) (path : List ℕ) (n : ℕ) : Type 0 where
-  pub index : ℕ
-  pub presentation : PresentationValue
-  pub counted : n ≡ i + index
-  pub stands : slice_get ps index ≡ Some presentation
-  pub path_is : IsPathOf presentation path
-
--- the track of that index of the presentation there, where they are counted from i, has the path
-pub record NamesTrackFrom (i : ℕ) (ps : List PresentationValue) (path : List ℕ) (n j : ℕ) : Type 0 where
-  pub index : ℕ
-  pub presentation : PresentationValue
-  pub track : TrackValue
-  pub counted : n ≡ i + index
-  pub stands : slice_get ps index ≡ Some presentation
-  pub track_stands : slice_get presentation.tracks j ≡ Some track
-  pub path_is : path ≡ track_path presentation track
-
--- what the path names among presentations that are counted from i
-abbrev pub NamesFrom : ℕ → List PresentationValue → List ℕ → Found → Type 0
-NamesFrom i ps path (Presentation n) = NamesPresentationFrom i ps path n
-NamesFrom i ps path (Track n j) = NamesTrackFrom i ps path n j
-NamesFrom i ps path Nothing = (k : ℕ) (p : PresentationValue) → slice_get ps k ≡ Some p → IsElsewhere p path
-
-elsewhere-behind : (p : PresentationValue) (ps : List PresentationValue) (path : List ℕ) → IsElsewhere p path → ((k : ℕ) (q : PresentationValue) → slice_get ps k ≡ Some q → IsElsewhere q path)
-    → (k : ℕ) (q : PresentationValue) → slice_get (p ∷ ps) k ≡ Some q → IsElsewhere q path
-elsewhere-behind p ps path here all zero q there = let same : p ≡ q = cc in subst (λ (q : PresentationValue). IsElsewhere q path) same here
-elsewhere-behind p ps path here all (suc k) q there = all k q there
-
-names-behind : (i : ℕ) (p : PresentationValue) (ps : List PresentationValue) (path : List ℕ) (found : Found) → IsElsewhere p path → NamesFrom (i + 1) ps path found → NamesFrom i (p ∷ ps) path found
-names-behind i p ps path (Presentation n) here h = record {
-  index = suc h.index;
-  presentation = h.presentation;
-  counted = omega (arith, h.counted);
-  stands = h.stands;
-  path_is = h.path_is;
-}
-names-behind i p ps path (Track n j) here h = record {
-  index = suc h.index;
-  presentation = h.presentation;
-  track = h.track;
-  counted = omega (arith, h.counted);
-  stands = h.stands;
-  track_stands = h.track_stands;
-  path_is = h.path_is;
-}
-names-behind i p ps path Nothing here all = elsewhere-behind p ps path here all
-
-no_track : (p : PresentationValue) (path : List ℕ) → ((j : ℕ) (t : TrackValue) → slice_get p.tracks j ≡ Some t → is_track_path p path t ≡ false)
-    → (j : ℕ) (t : TrackValue) → slice_get p.tracks j ≡ Some t → path ≢ track_path p t
-no_track p path all j t there is = false≢true (sym (all j t there) ∙ (bytes_eq-Decides path (track_path p t)).1 is)
-
-names-track_or : (i : ℕ) (p : PresentationValue) (ps : List PresentationValue) (path : List ℕ) (r : Option ℕ) (found : Found) → ¬ IsPathOf p path → Places (is_track_path p path) 0 p.tracks r
-    → NamesFrom (i + 1) ps path found → NamesFrom i (p ∷ ps) path (track_or i r found)
-names-track_or i p ps path (Some j) found other h rest =
-    let same : h.index ≡ j = omega (arith, h.counted) in
-    record {
-      index = 0;
-      presentation = p;
-      track = h.element;
-      counted = omega arith;
-      stands = refl;
-      track_stands = ap (slice_get p.tracks) (sym same) ∙ h.stands;
-      path_is = (bytes_eq-Decides path (track_path p h.element)).0 h.passes;
-    }
-names-track_or i p ps path None found other all rest = names-behind i p ps path found (other, no_track p path all) rest
-
-pub find_from-names : (i : ℕ) (ps : List PresentationValue) (path : List ℕ) → NamesFrom i ps path (find_from i ps path)
+-- what is found from presentation i on is what the path names, where it is no path of those before
+find_from-names : (table : TableValue) (path : List ℕ) (i : ℕ) (ps : List PresentationValue) → drop i table.presentations ≡ ps
+    → ((k : ℕ) (p : PresentationValue) → k < i → slice_get table.presentations k ≡ Some p → IsElsewhere path p) → Names table path (find_from i ps path)
 unfolding find_from
-find_from-names i [] path = λ k p there. absurd (cc)
-find_from-names i (p ∷ ps) path =
+find_from-names table path i [] end before = λ k p there.
+    before k p (omega (arith, length-drop i table.presentations, ap length end, slice_get_within table.presentations k p there)) there
+find_from-names table path i (p ∷ ps) from before =
     elim (cases_Bool (is_presentation_path p path)) [
-      | inl bare ↦ rw bare (here bare)
-      | inr other ↦
-          rw other
-          (names-track_or i p ps path (position_from (is_track_path p path) 0 p.tracks) (find_from (i + 1) ps path) (presentation_path-false p path other)
-          (position_from-places (is_track_path p path) 0 p.tracks) (find_from-names (i + 1) ps path))
+      | inl bare ↦ rw bare (record { presentation = p; stands = front.0; path_is = presentation_path-true p path bare })
+      | inr other ↦ rw other (go (position_from (is_track_path p path) 0 p.tracks) (places (is_track_path p path) p.tracks) other (find_from-names table path (i + 1) ps front.1))
     ] where
-      here : is_presentation_path p path ≡ true → NamesPresentationFrom i (p ∷ ps) path i
-      here is = record { index = 0; presentation = p; counted = omega arith; stands = refl; path_is = presentation_path-true p path is }
+      front : (slice_get table.presentations i ≡ Some p) × (drop (i + 1) table.presentations ≡ ps)
+      front = at_front table.presentations i p ps from
 
-names-from_0 : (table : TableValue) (path : List ℕ) (found : Found) → NamesFrom 0 table.presentations path found → Names table path found
-names-from_0 table path (Presentation n) h =
-    let same : h.index ≡ n = omega (arith, h.counted) in
-    record {
-      presentation = h.presentation;
-      stands = ap (slice_get table.presentations) (sym same) ∙ h.stands;
-      path_is = h.path_is;
-    }
-names-from_0 table path (Track n j) h =
-    let same : h.index ≡ n = omega (arith, h.counted) in
-    record {
-      presentation = h.presentation;
-      track = h.track;
-      stands = ap (slice_get table.presentations) (sym same) ∙ h.stands;
-      track_stands = h.track_stands;
-      path_is = h.path_is;
-    }
-names-from_0 table path Nothing all = all
+      go : (r : Option ℕ) → Places (is_track_path p path) p.tracks r → is_presentation_path p path ≡ false
+          → (((k : ℕ) (q : PresentationValue) → k < i + 1 → slice_get table.presentations k ≡ Some q → IsElsewhere path q) → Names table path (find_from (i + 1) ps path))
+          → Names table path (track_or i r (find_from (i + 1) ps path))
+      go (Some j) h other more = record {
+        presentation = p;
+        track = h.element;
+        stands = front.0;
+        track_stands = h.stands;
+        path_is = (bytes_eq-Decides path (track_path p h.element)).0 h.passes;
+      }
+      go None none other more = more (λ k q below there. elim (cases_lt k i) [
+        | inl low ↦ before k q low there
+        | inr high ↦
+            let same : k ≡ i = omega arith in
+            let is : p ≡ q = same_Some p q (sym front.0 ∙ ap (slice_get table.presentations) (sym same) ∙ there) in
+            subst (IsElsewhere path) is (presentation_path-false p path other, λ j t at is. false≢true (sym (none j t at) ∙ (bytes_eq-Decides path (track_path p t)).1 is))
+      ])
 
 -- what is found is what the path names
 pub find_of-names : (table : TableValue) (path : List ℕ) → Names table path (find_of table path)
-find_of-names table path = names-from_0 table path (find_of table path) (find_from-names 0 table.presentations path)
+find_of-names table path = find_from-names table path 0 table.presentations refl (λ k p low. absurd (omega (arith, low)))
