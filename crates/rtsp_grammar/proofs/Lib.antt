@@ -7,7 +7,6 @@ pub mod ClassLemmas
 pub mod VersionLemmas
 pub mod MethodLemmas
 pub mod ValueLemmas
-pub mod OnlyLemmas
 pub mod HeaderLemmas
 pub mod StartLemmas
 pub mod FoldRules

@@ -98,6 +98,7 @@ impl Headers {
     }
 
     /// How many headers have this name, without regard to ASCII case.
+    #[tactic(auto, using(crate::proofs::ValueLemmas::no_values))]
     pub fn count_of(&self, name: &[u8]) -> usize
         ensures { result ≡ length (values_of name.now self.now) }
     {
@@ -111,6 +112,7 @@ impl Headers {
     }
 
     /// The value of the header of this name that comes after `before` others of that name.
+    #[tactic(auto, using(crate::proofs::ValueLemmas::no_values))]
     pub fn nth_value(&self, name: &[u8], before: usize) -> Option<&[u8]>
         ensures { option_map (λ v. v.now) result ≡ slice_get (values_of name.now self.now) before }
     {
@@ -129,6 +131,7 @@ impl Headers {
 
     /// The value of the one header of this name; None where there is none, `Repeated` where there are
     /// more. The headers are gone over once.
+    #[tactic(auto, using(crate::proofs::ValueLemmas::no_values))]
     pub fn only_value(&self, name: &[u8]) -> Result<Option<&[u8]>, Repeated>
         ensures one { IfOk result (λ found. values_of name.now self.now ≡ cons_option (option_map (λ v. v.now) found) []) }
         ensures several { OnErr result (1 < length (values_of name.now self.now)) }

@@ -1,16 +1,13 @@
-use Rattle.std.proofs.Common.{arith, sym, ◌∙◌}
-use Rattle.rtsp_grammar.proofs.ValueLemmas.{nth_here, nth_named, nth_other, nth_done}
+use Rattle.std.proofs.Common.{sym, ◌∙◌}
+use Rattle.rtsp_grammar.proofs.ValueLemmas.{values_named, values_other, place_behind}
 use Rattle.rtsp_grammar.proofs.header.Headers.nth_value.Goals as goal
 use Rattle.rtsp_grammar.proofs.header.Headers.nth_value.Goals.{then-is_named+else-left-eq0, else-is_named}
 
 pub returns-then-left-eq0 : goal.returns-then-left-eq0
-returns-then-left-eq0 c = nth_here c.args.name.now c.args.self.now c.loop-index.index _ c.loop-index.left _ c.get-header.ensures (sym c.is_named.ensures ∙ c.if-is_named.true) c.if-left-eq0.true c.loop-index.invariant
+returns-then-left-eq0 c = rw (values_named _ _ _ _ c.get-header.ensures (sym c.is_named.ensures ∙ c.if-is_named.true), c.if-left-eq0.true) at c.loop-index.invariant
 
 pub loop-index-preserved : goal.loop-index-preserved
 loop-index-preserved c = elim c.if-is_named.branch [
-  | then-is_named+else-left-eq0 w ↦ nth_named c.args.name.now c.args.self.now c.loop-index.index _ c.loop-index.left c.if-is_named.left _ c.get-header.ensures (sym c.is_named.ensures ∙ w.if-is_named.true) w.if-left-eq0.false w.left-is c.loop-index.invariant
-  | else-is_named w ↦ nth_other c.args.name.now c.args.self.now c.loop-index.index _ c.loop-index.left c.if-is_named.left _ c.get-header.ensures (sym c.is_named.ensures ∙ w.if-is_named.false) w.left-is c.loop-index.invariant
+  | then-is_named+else-left-eq0 w ↦ sym (place_behind _ _ _ _ w.if-left-eq0.false w.left-is) ∙ (rw (values_named _ _ _ _ c.get-header.ensures (sym c.is_named.ensures ∙ w.if-is_named.true)) at c.loop-index.invariant)
+  | else-is_named w ↦ rw w.left-is (rw (values_other _ _ _ _ c.get-header.ensures (sym c.is_named.ensures ∙ w.if-is_named.false)) at c.loop-index.invariant)
 ]
-
-pub returns : goal.returns
-returns c = nth_done c.args.name.now c.args.self.now c.loop-index.index c.loop-index.left _ (omega (arith, c.len-index-end.ensures, c.loop-index-test.false)) c.loop-index.invariant
