@@ -2,7 +2,8 @@
 
 use crate::rows::{Lines, cut, hold_lines};
 use rtsp_npt::{
-    OutOfMedia, RangeFault, UnitLength, read_range, resolve, write_range, write_stop, write_time,
+    OutOfMedia, RangeFault, Span, UnitLength, read_range, resolve, write_range, write_stop,
+    write_time,
 };
 use std::alloc::{AllocError, Global};
 
@@ -10,7 +11,7 @@ use std::alloc::{AllocError, Global};
 fn taken(alloc: Global, text: &str, halt: u32) -> Result<String, AllocError> {
     match read_range(text.as_bytes()) {
         Ok(range) => match resolve(range, halt, UnitLength::new(20), 500) {
-            Ok((from, stop)) => format!(in alloc; "{from} to {stop}"),
+            Ok(Span { from, stop }) => format!(in alloc; "{from} to {stop}"),
             Err(OutOfMedia) => String::from_str(alloc, "outside"),
         },
         Err(RangeFault::NotNpt) => String::from_str(alloc, "not npt"),
