@@ -1,5 +1,6 @@
 -- PLAY (RFC 7826 section 13.4): a track; a presentation.
 use Rattle.std.specs.Prelude.{ℕ, ◌+◌, ◌==◌, not, List, [], ◌∷◌, ◌++◌, length, codes, slice_get, Option, Some, None, Result, Ok, Err, if◌then◌else◌}
+use Rattle.std.specs.Option.{option_and}
 use Rattle.rtsp_state.specs.declared.status.Status.TheVariants.{BadRequest, SessionNotFound, MethodNotValid, HeaderNotValid, InvalidRange, OnlyAggregateAllowed}
 use Rattle.rtsp_state.specs.declared.fault.Fault.{Fault}
 use Rattle.rtsp_state.specs.declared.fault.Fault.TheVariants.{Refused}
@@ -14,7 +15,7 @@ use Rattle.rtsp_record.specs.declared.streams.Stream.{Stream}
 use Rattle.rtsp_npt.specs.Reading.{range_of}
 use Rattle.rtsp_npt.specs.Units.{units_of}
 use Rattle.rtsp_npt.specs.declared.range.Range.{Range}
-use Rattle.rtsp_npt.specs.declared.range.Range.TheVariants as ranges
+use Rattle.rtsp_npt.specs.declared.units.Span.{Span}
 use Rattle.rtsp_npt.specs.declared.fault.RangeFault.{RangeFault}
 use Rattle.rtsp_npt.specs.declared.fault.RangeFault.TheVariants as faults
 use Rattle.rtsp_npt.specs.declared.fault.OutOfMedia.{OutOfMedia}
@@ -38,19 +39,12 @@ range_read (Ok range) = Ok range
 range_read (Err fault) = Err (fault_of fault)
 
 abbrev pub range_in : Option (List ℕ) → Result Range Fault
-range_in None = Ok ranges.Rest
+range_in None = Ok (record { start = None; stop = None })
 range_in (Some value) = range_read (range_of value)
 
--- a start that is written; else the step starts at the point
-abbrev pub from_of : Range → ℕ → Option ℕ
-from_of ranges.Rest from = None
-from_of (ranges.From start) from = Some from
-from_of (ranges.Until stop) from = None
-from_of (ranges.Between start stop) from = Some from
-
--- the units that are asked for lie in the media
-abbrev pub units_in : Range → Result (ℕ × ℕ) OutOfMedia → Result Units Fault
-units_in range (Ok units) = Ok (record { from = from_of range units.0; stop = units.1 })
+-- the units that are asked for lie in the media; where no start is written, the step starts at the point
+abbrev pub units_in : Range → Result Span OutOfMedia → Result Units Fault
+units_in range (Ok taken) = Ok (record { from = option_and range.start (Some taken.from); stop = taken.stop })
 units_in range (Err outside) = Err (Refused InvalidRange)
 
 abbrev pub units_asked : ContextValue → Living → PresentationValue → Result Units Fault

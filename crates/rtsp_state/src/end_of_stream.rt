@@ -3,7 +3,7 @@
 ghost use Rattle.std.specs.Prelude.{◌≡◌, ◌≤◌, length, ◌∷◌, [], ◌++◌, OnOk, IfOk};
 ghost use Rattle.rtsp_state.specs.Lines.{cseq_line, session_line};
 ghost use Rattle.rtsp_state.specs.Info.{info_line};
-ghost use Rattle.rtsp_state.specs.Notify.{IsEnded, stop_of, sent_of, reason_line, success_text, request_status_text, request_status_line, stop_line, end_lines, notify};
+ghost use Rattle.rtsp_state.specs.Notify.{IsEnded, reason_line, success_text, request_status_text, request_status_line, stop_line, end_lines, notify};
 
 use crate::context::streams_of;
 use crate::media_uri::MediaUri;
@@ -129,17 +129,6 @@ fn headers_of(alloc: Global, play: &EndedPlay) -> Result<Headers, AllocError>
     Ok(headers.into_headers())
 }
 
-// Where an ended play stopped, and how many units were sent.
-fn end_of(phase: Phase) -> (u32, u32)
-    requires { IsEnded phase }
-    ensures { result ≡ (stop_of phase, sent_of phase) }
-{
-    match phase {
-        Phase::Ended { at, sent } => (at, sent),
-        Phase::Ready { .. } | Phase::Playing { .. } => unreachable!(),
-    }
-}
-
 /// The request that reports the end of a session's play to its client. The presentation is that of
 /// the session's streams, `uri` is the URI of the PLAY and `play_cseq` its number; `cseq` is the
 /// server's own number on the connection.
@@ -154,7 +143,9 @@ pub fn notify(
     requires { IsEnded view.now.1.phase }
     ensures { IfOk result (λ request. request ≡ notify uri.now view.now presentation.now cseq play_cseq) }
 {
-    let (stop, sent) = end_of(view.phase());
+    let Phase::Ended { at, sent } = view.phase() else {
+        unreachable!()
+    };
     let streams = streams_of(alloc, view)?;
     let Ok(info) = rtp_info(alloc, &uri.base, &streams, presentation.tracks()) else {
         return Err(AllocError);
@@ -163,7 +154,7 @@ pub fn notify(
         cseq,
         session: view.id(),
         play_cseq,
-        stop,
+        stop: at,
         unit_ms: presentation.unit_ms(),
         sent,
         info,

@@ -6,7 +6,7 @@ ghost use Rattle.rtsp_state.specs.Conduct.{IsConducted};
 ghost use Rattle.rtsp_state.specs.Context.{context_value};
 ghost use Rattle.rtsp_state.specs.declared.method.Method.TheVariants as methods;
 ghost use Rattle.rtsp_state.specs.StateTable.{row};
-ghost use Rattle.rtsp_state.specs.Play.{fault_of, range_in, from_of, units_in, units_asked, stream_of, stream_info, rtp_info_from, play_presentation};
+ghost use Rattle.rtsp_state.specs.Play.{fault_of, range_in, units_in, units_asked, stream_of, stream_info, rtp_info_from, play_presentation};
 
 use crate::context::{Context, is_other, streams_of, timing_of};
 use crate::fault::{Fault, must};
@@ -20,7 +20,7 @@ use crate::values::single_value;
 use rtsp_book::{Play, SessionView, Step};
 use rtsp_content::{Presentation, Track};
 use rtsp_grammar::Text;
-use rtsp_npt::{OutOfMedia, Range, RangeFault, read_range, resolve};
+use rtsp_npt::{OutOfMedia, Range, RangeFault, Span, read_range, resolve};
 use rtsp_record::Stream;
 use std::alloc::Global;
 
@@ -46,7 +46,10 @@ fn range_in(value: Option<&[u8]>) -> Result<Range, Fault>
     ensures { result ≡ range_in (option_map (λ v. v.now) value.entry) }
 {
     let Some(value) = value else {
-        return Ok(Range::Rest);
+        return Ok(Range {
+            start: None,
+            stop: None,
+        });
     };
     match read_range(value) {
         Ok(range) => Ok(range),
@@ -54,24 +57,16 @@ fn range_in(value: Option<&[u8]>) -> Result<Range, Fault>
     }
 }
 
-fn from_of(range: Range, from: u32) -> Option<u32>
-    ensures { result ≡ from_of range from }
-{
-    match range {
-        Range::Rest | Range::Until { .. } => None,
-        Range::From { .. } | Range::Between { .. } => Some(from),
-    }
-}
-
-fn units_in(range: Range, resolved: Result<(u32, u32), OutOfMedia>) -> Result<Units, Fault>
-    requires { IfOk resolved (λ taken. taken.1 ≤ 10000000) }
+// The units that a range takes. They are played from the session's point where no start is written.
+fn units_in(range: Range, resolved: Result<Span, OutOfMedia>) -> Result<Units, Fault>
+    requires { IfOk resolved (λ taken. taken.stop ≤ 10000000) }
     ensures value { result ≡ units_in range resolved }
     ensures most { IfOk result (λ units. units.stop ≤ 10000000) }
 {
     match resolved {
-        Ok((from, stop)) => Ok(Units {
-            from: from_of(range, from),
-            stop,
+        Ok(taken) => Ok(Units {
+            from: range.start.and(Some(taken.from)),
+            stop: taken.stop,
         }),
         Err(_) => Err(Fault::Refused(Status::InvalidRange)),
     }
