@@ -6,7 +6,7 @@
 //! is free), Rules (when a record is allowed), Sound (what is true of the book of every legal
 //! journal), Ports (what is held and what is free of the UDP ports, counted), Journals (a journal
 //! undone, or with entries left out), LastWord (the book in a journal's own words), Moments (how far
-//! a play is).
+//! a play is), Counters (failures, counted).
 
 #![tactic(auto)]
 
