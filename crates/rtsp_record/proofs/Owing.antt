@@ -2,7 +2,7 @@
 use Rattle.std.proofs.Common.{◌≡◌, ◌+◌, ◌≤◌, not, refl, arith}
 use Rattle.rtsp_record.specs.declared.holdings.Whole.{Whole}
 use Rattle.rtsp_record.specs.declared.changes.Record.{Record}
-use Rattle.rtsp_record.specs.declared.changes.Record.TheVariants.{Open, Hold, Add, Move, Bind}
+use Rattle.rtsp_record.specs.declared.changes.Record.TheVariants.{Open, Move}
 use Rattle.rtsp_record.specs.Records.{inverse_of}
 use Rattle.rtsp_record.specs.Books.{Book, after}
 use Rattle.rtsp_record.specs.Sums.{is_opening, returns, owed, newly_owed}
@@ -15,11 +15,7 @@ gain_newly (Open k) = refl
 gain_newly r = refl
 
 pub newly_one : (r : Record) → newly_owed r ≤ 1
-newly_one (Open k) = omega arith
-newly_one (Hold k) = omega arith
-newly_one (Add k) = omega arith
 newly_one (Move k) = at_most_one (not (is_opening k.to))
-newly_one (Bind k) = omega arith
 newly_one r = omega arith
 
 -- after an allowed record

@@ -6,7 +6,7 @@ use Rattle.std.specs.Prelude.{Option, Some, None, sum_by}
 use Rattle.std.proofs.lemmas.List.Sums.{sum_by-cons}
 use Rattle.std.specs.FinMap.{empty, entries}
 use Rattle.rtsp_record.specs.declared.holdings.Thing.{Thing}
-use Rattle.rtsp_record.specs.declared.holdings.Thing.TheVariants.{Pair, Port, Chan, Rate}
+use Rattle.rtsp_record.specs.declared.holdings.Thing.TheVariants.{Pair, Port, Rate}
 use Rattle.rtsp_record.specs.declared.holdings.Whole.{Whole}
 use Rattle.rtsp_record.specs.declared.changes.Entry.{Entry}
 use Rattle.rtsp_record.specs.declared.changes.Record.{Record}
@@ -145,9 +145,7 @@ covered_by b =
   where
     each : (x : Thing) → ports.thing x ≡ 2 * pairs.thing x + singles.thing x
     each (Pair p) = omega arith
-    each (Port p) = omega arith
-    each (Chan c k) = omega arith
-    each (Rate n) = omega arith
+    each x = omega arith
 
 -- what pairs and single ports leave of all ports is free
 pub ports_left : (w : Whole) (j : List Entry) → IsLegal w j → 2 * amount pairs (book_of j) + amount singles (book_of j) + free_ports w (book_of j) ≡ 2 * w.pairs

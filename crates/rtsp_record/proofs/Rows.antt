@@ -12,13 +12,7 @@ use Rattle.rtsp_record.proofs.Tables.{weigh, at_key, get-set, get-set_own, get-s
 
 or_bare_row : (r : Option ℕ) (x : Option Thing) (v : Option Stream) → or_bare (row r x v) ≡ record { rate = r; address = x; stream = v }
 or_bare_row None None None = refl
-or_bare_row None None (Some v) = refl
-or_bare_row None (Some x) None = refl
-or_bare_row None (Some x) (Some v) = refl
-or_bare_row (Some r) None None = refl
-or_bare_row (Some r) None (Some v) = refl
-or_bare_row (Some r) (Some x) None = refl
-or_bare_row (Some r) (Some x) (Some v) = refl
+or_bare_row r x v = refl
 
 pub or_bare_kept : (d : Admission) → or_bare (kept d) ≡ d
 or_bare_kept d = or_bare_row d.rate d.address d.stream
@@ -37,13 +31,7 @@ with_under-back f a d e normal is =
 
 weigh_kept : (u : ℕ × Admission → ℕ) (a : ℕ) (r : Option ℕ) (x : Option Thing) (v : Option Stream) → u (a, bare) ≡ 0 → weigh u a (row r x v) ≡ u (a, record { rate = r; address = x; stream = v })
 weigh_kept u a None None None z = sym z
-weigh_kept u a None None (Some v) z = refl
-weigh_kept u a None (Some x) None z = refl
-weigh_kept u a None (Some x) (Some v) z = refl
-weigh_kept u a (Some r) None None z = refl
-weigh_kept u a (Some r) None (Some v) z = refl
-weigh_kept u a (Some r) (Some x) None z = refl
-weigh_kept u a (Some r) (Some x) (Some v) z = refl
+weigh_kept u a r x v z = refl
 
 weigh_bare : (u : ℕ × Admission → ℕ) (a : ℕ) (o : Option Admission) → u (a, bare) ≡ 0 → weigh u a o ≡ u (a, or_bare o)
 weigh_bare u a None z = sym z

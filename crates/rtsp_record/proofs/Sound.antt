@@ -8,7 +8,7 @@ use Rattle.std.specs.FinMap.{get, empty}
 use Rattle.rtsp_record.specs.declared.holdings.Thing.{Thing}
 use Rattle.rtsp_record.specs.declared.holdings.Thing.TheVariants.{Rate}
 use Rattle.rtsp_record.specs.declared.phases.Phase.{Phase}
-use Rattle.rtsp_record.specs.declared.phases.Phase.TheVariants.{Ready, Playing, Ended}
+use Rattle.rtsp_record.specs.declared.phases.Phase.TheVariants.{Ready, Playing}
 use Rattle.rtsp_record.specs.declared.streams.Stream.{Stream}
 use Rattle.rtsp_record.specs.declared.holdings.Whole.{Whole}
 use Rattle.rtsp_record.specs.declared.changes.Entry.{Entry}
@@ -100,8 +100,7 @@ stream_counts m f a v there = omega (arith, total-under (λ e. of_admission m e.
 
 not_both : (p : Phase) → IsReady p → IsPlaying p → ⊥
 not_both (Ready at sent) h g = absurd cc
-not_both (Playing from stop sent since) h g = absurd cc
-not_both (Ended at sent) h g = absurd cc
+not_both p h g = absurd cc
 
 -- a stream that may be added clashes with none
 apart_new : (f : Session) (a : ℕ) (v u : Stream) → of_session (clashing v) f ≡ 0 → (under f a).stream ≡ Some u → one_if (clash u v) ≡ 0
