@@ -9,6 +9,7 @@ from rtsp_client.messages import frame
 
 from .runner import serving_test
 from .server import Server, is_alive, lease
+from .shares import ONE, ONE_TRACK, OTHER, Talk
 
 # The limits of the server, in seconds, and what a sweep may add.
 SILENT, UNFINISHED, SWEPT_WITHIN = 60, 30, 3.0
@@ -92,3 +93,32 @@ def silent_connections_are_closed(checks: Checks) -> None:
         checks.same("a session over UDP that is renewed lives", [True] * 3, lived)
         for connection in [*connections.values(), udp]:
             connection.close()
+
+
+@serving_test(limit=80, is_long=True)
+def who_sets_up_may_be_silent_for_longer(checks: Checks) -> None:
+    """For a session's timeout, where a SETUP was granted or only bandwidth was missing; not where it was asked wrongly,
+    nor where the address has no place left."""
+    udp = 'RTP/AVP;unicast;dest_addr=":9"/":9"'
+    asked = {
+        "granted": (ONE, udp, 200),
+        "without a place": (ONE, udp, 503),
+        "without bandwidth": (OTHER, udp, 453),
+        "asked wrongly": (OTHER, "RTP/AVP;multicast", 461),
+    }
+    settings = {"timeout": SILENT + 10, "uplink": ONE_TRACK.whole_rate, "sessions_per_address": 1}
+    with Server(checks, ONE_TRACK, **settings) as server:
+        talks = {name: Talk(server, address) for name, (address, _, _) in asked.items()}
+        for name, (_, transport, status) in asked.items():
+            answer = talks[name].ask("SETUP", f"{server.uri}/a", [("Transport", transport)])
+            checks.same(f"a SETUP {name}", status, answer.status)
+        sockets = {name: talk.socket for name, talk in talks.items()}
+        ends = ends_of(sockets, SILENT + SWEPT_WITHIN + 0.5, lambda are_open, second: None)
+        for name in "without a place", "asked wrongly":
+            seconds = ends[name]
+            is_right = seconds is not None and SILENT - 0.5 <= seconds <= SILENT + SWEPT_WITHIN
+            checks.that(f"the connection '{name}' is closed {SILENT} s later, within a sweep", is_right, seconds)
+        for name in "granted", "without bandwidth":
+            checks.same(f"the connection '{name}' is open", None, ends[name])
+        for talk in talks.values():
+            talk.close()
