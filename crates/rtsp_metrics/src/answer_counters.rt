@@ -158,11 +158,6 @@ impl AnswerCounters {
         }
     }
 
-    /// How many requests were refused so far as there was no more of something (503).
-    pub fn unavailable(&self) -> u64 {
-        self.refusals.unavailable.read()
-    }
-
     /// A request of this method was answered with this status.
     pub fn answered(&self, method: Method, status: u16) {
         self.requests.of(method).add(Outcome::of(status));

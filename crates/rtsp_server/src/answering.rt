@@ -52,6 +52,7 @@ fn answer_piece<R: Wait + Net + rt::Clock, W: Words, P: Plays>(
     made: &mut Receipt,
     words: &mut W,
     plays: &mut P,
+    witness: &AnswerCounter<'_, R>,
     input: &mut Connection,
     piece: &[u8],
     room: &mut Room,
@@ -73,7 +74,6 @@ fn answer_piece<R: Wait + Net + rt::Clock, W: Words, P: Plays>(
     let mut binder = PortBinder::new(rt, &shared.ports, host);
     let mut clock = PieceClock::new(rt, shared.begun);
     let mut shares = LaneShares::new(rt, shared.session_shares.as_ref(), lane);
-    let witness = AnswerCounter::new(service, asker);
     let pushed = push_lent(
         rt,
         service.alloc,
@@ -87,11 +87,12 @@ fn answer_piece<R: Wait + Net + rt::Clock, W: Words, P: Plays>(
         &mut shares,
         service.table,
         asker,
-        &witness,
+        witness,
         input,
         piece,
         room,
     );
+    witness.note_unplaced(shares.refused());
     if shares.refused() > 0 {
         shared.log.event(rt, Event::ShareSpent { peer: asker.peer });
     }
@@ -120,14 +121,12 @@ impl<R: Wait + Net + rt::Clock> PieceAnswerer for Front<'_, R> {
         let Service {
             rt,
             shared,
-            answers,
             recorded,
             now,
             ..
         } = self.service;
         let all = input.len().saturating_add(piece.len());
-        let given = self.words.given();
-        let unavailable = answers.unavailable();
+        let witness = AnswerCounter::new(&self.service, self.asker);
         let pushed = answer_piece(
             &self.service,
             self.handle,
@@ -137,21 +136,22 @@ impl<R: Wait + Net + rt::Clock> PieceAnswerer for Front<'_, R> {
             self.made,
             self.words,
             self.plays,
+            &witness,
             input,
             piece,
             room,
         );
-        let has_setup = self.words.given() != given;
+        let has_setup = witness.has_setup();
         self.activity.note(now, all, input, has_setup);
         // A request for whose answer there was no memory may have done something all the same.
         if pushed.is_err() {
             recorded.note();
         }
-        // A session that is refused behind its first words has been opened, and has ended.
+        // Where the track was refused, the session has ended.
         if has_setup {
             shared.note_end();
         }
-        if answers.unavailable() != unavailable {
+        if witness.is_unavailable() {
             shared.note_unavailable(rt, self.lane);
         }
         pushed

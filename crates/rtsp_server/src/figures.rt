@@ -10,11 +10,15 @@ use rtsp_metrics::{BookFigures, Counts, Held, Method, Snapshot};
 use rtsp_record::Entry;
 use rtsp_status::Source;
 use rtsp_watch::{Told, Witness};
+use std::cell::Cell;
 use std::rt;
 use std::sync::Wait;
 
 // The status of a response to a request for which there was no memory.
 const OUT_OF_MEMORY: u16 = 500;
+
+// The status of one for which there was no more of something.
+const UNAVAILABLE: u16 = 503;
 
 // A mark in a round that no journal comes to, so that nothing is ever handed out behind it.
 const NO_MARK: Mark = Mark {
@@ -22,7 +26,13 @@ const NO_MARK: Mark = Mark {
     rounds: u64::MAX,
 };
 
-/// Who is told of a lane's answers to a player.
+// Whether a SETUP of this status may have opened a session, also one that ended at once. Where a session
+// is opened an admission is refused 453, 500 or 503. What a request asks wrongly has another status.
+fn may_have_opened(status: u16) -> bool {
+    matches!(status, 200 | 453 | OUT_OF_MEMORY | UNAVAILABLE)
+}
+
+/// Who is told of the answers to a piece of a player's input, and notes what they came to.
 #[derive(Drop)]
 pub(crate) struct AnswerCounter<'a, R> {
     service: Service<'a, R>,
@@ -30,6 +40,9 @@ pub(crate) struct AnswerCounter<'a, R> {
     // The moment of the lines, in milliseconds since 1970: the clock is read once for the requests of a
     // piece, which are answered within some milliseconds.
     moment: u64,
+    // How many SETUPs may have opened a session.
+    setups: Cell<u64>,
+    is_unavailable: Cell<bool>,
 }
 
 impl<'a, R: rt::Clock> AnswerCounter<'a, R> {
@@ -43,7 +56,24 @@ impl<'a, R: rt::Clock> AnswerCounter<'a, R> {
             service: *service,
             asker,
             moment,
+            setups: Cell::new(0),
+            is_unavailable: Cell::new(false),
         }
+    }
+
+    /// So many SETUPs were refused 503 before anything was drawn, since their address has no place left.
+    pub(crate) fn note_unplaced(&self, refused: u64) {
+        self.setups.set(self.setups.get().saturating_sub(refused));
+    }
+
+    /// Whether a SETUP may have opened a session.
+    pub(crate) fn has_setup(&self) -> bool {
+        self.setups.get() > 0
+    }
+
+    /// Whether a request was refused since there was no more of something (503).
+    pub(crate) fn is_unavailable(&self) -> bool {
+        self.is_unavailable.get()
     }
 }
 
@@ -64,6 +94,12 @@ impl<R: Wait + rt::Clock> Witness for AnswerCounter<'_, R> {
         }
         if method == Method::Teardown {
             shared.note_end();
+        }
+        if method == Method::Setup && may_have_opened(told.status) {
+            self.setups.set(self.setups.get().saturating_add(1));
+        }
+        if told.status == UNAVAILABLE {
+            self.is_unavailable.set(true);
         }
         let log = &shared.log;
         if told.status == OUT_OF_MEMORY {

@@ -21,18 +21,15 @@ fn some_counters() -> Counters {
     counters
 }
 
-// Adds what two lanes have answered, each the same. How much a lane counts as unavailable, and how much
-// once it has answered a 503.
-fn add_answers(counts: &mut Counts) -> [u64; 2] {
+// Adds what two lanes have answered, each the same.
+fn add_answers(counts: &mut Counts) {
     let lane = AnswerCounters::new();
     lane.answered(Method::of(b"OPTIONS"), 200);
     lane.answered(Method::of(b"SETUP"), 453);
+    lane.answered(Method::of(b"SETUP"), 503);
     lane.answered(Method::of(b"RECORD"), 501);
     lane.add_to(counts);
     lane.add_to(counts);
-    let before = lane.unavailable();
-    lane.answered(Method::of(b"SETUP"), 503);
-    [before, lane.unavailable()]
 }
 
 // What these counters have, with what two lanes have answered.
@@ -82,6 +79,7 @@ rtspd_requests_total{method=\"OPTIONS\",class=\"2xx\"} 2
 rtspd_requests_total{method=\"other\",class=\"5xx\"} 2
 ..
 rtspd_refusals_total{reason=\"bandwidth\"} 2
+rtspd_refusals_total{reason=\"unavailable\"} 2
 ..
 rtspd_packet_lateness_seconds_bucket{le=\"0.005\"} 1234567
 rtspd_packet_lateness_seconds_bucket{le=\"0.01\"} 1234570
@@ -109,7 +107,7 @@ const ROWS: &str = "\
 ..
 <tr><th>Within 10 ms<td><meter max=1234571 value=1234570></meter><td class=n>1,234,570 of 1,234,571
 ..
-<tr><th>SETUP<td class=n>0<td class=n>0<td class=n>2<td class=n>0
+<tr><th>SETUP<td class=n>0<td class=n>0<td class=n>2<td class=n>2
 ";
 
 #[test]
@@ -138,9 +136,4 @@ fn tells_of_files(counters: &Counters) -> bool {
 fn a_file_that_cannot_be_read_is_told_once(rt: HostRuntime) {
     let counters = some_counters();
     assert!(rt; tells_of_files(&counters) && counters.read().media_failures == 3);
-}
-
-#[test]
-fn what_is_unavailable_is_counted(rt: HostRuntime) {
-    assert!(rt; add_answers(&mut some_counts()) == [0, 1]);
 }

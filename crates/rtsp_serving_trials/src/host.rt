@@ -26,7 +26,7 @@ fn words_of_a_source(rt: HostRuntime) {
     let mut words = SourceWords::new(bytes);
     assert!(rt; words.ssrc() == Ok(0x6463_6261) && words.seq() == Ok(0x6665));
     assert!(rt; words.id() == Ok(0x7675_7473_7271_706f_6e6d_6c6b_6a69_6867));
-    assert!(rt; words.id().is_err() && words.seq().is_err() && words.given() == 3);
+    assert!(rt; words.id().is_err() && words.seq().is_err());
 }
 
 #[test]

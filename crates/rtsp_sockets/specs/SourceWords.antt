@@ -1,5 +1,5 @@
 -- Words are bytes of their source, each given once and in order.
-use Rattle.std.specs.Prelude.{◌≡◌, ◌+◌, ◌%◌, ◌^◌, ℕ, List, ◌++◌, drop, length, Option}
+use Rattle.std.specs.Prelude.{◌≡◌, ℕ, List, ◌++◌, drop, length, Option}
 use Rattle.std.specs.Int.{Width, w16, w32, w128, byte_len, from_le_bytes}
 use Rattle.std.specs.Io.KnownBytes.{prepend_known, Consumes}
 use Rattle.rtsp_traits.specs.Devices.{WordCalls}
@@ -24,12 +24,10 @@ module _ {S : Type 0} (remaining : S → Option (List ℕ)) where
     pub size : length bytes ≡ byte_len width
     pub is : word ≡ from_le_bytes width bytes
     pub drawn : Draws (unread b) bytes (unread c)
-    pub count : c.words ≡ (b.words + 1) % 2 ^ 64
 
   -- none was given
-  pub record Fails (b c : SourceWords S) : Type 0 where
-    pub lost : Loses (unread b) (unread c)
-    pub count : c.words ≡ b.words
+  abbrev pub Fails : SourceWords S → SourceWords S → Type 0
+  Fails b c = Loses (unread b) (unread c)
 
   abbrev pub calls : WordCalls (SourceWords S)
   calls = record {

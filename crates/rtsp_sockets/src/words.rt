@@ -1,6 +1,6 @@
 //! Words of a source of bytes.
 
-ghost use Rattle.std.specs.Prelude.{◌≡◌, ◌<◌, ◌≤◌, ◌+◌, ◌-◌, ◌%◌, ◌^◌, slice_range, IsOk, IfOk, OnOk, OnErr};
+ghost use Rattle.std.specs.Prelude.{◌≡◌, ◌<◌, ◌≤◌, ◌+◌, ◌-◌, slice_range, IsOk, IfOk, OnOk, OnErr};
 ghost use Rattle.rtsp_record.specs.Counters.{raised};
 
 use rtsp_traits::WordsFault;
@@ -22,8 +22,6 @@ pub struct SourceWords<S> {
     pool: [u8; POOL],
     // How many bytes of the pool were given.
     used: usize,
-    // How many words were given.
-    pub(crate) words: u64,
     pub(crate) failed: u64,
     ghost within: { used ≤ 32 },
 }
@@ -35,7 +33,7 @@ impl SourceWords<File> {
     /// Opens the source. Nothing of the pool is given before it is read.
     pub fn open<R: Files<File = File>>(rt: &R) -> io::Result<RandomWords>
         ensures spent { IfOk result (λ w. w.used ≡ 32) }
-        ensures counts { IfOk result (λ w. (w.words ≡ 0) × (w.failed ≡ 0)) }
+        ensures counts { IfOk result (λ w. w.failed ≡ 0) }
     {
         Ok(SourceWords::new(File::open(rt, SOURCE)?))
     }
@@ -46,22 +44,14 @@ impl<S> SourceWords<S> {
     pub fn new(source: S) -> SourceWords<S>
         ensures source { result.source ≡ source }
         ensures spent { result.used ≡ 32 }
-        ensures counts { (result.words ≡ 0) × (result.failed ≡ 0) }
+        ensures counts { result.failed ≡ 0 }
     {
         SourceWords {
             source,
             pool: [0; POOL],
             used: POOL,
-            words: 0,
             failed: 0,
         }
-    }
-
-    /// How many words it has given, modulo 2^64.
-    pub fn given(&self) -> u64
-        ensures { result ≡ self.now.words }
-    {
-        self.words
     }
 }
 
@@ -73,7 +63,6 @@ impl<S: Read> SourceWords<S> {
     fn refill(&mut self) -> Result<(), WordsFault>
         ensures ok { OnOk result ((self.new.used ≡ 0) × (self.new.failed ≡ self.old.failed)) }
         ensures read { OnOk result (Consumes (S.remaining self.old.source) (S.remaining self.new.source) self.new.pool) }
-        ensures words { self.new.words ≡ self.old.words }
         ensures err { OnErr result (self.new.failed ≡ raised self.old.failed) }
         ensures lost { Loses (unread S.remaining self.old) (unread S.remaining self.new) }
     {
@@ -99,7 +88,6 @@ impl<S: Read> SourceWords<S> {
         ensures lost { Loses (unread S.remaining self.old) (unread S.remaining self.new) }
         ensures ok { OnOk result (self.new.failed ≡ self.old.failed) }
         ensures err { OnErr result (self.new.failed ≡ raised self.old.failed) }
-        ensures words { self.new.words ≡ self.old.words }
     {
         if POOL - self.used < count {
             return self.refill();
@@ -115,16 +103,13 @@ impl<S: Read> SourceWords<S> {
         ensures next { self.old.used + N ≤ 32 → (self.new.used ≡ self.old.used + N) × (self.new.pool ≡ self.old.pool) }
         ensures first { 32 < self.old.used + N → OnOk result (self.new.used ≡ N) }
         ensures ok { OnOk result (self.new.failed ≡ self.old.failed) }
-        ensures counted { OnOk result (self.new.words ≡ (self.old.words + 1) % 2 ^ 64) }
         ensures err { OnErr result (self.new.failed ≡ raised self.old.failed) }
-        ensures none { OnErr result (self.new.words ≡ self.old.words) }
         ensures lost { OnErr result (Loses (unread S.remaining self.old) (unread S.remaining self.new)) }
     {
         self.ready(N)?;
         let mut bytes = [0; N];
         bytes.copy_from_slice(&self.pool[self.used..self.used + N]);
         self.used += N;
-        self.words = self.words.wrapping_add(1);
         Ok(bytes)
     }
 }
