@@ -1,7 +1,7 @@
 -- The forms of the texts in a configuration.
 use Rattle.std.specs.Prelude.{ℕ, ◌==◌, ◌&&◌, ◌||◌, Bool, true, not, List, length, nat_le}
 use Rattle.std.specs.List.{list_all}
-use Rattle.rtsp_content.specs.Limits.{max_name, max_encoding, max_format_parameters, max_folder, max_address}
+use Rattle.rtsp_content.specs.declared.limits.TheConstants.{MAX_NAME, MAX_ENCODING, MAX_FORMAT_PARAMETERS, MAX_FOLDER, MAX_ADDRESS}
 use Rattle.rtsp_content.specs.declared.keys.Form.{Form}
 use Rattle.rtsp_content.specs.declared.keys.Form.TheVariants.{Name, Encoding, FormatParameters, Folder, Address, Path}
 
@@ -40,23 +40,23 @@ is_short most text = nat_le 1 (length text) && nat_le (length text) most
 
 -- a name: 1 to 64 of its bytes
 abbrev pub is_name : List ℕ → Bool
-is_name text = is_short max_name text && list_all is_name_byte text
+is_name text = is_short MAX_NAME text && list_all is_name_byte text
 
 -- an encoding's name: 1 to 32 of its bytes
 abbrev pub is_encoding : List ℕ → Bool
-is_encoding text = is_short max_encoding text && list_all is_encoding_byte text
+is_encoding text = is_short MAX_ENCODING text && list_all is_encoding_byte text
 
 -- the format parameters of an encoding: 1 to 1,024 of their bytes
 abbrev pub is_format_parameters : List ℕ → Bool
-is_format_parameters text = is_short max_format_parameters text && list_all is_parameter_byte text
+is_format_parameters text = is_short MAX_FORMAT_PARAMETERS text && list_all is_parameter_byte text
 
 -- the path of a folder: 1 to 1,024 of its bytes
 abbrev pub is_folder : List ℕ → Bool
-is_folder text = is_short max_folder text && list_all is_folder_byte text
+is_folder text = is_short MAX_FOLDER text && list_all is_folder_byte text
 
 -- an address with a port: 1 to 21 of their bytes
 abbrev pub is_address : List ℕ → Bool
-is_address text = is_short max_address text && list_all is_address_byte text
+is_address text = is_short MAX_ADDRESS text && list_all is_address_byte text
 
 -- the text has the form; a path is taken as it is
 abbrev pub has_form : Form → List ℕ → Bool

@@ -7,7 +7,7 @@ use Rattle.rtsp_content.specs.declared.journal_files.WhenFull.TheVariants.{Keep,
 use Rattle.rtsp_content.specs.Fault.{Read}
 use Rattle.rtsp_text.specs.Results.{◌>>=◌}
 use Rattle.rtsp_content.specs.Keys.{number_at_or, flag_at}
-use Rattle.rtsp_content.specs.Limits.{least_period, max_period}
+use Rattle.rtsp_content.specs.declared.limits.TheConstants.{LEAST_PERIOD, MAX_PERIOD, DEFAULT_PERIOD}
 use Rattle.rtsp_content.specs.JournalFilesValue.{JournalFilesValue}
 
 -- what a word says of entries that aren't taken
@@ -28,7 +28,7 @@ files_in (Some folder) period sync when_full = Some (record { folder = folder; p
 -- what is said of the journal's files: each second where nothing is said
 abbrev pub files_of : Option (List ℕ) → Members → Read (Option JournalFilesValue)
 files_of folder ms = do
-  period ← number_at_or (codes "journal_period") least_period max_period 1000 ms
+  period ← number_at_or (codes "journal_period") LEAST_PERIOD MAX_PERIOD DEFAULT_PERIOD ms
   sync ← flag_at (codes "journal_sync") ms
   when_full ← when_full_in (get_member (codes "journal_when_full") ms)
   Ok (files_in folder period sync when_full)

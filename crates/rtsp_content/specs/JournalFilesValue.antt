@@ -1,7 +1,7 @@
 -- The files of the journal, as contracts see them.
 use Rattle.std.specs.Prelude.{ℕ, ◌≤◌, Bool, List}
 use Rattle.rtsp_content.specs.declared.journal_files.WhenFull.{WhenFull}
-use Rattle.rtsp_content.specs.Limits.{least_period, max_period}
+use Rattle.rtsp_content.specs.declared.limits.TheConstants.{LEAST_PERIOD, MAX_PERIOD}
 
 pub record JournalFilesValue : Type 0 where
   pub folder : List ℕ
@@ -11,4 +11,4 @@ pub record JournalFilesValue : Type 0 where
 
 -- milliseconds from one writing to the next
 abbrev pub IsPeriod : ℕ → Type 0
-IsPeriod period = (least_period ≤ period) × (period ≤ max_period)
+IsPeriod period = (LEAST_PERIOD ≤ period) × (period ≤ MAX_PERIOD)

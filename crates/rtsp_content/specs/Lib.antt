@@ -1,5 +1,4 @@
 pub mod Fault
-pub mod Limits
 pub mod Form
 pub mod Keys
 pub mod Tables

@@ -6,7 +6,7 @@ use Rattle.rtsp_content.specs.declared.fault.TableFault.TheVariants.{Duplicate}
 use Rattle.rtsp_content.specs.declared.keys.Form.TheVariants.{Name}
 use Rattle.rtsp_content.specs.Fault.{Read, must}
 use Rattle.rtsp_text.specs.Results.{◌>>=◌}
-use Rattle.rtsp_content.specs.Limits.{max_units, max_unit_ms, max_tracks}
+use Rattle.rtsp_content.specs.declared.limits.TheConstants.{MAX_UNITS, MAX_UNIT_MS, MAX_TRACKS}
 use Rattle.rtsp_content.specs.Keys.{number_at, text_at, list_in, of_type}
 use Rattle.rtsp_content.specs.TrackValue.{TrackValue}
 use Rattle.rtsp_content.specs.Tables.{each_from}
@@ -26,9 +26,9 @@ abbrev pub presentation_of : Option (List ℕ) → List PresentationValue → Me
 presentation_of folder before ms = do
   name ← text_at (codes "name") Name ms
   fresh ← must (not (has_presentation name before)) Duplicate
-  units ← number_at (codes "units") 1 max_units ms
-  unit_ms ← number_at (codes "unit_ms") 1 max_unit_ms ms
-  items ← list_in max_tracks (get_member (codes "track") ms)
+  units ← number_at (codes "units") 1 MAX_UNITS ms
+  unit_ms ← number_at (codes "unit_ms") 1 MAX_UNIT_MS ms
+  items ← list_in MAX_TRACKS (get_member (codes "track") ms)
   tracks ← tracks_from folder [] items
   Ok (record { name = name; units = units; unit_ms = unit_ms; tracks = tracks })
 

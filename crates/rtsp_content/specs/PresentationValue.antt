@@ -1,6 +1,6 @@
 -- A presentation as contracts see it.
 use Rattle.std.specs.Prelude.{◌≡◌, ℕ, ◌≤◌, true, List, length, map}
-use Rattle.rtsp_content.specs.Limits.{max_units, max_unit_ms, max_tracks}
+use Rattle.rtsp_content.specs.declared.limits.TheConstants.{MAX_UNITS, MAX_UNIT_MS, MAX_TRACKS}
 use Rattle.rtsp_content.specs.Form.{is_name}
 use Rattle.rtsp_content.specs.Distinct.{AreDistinct}
 use Rattle.rtsp_content.specs.TrackValue.{TrackValue, track_names}
@@ -19,9 +19,9 @@ presentation_names presentations = map (λ p. p.name) presentations
 pub record IsPresentationWithin (presentation : PresentationValue) : Type 0 where
   pub name : is_name presentation.name ≡ true
   pub units_least : 1 ≤ presentation.units
-  pub units_most : presentation.units ≤ max_units
+  pub units_most : presentation.units ≤ MAX_UNITS
   pub unit_ms_least : 1 ≤ presentation.unit_ms
-  pub unit_ms_most : presentation.unit_ms ≤ max_unit_ms
+  pub unit_ms_most : presentation.unit_ms ≤ MAX_UNIT_MS
   pub tracks_least : 1 ≤ length presentation.tracks
-  pub tracks_most : length presentation.tracks ≤ max_tracks
+  pub tracks_most : length presentation.tracks ≤ MAX_TRACKS
   pub tracks_distinct : AreDistinct (track_names presentation.tracks)

@@ -6,7 +6,7 @@ use Rattle.rtsp_content.specs.declared.keys.Form.TheVariants.{Folder}
 use Rattle.rtsp_content.specs.Fault.{Read}
 use Rattle.rtsp_text.specs.Results.{◌>>=◌}
 use Rattle.rtsp_content.specs.Keys.{table_in, list_in, optional_text_at}
-use Rattle.rtsp_content.specs.Limits.{max_presentations}
+use Rattle.rtsp_content.specs.declared.limits.TheConstants.{MAX_PRESENTATIONS}
 use Rattle.rtsp_content.specs.MediaPath.{media_folder}
 use Rattle.rtsp_content.specs.Server.{server_of}
 use Rattle.rtsp_content.specs.Presentation.{presentations_from}
@@ -18,7 +18,7 @@ table_of path ms = do
   numbers ← table_in (get_member (codes "server") ms)
   server ← server_of numbers
   media ← optional_text_at (codes "media") Folder numbers
-  items ← list_in max_presentations (get_member (codes "presentation") ms)
+  items ← list_in MAX_PRESENTATIONS (get_member (codes "presentation") ms)
   presentations ← presentations_from (media_folder path media) [] items
   Ok (record { server = server; presentations = presentations })
 

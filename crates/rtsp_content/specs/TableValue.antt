@@ -1,7 +1,7 @@
 -- The table as contracts see it.
 use Rattle.std.specs.Prelude.{◌≤◌, List, length}
 use Rattle.rtsp_content.specs.declared.server.Server.{Server}
-use Rattle.rtsp_content.specs.Limits.{max_presentations}
+use Rattle.rtsp_content.specs.declared.limits.TheConstants.{MAX_PRESENTATIONS}
 use Rattle.rtsp_content.specs.Server.{IsWithinLimits}
 use Rattle.rtsp_content.specs.Distinct.{AreDistinct}
 use Rattle.rtsp_content.specs.PresentationValue.{PresentationValue, presentation_names}
@@ -14,5 +14,5 @@ pub record TableValue : Type 0 where
 pub record IsTableWithin (table : TableValue) : Type 0 where
   pub server : IsWithinLimits table.server
   pub presentations_least : 1 ≤ length table.presentations
-  pub presentations_most : length table.presentations ≤ max_presentations
+  pub presentations_most : length table.presentations ≤ MAX_PRESENTATIONS
   pub presentations_distinct : AreDistinct (presentation_names table.presentations)

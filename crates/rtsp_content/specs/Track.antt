@@ -8,7 +8,7 @@ use Rattle.rtsp_content.specs.declared.track.Media.{Media}
 use Rattle.rtsp_content.specs.declared.track.Media.TheVariants.{Audio, Video}
 use Rattle.rtsp_content.specs.Fault.{Read, must}
 use Rattle.rtsp_text.specs.Results.{◌>>=◌}
-use Rattle.rtsp_content.specs.Limits.{max_payload_type, max_clock, max_octets, max_ticks, max_channels}
+use Rattle.rtsp_content.specs.declared.limits.TheConstants.{MAX_PAYLOAD_TYPE, MAX_CLOCK, MAX_OCTETS, MAX_TICKS, MAX_CHANNELS}
 use Rattle.rtsp_content.specs.Keys.{number_at, optional_number_at, text_at, optional_text_at, of_type}
 use Rattle.rtsp_content.specs.MediaPath.{media_path}
 use Rattle.rtsp_content.specs.TrackValue.{TrackValue}
@@ -37,14 +37,14 @@ track_of folder before ms = do
   name ← text_at (codes "name") Name ms
   fresh ← must (not (has_track name before)) Duplicate
   media ← media_in (get_member (codes "media") ms)
-  payload_type ← number_at (codes "pt") 0 max_payload_type ms
+  payload_type ← number_at (codes "pt") 0 MAX_PAYLOAD_TYPE ms
   encoding ← text_at (codes "encoding") Encoding ms
-  clock ← number_at (codes "clock") 1 max_clock ms
-  octets ← number_at (codes "octets") 1 max_octets ms
-  ticks ← number_at (codes "ticks") 1 max_ticks ms
+  clock ← number_at (codes "clock") 1 MAX_CLOCK ms
+  octets ← number_at (codes "octets") 1 MAX_OCTETS ms
+  ticks ← number_at (codes "ticks") 1 MAX_TICKS ms
   file ← text_at (codes "file") Path ms
   format_parameters ← optional_text_at (codes "fmtp") FormatParameters ms
-  channels ← optional_number_at (codes "channels") 1 max_channels ms
+  channels ← optional_number_at (codes "channels") 1 MAX_CHANNELS ms
   Ok (record {
     name = name;
     media = media;

@@ -3,7 +3,7 @@
 ghost use Rattle.std.specs.Prelude.{◌≡◌, ◌<◌, ◌≤◌, length, bytes_eq, IfSome};
 ghost use Rattle.std.specs.List.{position_from};
 ghost use Rattle.rtsp_text.specs.Slices.{joined};
-ghost use Rattle.rtsp_content.specs.Limits.{max_presentations, max_tracks};
+ghost use Rattle.rtsp_content.specs.declared.limits.TheConstants.{MAX_PRESENTATIONS, MAX_TRACKS};
 ghost use Rattle.rtsp_content.specs.Paths.{is_presentation_path, is_track_path, find_from};
 
 use crate::presentation::Presentation;
@@ -63,7 +63,7 @@ fn is_track_path(path: &[u8], presentation: &Presentation, track: &Track) -> boo
 fn track_index(path: &[u8], presentation: &Presentation) -> Option<usize>
     ensures value { result
         ≡ position_from (is_track_path presentation.now path.now) 0 presentation.now.tracks }
-    ensures within { IfSome result (λ j. j < max_tracks) }
+    ensures within { IfSome result (λ j. j < MAX_TRACKS) }
 {
     presentation
         .tracks()
@@ -73,7 +73,7 @@ fn track_index(path: &[u8], presentation: &Presentation) -> Option<usize>
 
 // What a path names among presentations.
 pub(crate) fn find_among(presentations: &[Presentation], path: &[u8]) -> Found
-    requires { length presentations.now ≤ max_presentations }
+    requires { length presentations.now ≤ MAX_PRESENTATIONS }
     ensures { result ≡ find_from 0 presentations.now path.now }
 {
     for (index, presentation) in presentations.iter().enumerate() {

@@ -5,7 +5,6 @@ ghost use Rattle.toml.specs.Data.{get_member};
 ghost use Rattle.toml.specs.View.{view, table_view};
 ghost use Rattle.rtsp_text.specs.Results.{Gives};
 ghost use Rattle.rtsp_content.specs.declared.fault.TableFault.TheVariants.{OutOfMemory};
-ghost use Rattle.rtsp_content.specs.Limits.{least_period, max_period};
 ghost use Rattle.rtsp_content.specs.JournalFiles.{as_when_full, when_full_in, files_of};
 
 use crate::fault::TableFault;
@@ -56,8 +55,8 @@ impl JournalFiles {
     /// The milliseconds from one writing to the next.
     pub fn period(&self) -> u32
         ensures value { result ≡ self.now.period }
-        ensures least { least_period ≤ result }
-        ensures most { result ≤ max_period }
+        ensures least { LEAST_PERIOD ≤ result }
+        ensures most { result ≤ MAX_PERIOD }
     {
         self.period
     }

@@ -4,7 +4,7 @@ ghost use Rattle.std.specs.Prelude.{◌≡◌, ◌≤◌, ◌*◌, true, length,
 ghost use Rattle.rtsp_content.specs.Distinct.{AreDistinct};
 ghost use Rattle.rtsp_content.specs.TrackValue.{track_names};
 ghost use Rattle.rtsp_content.specs.Form.{is_name};
-ghost use Rattle.rtsp_content.specs.Limits.{max_units, max_tracks};
+ghost use Rattle.rtsp_content.specs.declared.limits.TheConstants.{MAX_UNITS, MAX_TRACKS};
 ghost use Rattle.rtsp_content.specs.Sdp.{sdp_of};
 ghost use Rattle.rtsp_content.specs.Rate.{rate_of, IsRate};
 
@@ -51,7 +51,7 @@ impl Presentation {
     pub fn units(&self) -> u32
         ensures value { result ≡ self.now.units }
         ensures least { 1 ≤ result }
-        ensures most { result ≤ max_units }
+        ensures most { result ≤ MAX_UNITS }
     {
         self.units
     }
@@ -74,7 +74,7 @@ impl Presentation {
     pub fn tracks(&self) -> &[Track]
         ensures value { result.now ≡ self.now.tracks }
         ensures least { 1 ≤ length result.now }
-        ensures most { length result.now ≤ max_tracks }
+        ensures most { length result.now ≤ MAX_TRACKS }
         ensures distinct { AreDistinct (track_names result.now) }
     {
         self.tracks.as_slice()

@@ -9,7 +9,6 @@ ghost use Rattle.rtsp_text.specs.Slices.{held};
 ghost use Rattle.rtsp_content.specs.declared.fault.TableFault.TheVariants.{OutOfMemory};
 ghost use Rattle.rtsp_content.specs.Fault.{Read};
 ghost use Rattle.rtsp_content.specs.Keys.{item_count, optional_number_at};
-ghost use Rattle.rtsp_content.specs.Limits.{max_channels};
 ghost use Rattle.rtsp_content.specs.Tables.{each_from, in_table, has_name};
 ghost use Rattle.rtsp_content.specs.Track as track;
 ghost use Rattle.rtsp_content.specs.Track.{as_media, media_in, track_of};
@@ -121,8 +120,8 @@ fn has_track(name: &str, tracks: &[Track]) -> bool
 
 // The number of channels that a table of a track says, if it does.
 fn channels_at(table: &Table, key: &str) -> Result<Option<u8>, TableFault>
-    ensures value { result ≡ optional_number_at key.now 1 max_channels (table_view table.now) }
-    ensures range { IfOk result (λ o. IfSome o (λ n. (1 ≤ n) × (n ≤ max_channels))) }
+    ensures value { result ≡ optional_number_at key.now 1 MAX_CHANNELS (table_view table.now) }
+    ensures range { IfOk result (λ o. IfSome o (λ n. (1 ≤ n) × (n ≤ MAX_CHANNELS))) }
 {
     match optional_number_at(table, key, 1, MAX_CHANNELS)? {
         Some(channels) => Ok(Some(channels as u8)),

@@ -6,7 +6,6 @@ ghost use Rattle.toml.specs.View.{table_view};
 ghost use Rattle.rtsp_content.specs.Distinct.{AreDistinct};
 ghost use Rattle.rtsp_content.specs.PresentationValue.{presentation_names};
 ghost use Rattle.rtsp_text.specs.Results.{Gives};
-ghost use Rattle.rtsp_content.specs.Limits.{max_presentations};
 ghost use Rattle.rtsp_content.specs.declared.fault.TableFault.TheVariants.{OutOfMemory};
 ghost use Rattle.rtsp_content.specs.Paths.{find_of, Names};
 ghost use Rattle.rtsp_content.specs.Server.{IsWithinLimits};
@@ -99,7 +98,7 @@ impl Table {
     pub fn presentations(&self) -> &[Presentation]
         ensures value { result.now ≡ self.now.presentations }
         ensures least { 1 ≤ length result.now }
-        ensures most { length result.now ≤ max_presentations }
+        ensures most { length result.now ≤ MAX_PRESENTATIONS }
         ensures distinct { AreDistinct (presentation_names result.now) }
     {
         self.presentations.as_slice()

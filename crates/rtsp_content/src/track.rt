@@ -2,7 +2,7 @@
 
 ghost use Rattle.std.specs.Prelude.{◌≡◌, ◌≤◌, ◌^◌, ◌<◌, true, IfSome, option_map};
 ghost use Rattle.rtsp_content.specs.Form.{is_name, is_encoding, is_format_parameters};
-ghost use Rattle.rtsp_content.specs.Limits.{max_payload_type, max_clock, max_octets, max_ticks, max_channels};
+ghost use Rattle.rtsp_content.specs.declared.limits.TheConstants.{MAX_PAYLOAD_TYPE, MAX_CLOCK, MAX_OCTETS, MAX_TICKS, MAX_CHANNELS};
 ghost use Rattle.rtsp_content.specs.Track.{media_text};
 
 use std::marker::Model;
@@ -80,7 +80,7 @@ impl Track {
     /// The payload type of its RTP packets.
     pub fn payload_type(&self) -> u8
         ensures value { result ≡ self.now.payload_type }
-        ensures most { result ≤ max_payload_type }
+        ensures most { result ≤ MAX_PAYLOAD_TYPE }
     {
         self.payload_type
     }
@@ -97,7 +97,7 @@ impl Track {
     pub fn clock(&self) -> u32
         ensures value { result ≡ self.now.clock }
         ensures least { 1 ≤ result }
-        ensures most { result ≤ max_clock }
+        ensures most { result ≤ MAX_CLOCK }
     {
         self.clock
     }
@@ -106,7 +106,7 @@ impl Track {
     pub fn octets(&self) -> u16
         ensures value { result ≡ self.now.octets }
         ensures least { 1 ≤ result }
-        ensures most { result ≤ max_octets }
+        ensures most { result ≤ MAX_OCTETS }
     {
         self.octets
     }
@@ -115,7 +115,7 @@ impl Track {
     pub fn ticks(&self) -> u32
         ensures value { result ≡ self.now.ticks }
         ensures least { 1 ≤ result }
-        ensures most { result ≤ max_ticks }
+        ensures most { result ≤ MAX_TICKS }
     {
         self.ticks
     }
@@ -143,7 +143,7 @@ impl Track {
     pub fn channels(&self) -> Option<u8>
         ensures value { result ≡ self.now.channels }
         ensures least { IfSome result (λ n. 1 ≤ n) }
-        ensures most { IfSome result (λ n. n ≤ max_channels) }
+        ensures most { IfSome result (λ n. n ≤ MAX_CHANNELS) }
     {
         self.channels
     }

@@ -9,7 +9,7 @@ use Rattle.rtsp_record.specs.Rules.{is_playing}
 use Rattle.rtsp_sessions.specs.Searches.{first_with, is_of_track}
 use Rattle.rtsp_content.specs.TrackValue.{TrackValue}
 use Rattle.rtsp_content.specs.PresentationValue.{PresentationValue}
-use Rattle.rtsp_content.specs.Limits.{max_octets, max_tracks, max_unit_ms}
+use Rattle.rtsp_content.specs.declared.limits.TheConstants.{MAX_OCTETS, MAX_TRACKS, MAX_UNIT_MS}
 use Rattle.rtsp_rtp.specs.declared.source.Source.{Source}
 use Rattle.rtsp_rtp.specs.Packets.{source_of}
 
@@ -76,9 +76,9 @@ packets_in p = units_in p.phase * length p.sources
 pub record IsPacing (p : Pacing) : Type 0 where
   pub playing : is_playing p.phase ≡ true
   pub unit : 0 < p.unit_ms
-  pub unit_most : p.unit_ms ≤ max_unit_ms
-  pub few : length p.sources ≤ max_tracks
-  pub short : All (λ x. x.octets ≤ max_octets) p.sources
+  pub unit_most : p.unit_ms ≤ MAX_UNIT_MS
+  pub few : length p.sources ≤ MAX_TRACKS
+  pub short : All (λ x. x.octets ≤ MAX_OCTETS) p.sources
   pub sent : p.done ≤ packets_in p
 
 -- What is sent of a play, a packet each: the unit of the play, and the source.

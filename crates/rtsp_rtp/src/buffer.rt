@@ -2,7 +2,7 @@
 
 ghost use Rattle.std.specs.Prelude.{◌≡◌, ◌≤◌, [], length, OnOk, OnErr};
 ghost use Rattle.rtsp_grammar.specs.Frame.{frame_text};
-ghost use Rattle.rtsp_content.specs.Limits.{max_octets};
+ghost use Rattle.rtsp_content.specs.declared.limits.TheConstants.{MAX_OCTETS};
 ghost use Rattle.rtsp_rtp.specs.Buffers.{framed, Filled};
 ghost use Rattle.rtsp_rtp.specs.Sinks.{Failed};
 ghost use Rattle.rtsp_rtp.specs.Packets.{packet_of};
@@ -67,7 +67,7 @@ impl Packet {
     // Puts the packet that follows `sent` others of a source, with this payload, in place of what is
     // there.
     pub(crate) fn put(&mut self, source: &Source, sent: u32, payload: &[u8])
-        requires { length payload.now ≤ max_octets }
+        requires { length payload.now ≤ MAX_OCTETS }
         ensures { self.new ≡ packet_of source.now sent payload.now }
     {
         source.put_header(sent, &mut self.buffer);
@@ -77,7 +77,7 @@ impl Packet {
 
     // Puts a whole packet in place of what is there.
     pub(crate) fn put_whole(&mut self, packet: &[u8])
-        requires { length packet.now ≤ max_octets }
+        requires { length packet.now ≤ MAX_OCTETS }
         ensures { self.new ≡ packet.now }
     {
         self.buffer[4..4 + packet.len()].copy_from_slice(packet);
@@ -93,7 +93,7 @@ impl Packet {
         unit: u32,
         sink: &mut S,
     ) -> Result<(), SinkFault>
-        requires { source.now.octets ≤ max_octets }
+        requires { source.now.octets ≤ MAX_OCTETS }
         ensures ok { OnOk result (Filled S.calls source.now sent unit self.new sink.old sink.new) }
         ensures err { OnErr result (Failed S.calls sink.old sink.new) }
     {

@@ -2,7 +2,7 @@
 
 ghost use Rattle.std.specs.Prelude.{◌≡◌, ◌↔◌, ◌<◌, ◌≤◌, ◌+◌, IsTrue, length, OnOk, OnErr};
 ghost use Rattle.rtsp_record.specs.Moments.{due, sent_before};
-ghost use Rattle.rtsp_content.specs.Limits.{max_octets, max_unit_ms};
+ghost use Rattle.rtsp_content.specs.declared.limits.TheConstants.{MAX_OCTETS, MAX_UNIT_MS};
 ghost use Rattle.rtsp_rtp.specs.Pacing.{units_in};
 ghost use Rattle.rtsp_rtp.specs.Turns.{PacketSent, PacketFailed};
 ghost use Rattle.rtsp_rtp.specs.Progress.{phase_of, sent_at, IsPlaced, SendsDue, SendsDuePart};
@@ -82,7 +82,7 @@ impl Play {
     // Whether a unit of the play is due at a moment.
     fn is_due(&self, unit: u32, moment: u64) -> bool
         requires some { 0 < self.now.unit_ms }
-        requires most { self.now.unit_ms ≤ max_unit_ms }
+        requires most { self.now.unit_ms ≤ MAX_UNIT_MS }
         ensures due { IsTrue result ↔ (unit < due (phase_of self.now) self.now.unit_ms moment) }
         ensures not_last { IsTrue result → unit < u32.MAX }
     {
@@ -99,7 +99,7 @@ impl Play {
         sink: &mut S,
     ) -> Result<(), SinkFault>
         requires unit { unit < units_in (phase_of self.now) }
-        requires short { source.now.octets ≤ max_octets }
+        requires short { source.now.octets ≤ MAX_OCTETS }
         ensures ok { OnOk result (PacketSent S.calls (phase_of self.now) unit source.now sink.old sink.new) }
         ensures err { OnErr result (PacketFailed S.calls (phase_of self.now) unit source.now sink.old sink.new) }
     {
@@ -117,7 +117,7 @@ impl Play {
         sink: &mut S,
     ) -> Result<(), SinkFault>
         requires some { 0 < self.now.unit_ms }
-        requires most { self.now.unit_ms ≤ max_unit_ms }
+        requires most { self.now.unit_ms ≤ MAX_UNIT_MS }
         requires placed { IsPlaced (length self.now.sources) at.old }
         ensures ok { OnOk result (SendsDue S.calls self.now moment at.old at.new sink.old sink.new) }
         ensures err { OnErr result (SendsDuePart S.calls self.now moment at.old at.new sink.old sink.new) }

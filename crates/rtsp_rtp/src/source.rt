@@ -1,7 +1,7 @@
 //! Where the packets of a stream come from.
 
 ghost use Rattle.std.specs.Prelude.{◌≡◌, ◌≤◌, ◌++◌, take, drop};
-ghost use Rattle.rtsp_content.specs.Limits.{max_octets};
+ghost use Rattle.rtsp_content.specs.declared.limits.TheConstants.{MAX_OCTETS};
 ghost use Rattle.rtsp_rtp.specs.Packets.{source_of, header_of};
 
 use rtsp_content::Track;
@@ -28,7 +28,7 @@ impl Source {
     /// The source of a stream of a track.
     pub(crate) fn of(track: &Track, stream: &Stream) -> Self
         ensures value { result ≡ source_of track.now stream.now }
-        ensures short { result.octets ≤ max_octets }
+        ensures short { result.octets ≤ MAX_OCTETS }
     {
         Source {
             track: stream.track,

@@ -3,7 +3,7 @@
 ghost use Rattle.std.specs.Prelude.{◌≡◌, ◌<◌, ◌≤◌, [], ◌∷◌, ◌++◌, length, All, IfSome};
 ghost use Rattle.std.specs.FinMap.{entries};
 ghost use Rattle.rtsp_sessions.specs.Searches.{first_with, is_of_track};
-ghost use Rattle.rtsp_content.specs.Limits.{max_octets};
+ghost use Rattle.rtsp_content.specs.declared.limits.TheConstants.{MAX_OCTETS};
 ghost use Rattle.rtsp_rtp.specs.Pacing.{source_under, sources_from};
 
 use crate::source::Source;
@@ -21,14 +21,14 @@ pub struct Sources {
 
 impl Model for Sources {
     ghost use Rattle.std.specs.Prelude.{List, take, ◌≤◌, All};
-    ghost use Rattle.rtsp_content.specs.Limits.{max_octets};
+    ghost use Rattle.rtsp_content.specs.declared.limits.TheConstants.{MAX_OCTETS};
     ghost use Rattle.rtsp_rtp.specs.declared.source.Source.{Source};
 
     ghost Value = { List Source };
 
     ghost view = { λ s. take s.len s.rows };
 
-    ghost invariant = { λ s. (s.len ≤ 8) × All (λ x. x.octets ≤ max_octets) (take s.len s.rows) };
+    ghost invariant = { λ s. (s.len ≤ 8) × All (λ x. x.octets ≤ MAX_OCTETS) (take s.len s.rows) };
 }
 
 impl Sources {
@@ -52,7 +52,7 @@ impl Sources {
 
     fn push(&mut self, source: Source)
         requires room { length self.old < 8 }
-        requires short { source.octets ≤ max_octets }
+        requires short { source.octets ≤ MAX_OCTETS }
         ensures { self.new ≡ self.old ++ source ∷ [] }
     {
         self.rows[self.len] = source;
@@ -62,7 +62,7 @@ impl Sources {
     pub(crate) fn as_slice(&self) -> &[Source]
         ensures value { result.now ≡ self.now }
         ensures few { length result.now ≤ 8 }
-        ensures short { All (λ x. x.octets ≤ max_octets) result.now }
+        ensures short { All (λ x. x.octets ≤ MAX_OCTETS) result.now }
     {
         &self.rows[..self.len]
     }
@@ -84,7 +84,7 @@ impl Sources {
 // The source of a track, where the session has a stream of it.
 fn source_under(view: &SessionView, index: u16, track: &Track) -> Option<Source>
     ensures value { result ≡ source_under track.now (first_with (is_of_track index) (entries view.now.1.admissions)) }
-    ensures short { IfSome result (λ x. x.octets ≤ max_octets) }
+    ensures short { IfSome result (λ x. x.octets ≤ MAX_OCTETS) }
 {
     let (_, admission) = view.with_track(index)?;
     let stream = admission.stream?;

@@ -1,6 +1,6 @@
 use Rattle.std.proofs.Common.{◌≡◌, ◌∙◌, refl, arith, ◌-◌, ◌+◌, ◌≤◌, length}
 use Rattle.std.proofs.lemmas.Result.{on_ok_weaker}
-use Rattle.rtsp_content.specs.Limits.{max_octets}
+use Rattle.rtsp_content.specs.declared.limits.TheConstants.{MAX_OCTETS}
 use Rattle.rtsp_rtp.specs.Packets.{header_of}
 use Rattle.rtsp_rtp.proofs.Placing.{placed, payload_room, wide}
 use Rattle.rtsp_rtp.proofs.buffer.Packet.fill.Goals as goal
@@ -9,7 +9,7 @@ pub returns-clause-ok : goal.returns-clause-ok
 returns-clause-ok g c =
     let header = header_of c.args.source.now c.args.sent in
     let y = c.put_header.new.buffer in
-    let fits : c.from-octets.result ≤ max_octets = omega (arith, c.requires, c.from-octets.ensures) in
+    let fits : c.from-octets.result ≤ MAX_OCTETS = omega (arith, c.requires, c.from-octets.ensures) in
     let full : length c.octets.new.out ≡ c.from-octets.result =
     c.octets.auto.out ∙ payload_room y c.from-octets.result (wide c.self.inside.buffer header y c.self.told refl c.put_header.ensures) fits
     in
