@@ -44,10 +44,6 @@ pub begins : (parts : List (List ℕ)) → still false (params parts) ≡ has_po
 unfolding has_ports_alone
 begins parts = refl
 
-pub ends : (found total : Bool) → still found [] ≡ total → found ≡ total
-ends true total e = e
-ends false total e = e
-
 module _ (total : Bool) (parts rest : List (List ℕ)) (part : List ℕ) (e : parts ≡ part ∷ rest) where
   pub meets_unclear : (found : Bool) → is_unclear (parameter_in part) ≡ true → still found (params parts) ≡ total → false ≡ total
   meets_unclear found u so_far = sym (still_unclear found (parameter_in part) (params rest) u) ∙ sym (ap (λ (ps : List (List ℕ)). still found (params ps)) e) ∙ so_far
