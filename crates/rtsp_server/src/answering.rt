@@ -149,7 +149,7 @@ impl<R: Wait + Net + rt::Clock> PieceAnswerer for Front<'_, R> {
         }
         // Where the track was refused, the session has ended.
         if has_setup {
-            shared.ends.note();
+            shared.note_end();
         }
         if witness.is_unavailable() {
             shared.note_unavailable(rt, self.lane);

@@ -93,7 +93,7 @@ impl<R: Wait + rt::Clock> Witness for AnswerCounter<'_, R> {
             recorded.note();
         }
         if method == Method::Teardown {
-            shared.ends.note();
+            shared.note_end();
         }
         if method == Method::Setup && may_have_opened(told.status) {
             self.setups.set(self.setups.get().saturating_add(1));
@@ -165,7 +165,7 @@ impl<R: Wait> Figures<'_, R> {
             shortenings: self.shortenings(),
             ..self.shared.counters.read()
         };
-        self.shared.lanes.add_answers(self.rt, &mut counts);
+        self.shared.add_answers(self.rt, &mut counts);
         counts
     }
 

@@ -2,7 +2,7 @@
 //! sessions whose time is over.
 //!
 //! `server` starts all of them and joins them, with what `opening` gives; `threads` is what each does,
-//! and `shared` what all share, of which `all_lanes` and `end_note` are parts. `socket_lane` is a lane of sockets, `roster` has its connections,
+//! and `shared` what all share. `socket_lane` is a lane of sockets, `roster` has its connections,
 //! `client` is one of them, and `visiting` reads it. `answering` is what is done with its input over its
 //! handle of the book, `writing` and `hearing` what is done with its output and its RTCP; `unread` is
 //! what it holds of a message that isn't whole. Of a lane, `service` and `tools` are what it answers
@@ -13,10 +13,8 @@
 
 #![tactic(auto)]
 
-mod all_lanes;
 mod answering;
 mod client;
-mod end_note;
 mod fault;
 mod figures;
 mod hearing;
