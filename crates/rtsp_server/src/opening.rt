@@ -88,7 +88,7 @@ impl Opened {
             pacers: sending.pacers.len(),
         };
         let listening = opening.listen(rt, alloc, address, connections)?;
-        match Handles::split(rt, handle) {
+        match Handles::split(rt, alloc, handle) {
             Some(handles) => Ok(Opened {
                 status,
                 handles,
@@ -104,24 +104,23 @@ impl Opened {
 #[derive(Drop)]
 pub(crate) struct Handles {
     pub(crate) lanes: BookHandle,
-    // That of the thread that starts the others.
-    pub(crate) starter: BookHandle,
-    pub(crate) sweeper: BookHandle,
+    // Two: the last is that of the sweeper, and the first that of the thread that starts the others.
+    pub(crate) others: Vec<BookHandle>,
     // That by which the figures are shown, and that by which the book is given up at the end.
     pub(crate) shown: BookHandle,
     pub(crate) last: BookHandle,
 }
 
 impl Handles {
-    fn split<R: Wait>(rt: &R, mut lanes: BookHandle) -> Option<Handles> {
-        let starter = lanes.split(rt)?;
-        let sweeper = lanes.split(rt)?;
+    fn split<R: Wait>(rt: &R, alloc: Global, mut lanes: BookHandle) -> Option<Handles> {
+        let mut others = Vec::with_capacity(alloc, 2).ok()?;
+        others.push(lanes.split(rt)?).ok()?;
+        others.push(lanes.split(rt)?).ok()?;
         let shown = lanes.split(rt)?;
         let last = lanes.split(rt)?;
         Some(Handles {
             lanes,
-            starter,
-            sweeper,
+            others,
             shown,
             last,
         })

@@ -5,7 +5,7 @@ ghost use Rattle.std.specs.FinMap.{empty};
 ghost use Rattle.rtsp_record.specs.Books.{book_of};
 
 use crate::fault::ServerFault;
-use crate::opening::Opened;
+use crate::opening::{Handles, Listening, Opened, Sending};
 use crate::threads::{Beside, Parts, Start};
 use rtsp_book::Kept;
 use rtsp_content::{Operation, Table};
@@ -119,27 +119,43 @@ impl Server {
             sending,
             listening,
         } = Opened::open(rt, alloc, &table, &operation, address, connections)?;
+        let Sending {
+            media,
+            readers,
+            pacers,
+        } = sending;
+        let Listening {
+            shared,
+            lanes,
+            address,
+            connections,
+        } = listening;
+        let Handles {
+            lanes: handle,
+            others,
+            shown,
+            last,
+        } = handles;
         Ok(Server {
             alloc,
             parts: Parts {
                 table,
-                media: sending.media,
-                shared: listening.shared,
+                media,
+                shared,
             },
             start: Start {
-                handle: handles.lanes,
-                starter: handles.starter,
-                sweeper: handles.sweeper,
-                lanes: listening.lanes,
-                pacers: sending.pacers,
-                readers: sending.readers,
+                handle,
+                others,
+                lanes,
+                pacers,
+                readers,
             },
-            shown: handles.shown,
-            last: handles.last,
+            shown,
+            last,
             operation,
             status,
-            address: listening.address,
-            connections: listening.connections,
+            address,
+            connections,
         })
     }
 

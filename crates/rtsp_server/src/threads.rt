@@ -44,11 +44,10 @@ impl Drop for Parts {
 
 // What the threads that serve begin with.
 pub(crate) struct Start {
-    // The handle of the book that the lanes have, that of the thread that starts them, and the
-    // sweeper's.
+    // The handle of the book that the lanes have, and those of the sweeper and of the thread that
+    // starts them.
     pub(crate) handle: BookHandle,
-    pub(crate) starter: BookHandle,
-    pub(crate) sweeper: BookHandle,
+    pub(crate) others: Vec<BookHandle>,
     pub(crate) lanes: Vec<SocketLane>,
     pub(crate) pacers: Vec<OnePacer>,
     // Those that read ahead, where that is wanted.
@@ -60,8 +59,7 @@ impl Drop for Start {
     fn drop(self) {
         let Self {
             handle: _handle,
-            starter: _starter,
-            sweeper: _sweeper,
+            others: _others,
             lanes: _lanes,
             pacers: _pacers,
             readers: _readers,
@@ -302,12 +300,15 @@ impl Start {
     ) -> (Option<Scribe>, Result<PoolEnd, ServerFault>) {
         let Self {
             handle,
-            starter,
-            sweeper,
+            mut others,
             lanes,
             pacers,
             readers,
         } = self;
+        let (Some(sweeper), Some(own)) = (others.pop(), others.pop()) else {
+            parts.stop_for_want_of_threads(rt);
+            return (scribe, Err(ServerFault::NoThread));
+        };
         thread::scope(thread::scope_env(), rt, move |scope| {
             let mut missing = 0u64;
             for pacer in pacers {
@@ -328,7 +329,7 @@ impl Start {
                 parts.stop_for_want_of_threads(rt);
                 return (scribe, Err(ServerFault::NoThread));
             };
-            let (scribe, has_told) = parts.attend(rt, announcer, address, scribe, starter);
+            let (scribe, has_told) = parts.attend(rt, announcer, address, scribe, own);
             let ended = pool.join(rt);
             if has_told {
                 (scribe, ended)
