@@ -4,7 +4,7 @@ use Rattle.std.specs.Prelude.{Some, None}
 use Rattle.std.proofs.lemmas.Option.{none-some}
 use Rattle.std.specs.Ordering.{nat_cmp, is_eq, is_lt}
 use Rattle.std.specs.declared.cmp.Ordering.{Ordering}
-use Rattle.std.specs.declared.cmp.Ordering.TheVariants.{Less, Equal, Greater}
+use Rattle.std.specs.declared.cmp.Ordering.TheVariants.{Less}
 use Rattle.std.specs.FinMap.{find, is_sorted}
 use Rattle.std.specs.FinMap.Entries.{below_all}
 use Rattle.rtsp_record.proofs.Tables.{own, at_key}
@@ -13,8 +13,7 @@ use Rattle.rtsp_sessions.proofs.SortedRows.{both_parts}
 
 not_eq : (r : Ordering) → T (is_lt r) → is_eq r ≡ false
 not_eq Less h = refl
-not_eq Equal h = absurd h
-not_eq Greater h = absurd h
+not_eq r h = absurd h
 
 module _ {X : Type 0} where
   pub sorted_parts : (e : ℕ × X) (es : List (ℕ × X)) → T (is_sorted nat_cmp (e ∷ es)) → T (below_all nat_cmp e.0 es) × T (is_sorted nat_cmp es)

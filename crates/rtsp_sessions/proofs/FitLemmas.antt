@@ -9,8 +9,8 @@ use Rattle.rtsp_record.specs.declared.holdings.Thing.{Thing}
 use Rattle.rtsp_record.specs.declared.holdings.Whole.{Whole}
 use Rattle.rtsp_record.specs.declared.streams.Stream.{Stream}
 use Rattle.rtsp_record.specs.declared.changes.Record.{Record}
-use Rattle.rtsp_record.specs.declared.changes.Record.TheVariants.{Open, Close, Hold, Free, Add, Drop, Move, Touch, Bind, Unbind}
-use Rattle.rtsp_record.specs.Records.{holds, adds}
+use Rattle.rtsp_record.specs.declared.changes.Record.TheVariants.{Open, Close, Hold, Add}
+use Rattle.rtsp_record.specs.Records.{holds, adds, session_of}
 use Rattle.rtsp_record.specs.Tables.{Table}
 use Rattle.rtsp_record.specs.Books.{Session, Book, row, kept, or_bare, under, after}
 use Rattle.rtsp_record.specs.Sums.{one_if, if_there, is_opening, is_holding, admissions_holding, others_holding, of_admission, of_session, sessions, returns, owed}
@@ -25,8 +25,7 @@ use Rattle.rtsp_sessions.proofs.SortedRows.{find_there}
 part : (r : Option ℕ) (x : Option Thing) (v : Option Stream) (d : Admission) → row r x v ≡ Some d → ((u : Stream) → v ≡ Some u → IsSome r × IsSome x) → (is_some r || is_some x) ≡ true
 part None None None d h g = absurd cc
 part None None (Some u) d h g = let bad = (g u refl).0 in absurd cc
-part None (Some x) v d h g = refl
-part (Some n) x v d h g = refl
+part r x v d h g = refl
 
 holds_something : (w : Whole) (f : Session) (a : ℕ) (d : Admission) → SoundSession w f → get f.admissions a ≡ Some d → is_holding d ≡ true
 holds_something w f a d ok is =
@@ -82,13 +81,8 @@ fits : (w : Whole) (b : Book) (r : Record) → Sound w b → Allowed w b r → F
 fits w b (Open k) ok h = h.0
 fits w b (Close k) ok h = subst IsSome (sym h.0) refl
 fits w b (Hold k) ok h = hold_fits w k.session k.admission k.thing (get b k.session) (ok.rows k.session) h.0
-fits w b (Free k) ok h = lives _ (get b k.session) h.0
 fits w b (Add k) ok h = add_fits k.session k.admission k.stream (get b k.session) h.0
-fits w b (Drop k) ok h = lives _ (get b k.session) h.0
-fits w b (Move k) ok h = lives _ (get b k.session) h.0
-fits w b (Touch k) ok h = lives _ (get b k.session) h.0
-fits w b (Bind k) ok h = lives _ (get b k.session) h.0
-fits w b (Unbind k) ok h = lives _ (get b k.session) h.0
+fits w b r ok h = lives _ (get b (session_of r)) h.0
 
 pub all_fit : (w : Whole) (b : Book) (rs : List Record) → Sound w b → AllAllowed w b rs → AllFit b rs
 all_fit w b [] ok h = tt

@@ -1,5 +1,5 @@
 -- The first of the rows of an array: how one is replaced, taken away and put between.
-use Rattle.std.proofs.Common.{◌⊎◌, inl, inr, ◌≡◌, ℕ, ◌+◌, ◌-◌, ◌<◌, ◌≤◌, zero, suc, List, [], ◌∷◌, ◌++◌, length, take, drop, set, refl, sym, ◌∙◌, ap, subst, arith}
+use Rattle.std.proofs.Common.{◌⊎◌, inl, inr, ◌≡◌, ℕ, ◌+◌, ◌-◌, ◌<◌, ◌≤◌, suc, List, [], ◌∷◌, ◌++◌, length, take, drop, set, refl, sym, ◌∙◌, ap, subst, arith}
 use Rattle.std.specs.Prelude.{Option, Some, None, IsSome}
 use Rattle.std.specs.FinMap.{get, entries}
 use Rattle.rtsp_record.specs.Tables.{Table}
@@ -11,10 +11,8 @@ use Rattle.std.proofs.lemmas.List.Edits.{take-paste}
 
 module _ {X : Type 0} where
   pub first_set : (n : ℕ) (xs : List X) (i : ℕ) (x : X) → take n (set xs i x) ≡ set (take n xs) i x
-  first_set zero xs i x = refl
-  first_set (suc n) [] i x = refl
-  first_set (suc n) (y ∷ xs) zero x = refl
   first_set (suc n) (y ∷ xs) (suc i) x = ap (λ r. y ∷ r) (first_set n xs i x)
+  first_set n xs i x = refl
 
   pub first_removed : (n : ℕ) (xs : List X) (i : ℕ) → i < n → n ≤ length xs → take (n - 1) (copy_within xs (i + 1) n i) ≡ remove (take n xs) i
   first_removed n xs i lt le =

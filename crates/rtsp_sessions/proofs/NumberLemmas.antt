@@ -68,10 +68,9 @@ inserted_beyond n (m ∷ ms) below =
 -- of one more, the first are those of the first
 pub insert_first : (xs : List ℕ) (k i n : ℕ) → i ≤ k → insert (take k xs) i n ≡ take (suc k) (insert xs i n)
 insert_first xs k zero n le = refl
-insert_first [] zero (suc i) n le = absurd (omega (arith, le))
-insert_first [] (suc k) (suc i) n le = refl
-insert_first (x ∷ xs) zero (suc i) n le = absurd (omega (arith, le))
+insert_first xs zero (suc i) n le = absurd (omega (arith, le))
 insert_first (x ∷ xs) (suc k) (suc i) n le = ap (λ (l : List ℕ). x ∷ l) (insert_first xs k i n (omega (arith, le)))
+insert_first xs k i n le = refl
 
 -- behind all that count
 pub unless_last : (xs : List ℕ) (k i n : ℕ) → length xs ≤ k → k ≤ i → i ≤ length xs → xs ≡ take k (insert xs i n)
@@ -86,27 +85,24 @@ unless_last (x ∷ xs) zero (suc i) n short le within = absurd (omega (arith, sh
 unless_last (x ∷ xs) (suc k) (suc i) n short le within = ap (λ (l : List ℕ). x ∷ l) (unless_last xs k i n (omega (arith, short)) (omega (arith, le)) (omega (arith, within)))
 
 take_twice : (k : ℕ) (xs : List ℕ) → take k (take k xs) ≡ take k xs
-take_twice zero xs = refl
-take_twice (suc k) [] = refl
 take_twice (suc k) (x ∷ xs) = ap (λ (l : List ℕ). x ∷ l) (take_twice k xs)
+take_twice k xs = refl
 
 take_behind : (k m : ℕ) (xs : List ℕ) → take k (m ∷ take k xs) ≡ take k (m ∷ xs)
 take_behind zero m xs = refl
 take_behind (suc k) m xs = ap (λ (l : List ℕ). m ∷ l) (take_first k xs)
   where
     take_first : (k : ℕ) (xs : List ℕ) → take k (take (suc k) xs) ≡ take k xs
-    take_first zero xs = refl
-    take_first (suc k) [] = refl
     take_first (suc k) (x ∷ xs) = ap (λ (l : List ℕ). x ∷ l) (take_first k xs)
+    take_first k xs = refl
 
 pub inserted_first : (k n : ℕ) (xs : List ℕ) → take k (inserted n (take k xs)) ≡ take k (inserted n xs)
-inserted_first zero n xs = refl
-inserted_first (suc k) n [] = refl
 inserted_first (suc k) n (m ∷ ms) =
     by_cases n m (take (suc k) (inserted n (m ∷ take k ms)) ≡ take (suc k) (inserted n (m ∷ ms)))
     (λ same. ap (take (suc k)) (inserted-same n m (take k ms) same) ∙ ap (λ (l : List ℕ). m ∷ l) (take_twice k ms) ∙ sym (ap (take (suc k)) (inserted-same n m ms same)))
     (λ less. ap (take (suc k)) (inserted-less n m (take k ms) less) ∙ ap (λ (l : List ℕ). n ∷ l) (take_behind k m ms) ∙ sym (ap (take (suc k)) (inserted-less n m ms less)))
     (λ more. ap (take (suc k)) (inserted-greater n m (take k ms) more) ∙ ap (λ (l : List ℕ). m ∷ l) (inserted_first k n ms) ∙ sym (ap (take (suc k)) (inserted-greater n m ms more)))
+inserted_first k n xs = refl
 
 -- Numbers that don't fall.
 
@@ -131,9 +127,8 @@ pub placed_rises : (xs : List ℕ) (i n : ℕ) → IsNonDecreasing xs → Placed
 placed_rises xs i n up p = rising-insert xs i n up p.within p.before p.behind
 
 pub take_short : (k : ℕ) (xs : List ℕ) → length (take k xs) ≤ k
-take_short zero xs = omega arith
-take_short (suc k) [] = omega arith
 take_short (suc k) (x ∷ xs) = omega (arith, take_short k xs)
+take_short k xs = omega arith
 
 -- no more, and not as many
 pub fewer : (n m : ℕ) → n ≤ m → nat_eq n m ≡ false → n < m
