@@ -6,7 +6,7 @@ use Rattle.std.proofs.lemmas.List.Sums.{sum_by-cons}
 use Rattle.rtsp_record.specs.declared.holdings.Whole.{Whole}
 use Rattle.rtsp_record.specs.declared.payloads.Binding.{Binding}
 use Rattle.rtsp_record.specs.declared.changes.Record.{Record}
-use Rattle.rtsp_record.specs.declared.changes.Record.TheVariants.{Open, Close, Hold, Free, Add, Drop, Move, Touch, Bind, Unbind}
+use Rattle.rtsp_record.specs.declared.changes.Record.TheVariants.{Open, Bind, Unbind}
 use Rattle.rtsp_record.specs.Records.{inverse_of}
 use Rattle.rtsp_record.specs.Books.{Session, Book, after}
 use Rattle.rtsp_record.specs.Sums.{one_if, if_there, of_session, amount, sessions, returns, living, owed}
@@ -23,15 +23,7 @@ use Rattle.rtsp_index.specs.Bound.{bindings_of}
 
 opens_gain : (r : Record) → gain sessions r ≡ one_if (is_open r)
 opens_gain (Open k) = refl
-opens_gain (Close k) = refl
-opens_gain (Hold k) = refl
-opens_gain (Free k) = refl
-opens_gain (Add k) = refl
-opens_gain (Drop k) = refl
-opens_gain (Move k) = refl
-opens_gain (Touch k) = refl
-opens_gain (Bind k) = refl
-opens_gain (Unbind k) = refl
+opens_gain r = refl
 
 pub living_after : (w : Whole) (b : Book) (r : Record) → Follows w b r → living (after b r) + one_if (is_open (inverse_of r)) ≡ living b + one_if (is_open r)
 living_after w b r f = omega (arith, balance sessions b r f.allowed.0, opens_gain r, opens_gain (inverse_of r))
@@ -76,13 +68,6 @@ unbound_by w b r k is =
     (λ f c. omega (arith, bound_after w b (Unbind k) c f))
 
 pub bound_still : (w : Whole) (b : Book) (r : Record) → ((k : Binding) → r ≡ Bind k → ⊥) → ((k : Binding) → r ≡ Unbind k → ⊥) → Follows w b r → (c : ℕ) → amount (bindings_of c) (after b r) ≡ amount (bindings_of c) b
-bound_still w b (Open k) h g f c = omega (arith, bound_after w b (Open k) c f)
-bound_still w b (Close k) h g f c = omega (arith, bound_after w b (Close k) c f)
-bound_still w b (Hold k) h g f c = omega (arith, bound_after w b (Hold k) c f)
-bound_still w b (Free k) h g f c = omega (arith, bound_after w b (Free k) c f)
-bound_still w b (Add k) h g f c = omega (arith, bound_after w b (Add k) c f)
-bound_still w b (Drop k) h g f c = omega (arith, bound_after w b (Drop k) c f)
-bound_still w b (Move k) h g f c = omega (arith, bound_after w b (Move k) c f)
-bound_still w b (Touch k) h g f c = omega (arith, bound_after w b (Touch k) c f)
 bound_still w b (Bind k) h g f c = absurd (h k refl)
 bound_still w b (Unbind k) h g f c = absurd (g k refl)
+bound_still w b r h g f c = omega (arith, bound_after w b r c f)

@@ -7,7 +7,7 @@ use Rattle.std.proofs.lemmas.Bool.Decides.{nat_tests}
 use Rattle.std.proofs.lemmas.List.Sums.{sum_by-cons}
 use Rattle.rtsp_record.specs.declared.holdings.Admission.{Admission}
 use Rattle.rtsp_record.specs.declared.holdings.Thing.{Thing}
-use Rattle.rtsp_record.specs.declared.holdings.Thing.TheVariants.{Pair, Port, Chan, Rate}
+use Rattle.rtsp_record.specs.declared.holdings.Thing.TheVariants.{Chan}
 use Rattle.rtsp_record.specs.Books.{Session, Book}
 use Rattle.rtsp_record.specs.Sums.{one_if, if_there, Channel, of_admission, of_session, amount, covering}
 use Rattle.rtsp_sessions.specs.Searches.{first_with, is_chan_of, is_binding_of, is_on}
@@ -19,11 +19,8 @@ covered c d k h = grind (arith, nat_tests)
 
 -- channels of a connection cover one of its channels
 channel_there : (c : ℕ) (o : Option Thing) → is_chan_of c o ≡ true → (k : ℕ) × (if_there (covering (Channel c k)).thing o ≡ 1)
-channel_there c None h = absurd cc
-channel_there c (Some (Pair p)) h = absurd cc
-channel_there c (Some (Port p)) h = absurd cc
 channel_there c (Some (Chan d k)) h = (k, covered c d k h)
-channel_there c (Some (Rate n)) h = absurd cc
+channel_there c o h = absurd cc
 
 no_channels : (c : ℕ) (es : List (ℕ × Admission)) → ((l : ℕ) → sum_by (λ e. of_admission (covering (Channel c l)) e.1) es ≡ 0) → is_some (first_with (λ e. is_chan_of c e.1.address) es) ≡ false
 no_channels c [] none = refl
