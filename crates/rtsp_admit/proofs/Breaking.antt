@@ -160,7 +160,6 @@ module _ {B : Type 0} (calls : Calls B) (ask : Ask) where
   second_left (wanted.Channels conn wish) e s t h = subst IsSecond (sym h.none) tt
 
   pub second_is : (cause : Failure) (s t : State B) → Fails calls ask cause s t → IsSecond (chain_left ask cause).second
-  second_is (failure.Open refusal) s t h = tt
-  second_is (failure.Rate refusal) s t h = tt
   second_is (failure.Address e) s t h = second_left ask.wanted e (with_view h.rated s) t h.addresses
   second_is (failure.Commit refusal x) s t h = is_address ask.wanted x (with_view h.rated s) (with_view h.held t) h.addresses
+  second_is cause s t h = tt

@@ -4,7 +4,7 @@ use Rattle.std.specs.Prelude.{Option, Some, None}
 use Rattle.std.proofs.Math.Nat.{le-min, min-le_right}
 use Rattle.rtsp_record.specs.declared.changes.Record.{Record}
 use Rattle.rtsp_record.specs.declared.holdings.Thing.{Thing}
-use Rattle.rtsp_record.specs.declared.holdings.Thing.TheVariants.{Pair, Port, Chan, Rate}
+use Rattle.rtsp_record.specs.declared.holdings.Thing.TheVariants.{Pair, Port, Rate}
 use Rattle.rtsp_record.specs.Counters.{raised}
 use Rattle.rtsp_record.specs.Records.{holds}
 use Rattle.rtsp_book.specs.declared.asks.Ask.{Ask}
@@ -152,11 +152,9 @@ module _ {B : Type 0} (calls : Calls B) (ask : Ask) where
   same_unbound (x ∷ xs) b c h = same_unbound xs h.0 c h.2 ∙ h.1.count
 
   same_released : (o : Option Thing) (b c : B) → Released calls ask.admission o b c → calls.failures c ≡ calls.failures b
-  same_released None b c h = ap calls.failures h
   same_released (Some (Pair p)) b c h = h.count
   same_released (Some (Port p)) b c h = h.count
-  same_released (Some (Chan k l)) b c h = ap calls.failures h
-  same_released (Some (Rate n)) b c h = ap calls.failures h
+  same_released o b c h = ap calls.failures h
 
   pub admissions_count_faults : AdmissionsCountFaults calls ask
   admissions_count_faults (Ok granted) s t run below same =

@@ -9,7 +9,7 @@ use mathlib.Core.List.{IsPrefix}
 use Rattle.rtsp_record.specs.declared.holdings.Admission.{Admission}
 use Rattle.rtsp_record.specs.declared.holdings.Whole.{Whole}
 use Rattle.rtsp_record.specs.declared.phases.Phase.{Phase}
-use Rattle.rtsp_record.specs.declared.phases.Phase.TheVariants.{Ready, Playing, Ended}
+use Rattle.rtsp_record.specs.declared.phases.Phase.TheVariants.{Ready, Playing}
 use Rattle.rtsp_record.specs.declared.streams.Stream.{Stream}
 use Rattle.rtsp_record.specs.declared.changes.Entry.{Entry}
 use Rattle.rtsp_record.specs.declared.changes.Record.{Record}
@@ -21,7 +21,7 @@ use Rattle.rtsp_book.specs.declared.asks.Ask.{Ask}
 use Rattle.rtsp_book.specs.declared.refusals.Refusal.{Refusal}
 use Rattle.rtsp_sessions.specs.declared.startups.Startup.{Startup}
 use Rattle.rtsp_book.specs.declared.steps.Step.{Step}
-use Rattle.rtsp_book.specs.declared.steps.Step.TheVariants.{Open, HoldRate, HoldPair, HoldPort, HoldChan, Return, Commit, Unwind, Play, Pause, Finish, Touch, DropTrack, End, Expire, Hangup}
+use Rattle.rtsp_book.specs.declared.steps.Step.TheVariants.{Open, HoldRate, HoldPair, HoldPort, HoldChan, Commit, Play, Pause, Finish, Touch}
 use Rattle.rtsp_book.specs.Kept.{entries_by}
 use Rattle.rtsp_record.specs.Choices.{least_pair, least_port, chosen_chan}
 use Rattle.rtsp_sessions.specs.Searches.{first_with}
@@ -93,9 +93,8 @@ quiet_pausing n s unit_ms now p =
     elim (is_ready p) as (λ t. Quiet n (cond t [] (moves s p (Ready (point p unit_ms now) (sent_with_due p unit_ms now)) ∷ []))) [ true ↦ tt | false ↦ (refl, tt) ]
 
 quiet_finishing : (n s unit_ms now : ℕ) (p : Phase) → Quiet n (finishing s unit_ms now p)
-quiet_finishing n s unit_ms now (Ready at sent) = tt
 quiet_finishing n s unit_ms now (Playing from stop sent since) = (refl, tt)
-quiet_finishing n s unit_ms now (Ended at sent) = tt
+quiet_finishing n s unit_ms now p = tt
 
 quiet_touching : (n s expires until : ℕ) → Quiet n (touching s expires until)
 quiet_touching n s expires until = elim (nat_lt expires until) as (λ t. Quiet n (cond t (touches s expires until ∷ []) [])) [ true ↦ (refl, tt) | false ↦ tt ]
@@ -107,7 +106,6 @@ quiet_made n w b (HoldRate s a bits) apart = (other a n (apart a refl), tt)
 quiet_made n w b (HoldPair s a from) apart = quiet_pair n s a (least_pair w b from) (apart a refl)
 quiet_made n w b (HoldPort s a from) apart = quiet_port n s a (least_port w b from) (apart a refl)
 quiet_made n w b (HoldChan h) apart = quiet_chan n h.session h.admission h.conn (chosen_chan b h.conn h.wish) (apart h.admission refl)
-quiet_made n w b (Return s a x) apart = (refl, tt)
 quiet_made n w b (Commit c) apart =
     quiet_living n (get b c.session) (committing c) (λ f.
     let old = first_with (is_of_track c.stream.track) (entries f.admissions) in
@@ -116,11 +114,7 @@ quiet_made n w b (Play d) apart = quiet_living n (get b d.session) (λ f. playin
 quiet_made n w b (Pause s unit_ms now) apart = quiet_living n (get b s) (λ f. pausing s unit_ms now f.phase) (λ f. quiet_pausing n s unit_ms now f.phase)
 quiet_made n w b (Finish s unit_ms now) apart = quiet_living n (get b s) (λ f. finishing s unit_ms now f.phase) (λ f. quiet_finishing n s unit_ms now f.phase)
 quiet_made n w b (Touch s until) apart = quiet_living n (get b s) (λ f. touching s f.expires until) (λ f. quiet_touching n s f.expires until)
-quiet_made n w b (Unwind ch) apart = let g = made_gives w b (Unwind ch) refl in quiet_giving n g.0 (made w b (Unwind ch)) g.1
-quiet_made n w b (DropTrack s t) apart = let g = made_gives w b (DropTrack s t) refl in quiet_giving n g.0 (made w b (DropTrack s t)) g.1
-quiet_made n w b (End s) apart = let g = made_gives w b (End s) refl in quiet_giving n g.0 (made w b (End s)) g.1
-quiet_made n w b (Expire now) apart = let g = made_gives w b (Expire now) refl in quiet_giving n g.0 (made w b (Expire now)) g.1
-quiet_made n w b (Hangup c) apart = let g = made_gives w b (Hangup c) refl in quiet_giving n g.0 (made w b (Hangup c)) g.1
+quiet_made n w b step apart = let g = made_gives w b step refl in quiet_giving n g.0 (made w b step) g.1
 
 quiet_entries : (n by : ℕ) (rs : List Record) → Quiet n rs → uses n (entries_by by rs) ≡ []
 quiet_entries n by [] q = refl

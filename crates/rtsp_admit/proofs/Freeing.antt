@@ -5,10 +5,10 @@ use Rattle.std.proofs.lemmas.Bool.{ne_eqb, both_ways, or_parts}
 use Rattle.std.specs.FinMap.{get, entries, entries_sorted, get-entries}
 use Rattle.rtsp_record.specs.declared.holdings.Admission.{Admission}
 use Rattle.rtsp_record.specs.declared.holdings.Thing.{Thing}
-use Rattle.rtsp_record.specs.declared.holdings.Thing.TheVariants.{Pair, Port, Chan, Rate}
+use Rattle.rtsp_record.specs.declared.holdings.Thing.TheVariants.{Pair, Port}
 use Rattle.rtsp_record.specs.declared.streams.Stream.{Stream}
 use Rattle.rtsp_record.specs.declared.changes.Record.{Record}
-use Rattle.rtsp_record.specs.declared.changes.Record.TheVariants.{Open, Close, Hold, Free, Add, Drop, Move, Touch, Bind, Unbind}
+use Rattle.rtsp_record.specs.declared.changes.Record.TheVariants.{Free}
 use Rattle.rtsp_record.specs.Records.{frees, adds}
 use Rattle.rtsp_record.specs.Books.{Session, or_bare, under, book_of}
 use Rattle.rtsp_record.specs.Rules.{is_ready, is_same_thing, if_living}
@@ -44,21 +44,12 @@ NoneAmong a y rs = (is_among (as_pairs (freed_pairs rs)) a y ≡ false) × (is_a
 free_one : (a b s : ℕ) (x y : Thing) (rs : List Record) → (a == b) ≡ false → NoneAmong a y rs → NoneAmong a y (frees s b x ∷ rs)
 free_one a b s (Pair p) y rs off rest = (ap (λ v. (v && is_same_thing y (Pair p)) || is_among (as_pairs (freed_pairs rs)) a y) off ∙ rest.0, rest.1)
 free_one a b s (Port p) y rs off rest = (rest.0, ap (λ v. (v && is_same_thing y (Port p)) || is_among (as_ports (freed_ports rs)) a y) off ∙ rest.1)
-free_one a b s (Chan c k) y rs off rest = rest
-free_one a b s (Rate n) y rs off rest = rest
+free_one a b s x y rs off rest = rest
 
 among_none : (a : ℕ) (y : Thing) (rs : List Record) → AllFine (FreesOther a) rs → NoneAmong a y rs
 among_none a y [] h = (refl, refl)
 among_none a y (Free k ∷ rs) h = free_one a k.admission k.session k.thing y rs h.0 (among_none a y rs h.1)
-among_none a y (Open k ∷ rs) h = among_none a y rs h.1
-among_none a y (Close k ∷ rs) h = among_none a y rs h.1
-among_none a y (Hold k ∷ rs) h = among_none a y rs h.1
-among_none a y (Add k ∷ rs) h = among_none a y rs h.1
-among_none a y (Drop k ∷ rs) h = among_none a y rs h.1
-among_none a y (Move k ∷ rs) h = among_none a y rs h.1
-among_none a y (Touch k ∷ rs) h = among_none a y rs h.1
-among_none a y (Bind k ∷ rs) h = among_none a y rs h.1
-among_none a y (Unbind k ∷ rs) h = among_none a y rs h.1
+among_none a y (r ∷ rs) h = among_none a y rs h.1
 
 -- nor is it among both
 among_both : (xs ys : List (ℕ × Thing)) (a : ℕ) (y : Thing) → is_among xs a y ≡ false → is_among ys a y ≡ false → is_among (xs ++ ys) a y ≡ false

@@ -25,9 +25,8 @@ use Rattle.rtsp_admit.proofs.Freeing.{commit_keeps}
 -- what was not there is added and taken away
 add_take : (v it : Bool) → (it ≡ true → v ≡ false) → ((v || it) && not it) ≡ v
 add_take true true h = sym (h refl)
-add_take true false h = refl
 add_take false true h = refl
-add_take false false h = refl
+add_take v it h = refl
 
 less_none : (v : Bool) → v ≡ (v && true)
 less_none true = refl
@@ -39,8 +38,7 @@ more_none false = refl
 
 less_both : (v it rest : Bool) → ((v && not it) && not rest) ≡ (v && not (it || rest))
 less_both true true rest = refl
-less_both true false rest = refl
-less_both false it rest = refl
+less_both v it rest = refl
 
 -- granted ports are those that were bound
 granted_ports : (kind : UdpPorts) (p a n : ℕ) (y : Thing) → is_granted a (ports_from kind p) n y ≡ is_address a (ports_from kind p) n y

@@ -8,7 +8,7 @@ use Rattle.rtsp_record.specs.declared.holdings.Thing.{Thing}
 use Rattle.rtsp_record.specs.declared.holdings.Thing.TheVariants.{Pair, Port, Chan, Rate}
 use Rattle.rtsp_record.specs.declared.holdings.Admission.{Admission}
 use Rattle.rtsp_record.specs.declared.changes.Record.{Record}
-use Rattle.rtsp_record.specs.declared.changes.Record.TheVariants.{Open, Close, Hold, Free, Add, Drop, Move, Touch, Bind, Unbind}
+use Rattle.rtsp_record.specs.declared.changes.Record.TheVariants.{Open, Close, Hold, Free, Add, Drop}
 use Rattle.rtsp_record.specs.declared.changes.Entry.{Entry}
 use Rattle.rtsp_record.specs.Records.{session_of, holds, frees}
 use Rattle.rtsp_record.specs.Books.{Session, Book, bare, holding, freed, streaming, under, with_under, effect, after, after_all, records_of, book_of}
@@ -40,9 +40,7 @@ upto_bare x y = record { rate = inl refl; address = inl refl; stream = refl }
 
 upto_freed : (x y : Option Thing) (t : Thing) (d : Admission) → Upto x y d → Upto x y (freed t d)
 upto_freed x y (Rate n) d h = record { rate = inl refl; address = h.address; stream = h.stream }
-upto_freed x y (Pair p) d h = record { rate = h.rate; address = inl refl; stream = h.stream }
-upto_freed x y (Port p) d h = record { rate = h.rate; address = inl refl; stream = h.stream }
-upto_freed x y (Chan c k) d h = record { rate = h.rate; address = inl refl; stream = h.stream }
+upto_freed x y t d h = record { rate = h.rate; address = inl refl; stream = h.stream }
 
 upto_dropped : (x y : Option Thing) (d : Admission) → Upto x y d → Upto x y (streaming None d)
 upto_dropped x y d h = record { rate = h.rate; address = h.address; stream = refl }
@@ -56,24 +54,14 @@ within_more a x y (Some f) h = record { rate = ⊎_elim (λ e. inl e) (λ e. inl
 pub quiet_row : (a : ℕ) (x y : Option Thing) (r : Record) (o : Option Session) → is_use_of a r ≡ false → Within a x y o → Within a x y (effect r o)
 quiet_row a x y (Open l) o off h = subst (Upto x y) (sym (under_opened l.id l.conn l.expires a)) (upto_bare x y)
 quiet_row a x y (Close l) o off h = tt
-quiet_row a x y (Hold k) None off h = tt
 quiet_row a x y (Hold k) (Some f) off h = at_under f k.admission (holding k.thing (under f k.admission)) a (Upto x y) (λ e. absurd (eqb-false k.admission a off (sym e))) h
-quiet_row a x y (Free k) None off h = tt
 quiet_row a x y (Free k) (Some f) off h =
     at_under f k.admission (freed k.thing (under f k.admission)) a (Upto x y) (λ e. upto_freed x y k.thing (under f k.admission) (subst (λ c. Upto x y (under f c)) e h)) h
-quiet_row a x y (Add d) None off h = tt
 quiet_row a x y (Add d) (Some f) off h = at_under f d.admission (streaming (Some d.stream) (under f d.admission)) a (Upto x y) (λ e. absurd (eqb-false d.admission a off (sym e))) h
-quiet_row a x y (Drop d) None off h = tt
 quiet_row a x y (Drop d) (Some f) off h =
     at_under f d.admission (streaming None (under f d.admission)) a (Upto x y) (λ e. upto_dropped x y (under f d.admission) (subst (λ c. Upto x y (under f c)) e h)) h
-quiet_row a x y (Move m) None off h = tt
-quiet_row a x y (Move m) (Some f) off h = h
-quiet_row a x y (Touch t) None off h = tt
-quiet_row a x y (Touch t) (Some f) off h = h
-quiet_row a x y (Bind k) None off h = tt
-quiet_row a x y (Bind k) (Some f) off h = h
-quiet_row a x y (Unbind k) None off h = tt
-quiet_row a x y (Unbind k) (Some f) off h = h
+quiet_row a x y r None off h = tt
+quiet_row a x y r (Some f) off h = h
 
 quiet_after : (a q : ℕ) (x y : Option Thing) (b : Book) (r : Record) → is_use_of a r ≡ false → Within a x y (get b q) → Within a x y (get (after b r) q)
 quiet_after a q x y b r off h =
@@ -130,22 +118,14 @@ holds_rate s a n x y (Some f) h =
 pub holds_address : (s a : ℕ) (t : Thing) (x y : Option Thing) (o : Option Session) → IsAddress t → Within a x y o → Within a x (Some t) (effect (holds s a t) o)
 holds_address s a t x y None is h = tt
 holds_address s a (Rate n) x y (Some f) is h = absurd is
-holds_address s a (Pair p) x y (Some f) is h =
-    subst (Upto x (Some (Pair p))) (sym (under-own f a (holding (Pair p) (under f a)))) (record { rate = h.rate; address = inr refl; stream = h.stream })
-holds_address s a (Port p) x y (Some f) is h =
-    subst (Upto x (Some (Port p))) (sym (under-own f a (holding (Port p) (under f a)))) (record { rate = h.rate; address = inr refl; stream = h.stream })
-holds_address s a (Chan c k) x y (Some f) is h =
-    subst (Upto x (Some (Chan c k))) (sym (under-own f a (holding (Chan c k) (under f a)))) (record { rate = h.rate; address = inr refl; stream = h.stream })
+holds_address s a t x y (Some f) is h =
+    subst (Upto x (Some t)) (sym (under-own f a (holding t (under f a)))) (record { rate = h.rate; address = inr refl; stream = h.stream })
 
 pub frees_address : (s a : ℕ) (t : Thing) (x y : Option Thing) (o : Option Session) → IsAddress t → Within a x y o → Within a x None (effect (frees s a t) o)
 frees_address s a t x y None is h = tt
 frees_address s a (Rate n) x y (Some f) is h = absurd is
-frees_address s a (Pair p) x y (Some f) is h =
-    subst (Upto x None) (sym (under-own f a (freed (Pair p) (under f a)))) (record { rate = h.rate; address = inl refl; stream = h.stream })
-frees_address s a (Port p) x y (Some f) is h =
-    subst (Upto x None) (sym (under-own f a (freed (Port p) (under f a)))) (record { rate = h.rate; address = inl refl; stream = h.stream })
-frees_address s a (Chan c k) x y (Some f) is h =
-    subst (Upto x None) (sym (under-own f a (freed (Chan c k) (under f a)))) (record { rate = h.rate; address = inl refl; stream = h.stream })
+frees_address s a t x y (Some f) is h =
+    subst (Upto x None) (sym (under-own f a (freed t (under f a)))) (record { rate = h.rate; address = inl refl; stream = h.stream })
 
 -- What an Unwind without an Open leaves.
 
@@ -158,14 +138,11 @@ IsSecond (Some t) = IsAddress t
 abbrev pub IsFirst : Option Thing → Type 0
 IsFirst None = Unit {0}
 IsFirst (Some (Rate n)) = Unit {0}
-IsFirst (Some (Pair p)) = ⊥
-IsFirst (Some (Port p)) = ⊥
-IsFirst (Some (Chan c k)) = ⊥
+IsFirst o = ⊥
 
 both : (v u : Bool) → v ≡ true → u ≡ false → (v && not u) ≡ true
-both true true on off = absurd cc
 both true false on off = refl
-both false u on off = absurd cc
+both v u on off = absurd cc
 
 either_none : (o : Option Thing) → (o ≡ None) ⊎ (o ≡ None) → o ≡ None
 either_none o h = ⊎_elim (λ e. e) (λ e. e) h
@@ -213,9 +190,6 @@ second_back s a f x (Some (Chan c k)) is h = address_back s a f x (Chan c k) (λ
 
 first_back : (s a : ℕ) (f g : Session) (x : Option Thing) → IsFirst x → Upto x None (under g a) → (under g a).rate ≡ (under f a).rate → (under f a).stream ≡ None → Within a None None (row_after (taking_back s a f x) (Some g))
 first_back s a f g None is h same stream = h
-first_back s a f g (Some (Pair p)) is h same stream = absurd is
-first_back s a f g (Some (Port p)) is h same stream = absurd is
-first_back s a f g (Some (Chan c k)) is h same stream = absurd is
 first_back s a f g (Some (Rate n)) is h same stream =
     elim (is_held f a (Rate n) && not (has_stream_under f a)) as (λ v. (is_held f a (Rate n) && not (has_stream_under f a)) ≡ v → Within a None None (row_after (cond v (frees s a (Rate n) ∷ []) []) (Some g))) [
       | true ↦ λ _. subst (Upto None None) (sym (under-own g a (freed (Rate n) (under g a)))) (record { rate = inl refl; address = h.address; stream = h.stream })
@@ -225,6 +199,7 @@ first_back s a f g (Some (Rate n)) is h same stream =
         stream = h.stream;
       }
     ] refl
+first_back s a f g x is h same stream = absurd is
 
 pub both_back : (s a : ℕ) (f : Session) (x y : Option Thing) → IsFirst x → IsSecond y → Upto x y (under f a) → Within a None None (row_after (taking_back s a f y ++ taking_back s a f x) (Some f))
 both_back s a f x y first second h =

@@ -231,17 +231,13 @@ module _ {B : Type 0} (calls : Calls B) (ask : Ask) where
 
   chain_quiet : (cause : Failure) (answer : Result (List Record) Refusal) (v u : View) → Acted v u (step.Unwind (chain_left ask cause)) answer → Quiet ask.session ask.admission (entries_by v.actor (written answer))
   chain_quiet (failure.Open refusal) answer v u h = unwind_quiet (chain_left ask (failure.Open refusal)) answer v u h
-  chain_quiet (failure.Rate refusal) answer v u h = unwind_quiet (chain_left ask (failure.Rate refusal)) answer v u h
-  chain_quiet (failure.Address e) answer v u h = unwind_quiet (chain_left ask (failure.Address e)) answer v u h
-  chain_quiet (failure.Commit refusal x) answer v u h = unwind_quiet (chain_left ask (failure.Commit refusal x)) answer v u h
+  chain_quiet cause answer v u h = unwind_quiet (chain_left ask cause) answer v u h
 
   -- what an unwound chain leaves
   gone_after : (cause : Failure) (answer : Result (List Record) Refusal) (v u : View) (h : Acted v u (step.Unwind (chain_left ask cause)) answer) → IsSecond (chain_left ask cause).second
       → Left ask.session ask.admission (chain_left ask cause).first (chain_left ask cause).second h.journal → Gone ask.session ask.admission (chain_left ask cause).opened u.seen
   gone_after (failure.Open refusal) answer v u h second l = unwound (chain_left ask (failure.Open refusal)) answer v u h tt second l
-  gone_after (failure.Rate refusal) answer v u h second l = unwound (chain_left ask (failure.Rate refusal)) answer v u h tt second l
-  gone_after (failure.Address e) answer v u h second l = unwound (chain_left ask (failure.Address e)) answer v u h tt second l
-  gone_after (failure.Commit refusal x) answer v u h second l = unwound (chain_left ask (failure.Commit refusal x)) answer v u h tt second l
+  gone_after cause answer v u h second l = unwound (chain_left ask cause) answer v u h tt second l
 
   pub leaves_nothing : RefusalsLeaveNothing calls ask
   leaves_nothing refusal s t run alone =
