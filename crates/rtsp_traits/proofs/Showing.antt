@@ -4,7 +4,7 @@ use Rattle.std.specs.Prelude.{Option, Some, None, slice_get}
 use Rattle.std.proofs.lemmas.Bool.{cases_eq, and_parts, and_from}
 use Rattle.std.proofs.lemmas.Bool.Decides.{Decides-eqb, nat_tests}
 use Rattle.rtsp_record.specs.declared.holdings.Thing.{Thing}
-use Rattle.rtsp_record.specs.declared.holdings.Thing.TheVariants.{Pair, Port, Chan, Rate}
+use Rattle.rtsp_record.specs.declared.holdings.Thing.TheVariants.{Pair, Port, Rate}
 use Rattle.rtsp_record.specs.Rules.{is_same_thing}
 use Rattle.rtsp_record.proofs.SameWords.{same_thing}
 use Rattle.rtsp_admit.specs.Addresses.{is_address, ShowsAddresses}
@@ -63,8 +63,7 @@ either false here there = there refl
 
 is_of_this : (o : Option (Option ℕ)) (n : ℕ) → is_of o n ≡ true → o ≡ Some (Some n)
 is_of_this (Some (Some a)) n h = ap (λ z. Some (Some z)) ((Decides-eqb a n).0 h)
-is_of_this (Some None) n h = absurd cc
-is_of_this None n h = absurd cc
+is_of_this o n h = absurd cc
 
 -- what was not there is not taken away
 less_absent : (v it : Bool) → (it ≡ true → v ≡ false) → v ≡ (v && not it)
@@ -136,14 +135,12 @@ ports_apart_own f p q h k differs = ports_apart f p q (own_port f p h) (own_port
 has_bound : (b : PortSet) (a : ℕ) (x : Thing) → has b a x ≡ true → IsBoundUnder b a x
 has_bound b a (Pair p) h = let parts = and_parts _ _ h in record { own = own_pair b.first_port p parts.0; under = is_of_this (slot b (Pair p)) a parts.1 }
 has_bound b a (Port p) h = let parts = and_parts _ _ h in record { own = own_port b.first_port p parts.0; under = is_of_this (slot b (Port p)) a parts.1 }
-has_bound b a (Chan c k) h = absurd cc
-has_bound b a (Rate m) h = absurd cc
+has_bound b a x h = absurd cc
 
 bound_has : (b : PortSet) (a : ℕ) (x : Thing) → IsBoundUnder b a x → has b a x ≡ true
 bound_has b a (Pair p) h = and_from _ _ (pair_own b.first_port p h.own) (ap (λ o. is_of o a) h.under ∙ eqb_same a)
 bound_has b a (Port p) h = and_from _ _ (port_own b.first_port p h.own) (ap (λ o. is_of o a) h.under ∙ eqb_same a)
-bound_has b a (Chan c k) h = absurd h.own
-bound_has b a (Rate m) h = absurd h.own
+bound_has b a x h = absurd h.own
 
 -- pairs of a set, and of one with the same first port
 abbrev has_pair : ℕ → List (Option ℕ) → ℕ → ℕ → Bool
@@ -155,8 +152,7 @@ has_port f = at (λ p. is_own f (Port p)) (port_place f) (ports_apart_own f)
 fresh_law : (b c : PortSet) (a : ℕ) (x : Thing) → Binds b a x c → has b a x ≡ false
 fresh_law b c a (Pair p) h = ap (λ o. is_own b.first_port (Pair p) && is_of o a) h.free.1 ∙ and_false (is_own b.first_port (Pair p))
 fresh_law b c a (Port p) h = ap (λ o. is_own b.first_port (Port p) && is_of o a) h.free.1 ∙ and_false (is_own b.first_port (Port p))
-fresh_law b c a (Chan d k) h = absurd h.free
-fresh_law b c a (Rate m) h = absurd h.free
+fresh_law b c a x h = absurd h.free
 
 -- what is kept of the other kind
 kept_port : (b c : PortSet) → c.ports.items ≡ b.ports.items → c.first_port ≡ b.first_port → (n q : ℕ) → has c n (Port q) ≡ has b n (Port q)
@@ -178,24 +174,19 @@ bound_law b c a (Pair p) h n (Pair q) =
     ap (λ z. has_pair z c.pairs.items n q) h.first
     ∙ bound_at (λ p. is_own f (Pair p)) (pair_place f) (pairs_apart_own f) a p b.pairs.items c.pairs.items (pair_own f p h.free.0) h.free.1 now h.others.0 n q
 bound_law b c a (Pair p) h n (Port q) = kept_port b c h.others.1 h.first n q ∙ more_none a n (has b n (Port q)) false refl
-bound_law b c a (Pair p) h n (Chan d k) = more_none a n false false refl
-bound_law b c a (Pair p) h n (Rate m) = more_none a n false false refl
+bound_law b c a (Pair p) h n y = more_none a n false false refl
 bound_law b c a (Port p) h n (Port q) =
     let f = b.first_port in
     let now : slice_get c.ports.items (port_place f p) ≡ Some (Some a) = subst (λ z. slice_get c.ports.items (port_place z p) ≡ Some (Some a)) h.first h.bound in
     ap (λ z. has_port z c.ports.items n q) h.first
     ∙ bound_at (λ p. is_own f (Port p)) (port_place f) (ports_apart_own f) a p b.ports.items c.ports.items (port_own f p h.free.0) h.free.1 now h.others.0 n q
 bound_law b c a (Port p) h n (Pair q) = kept_pair b c h.others.1 h.first n q ∙ more_none a n (has b n (Pair q)) false refl
-bound_law b c a (Port p) h n (Chan d k) = more_none a n false false refl
-bound_law b c a (Port p) h n (Rate m) = more_none a n false false refl
-bound_law b c a (Chan d k) h n y = absurd h.free
-bound_law b c a (Rate m) h n y = absurd h.free
+bound_law b c a (Port p) h n y = more_none a n false false refl
+bound_law b c a x h n y = absurd h.free
 
 failed_law : (b c : PortSet) (a : ℕ) (x : Thing) → Fails b a x c → (n : ℕ) (y : Thing) → has c n y ≡ has b n y
-failed_law b c a x h n (Pair q) = ap (λ (z : PortSet). has z n (Pair q)) h.counted
-failed_law b c a x h n (Port q) = ap (λ (z : PortSet). has z n (Port q)) h.counted
-failed_law b c a x h n (Chan d k) = refl
 failed_law b c a x h n (Rate m) = refl
+failed_law b c a x h n y = ap (λ (z : PortSet). has z n y) h.counted
 
 freed_law : (b c : PortSet) (a : ℕ) (x : Thing) → IsBoundUnder b a x → Unbinds b a x c → (n : ℕ) (y : Thing) → has c n y ≡ (has b n y && not (is_address a x n y))
 freed_law b c a (Pair p) bound h n (Pair q) =
@@ -204,18 +195,15 @@ freed_law b c a (Pair p) bound h n (Pair q) =
     ap (λ z. has_pair z c.pairs.items n q) h.first
     ∙ freed_at (λ p. is_own f (Pair p)) (pair_place f) (pairs_apart_own f) a p b.pairs.items c.pairs.items (pair_own f p bound.own) bound.under now h.others.0 n q
 freed_law b c a (Pair p) bound h n (Port q) = kept_port b c h.others.1 h.first n q ∙ less_none a n (has b n (Port q)) false refl
-freed_law b c a (Pair p) bound h n (Chan d k) = less_none a n false false refl
-freed_law b c a (Pair p) bound h n (Rate m) = less_none a n false false refl
+freed_law b c a (Pair p) bound h n y = less_none a n false false refl
 freed_law b c a (Port p) bound h n (Port q) =
     let f = b.first_port in
     let now : slice_get c.ports.items (port_place f p) ≡ Some None = subst (λ z. slice_get c.ports.items (port_place z p) ≡ Some None) h.first (h.freed bound) in
     ap (λ z. has_port z c.ports.items n q) h.first
     ∙ freed_at (λ p. is_own f (Port p)) (port_place f) (ports_apart_own f) a p b.ports.items c.ports.items (port_own f p bound.own) bound.under now h.others.0 n q
 freed_law b c a (Port p) bound h n (Pair q) = kept_pair b c h.others.1 h.first n q ∙ less_none a n (has b n (Pair q)) false refl
-freed_law b c a (Port p) bound h n (Chan d k) = less_none a n false false refl
-freed_law b c a (Port p) bound h n (Rate m) = less_none a n false false refl
-freed_law b c a (Chan d k) bound h n y = absurd bound.own
-freed_law b c a (Rate m) bound h n y = absurd bound.own
+freed_law b c a (Port p) bound h n y = less_none a n false false refl
+freed_law b c a x bound h n y = absurd bound.own
 
 -- what isn't bound stays as it is
 none_freed : (b c : PortSet) (a : ℕ) (x : Thing) → has b a x ≡ false → Unbinds b a x c → (n : ℕ) (y : Thing) → has c n y ≡ (has b n y && not (is_address a x n y))
