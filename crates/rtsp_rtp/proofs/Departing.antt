@@ -4,7 +4,7 @@ use Rattle.std.proofs.lemmas.Nat.{div-mul-add, le-div}
 use Rattle.std.proofs.lemmas.Bool.{cases_lt}
 use Rattle.std.proofs.Math.Nat.{div-mul-le_self}
 use Rattle.rtsp_record.specs.declared.phases.Phase.{Phase}
-use Rattle.rtsp_record.specs.declared.phases.Phase.TheVariants.{Ready, Playing, Ended}
+use Rattle.rtsp_record.specs.declared.phases.Phase.TheVariants.{Ended}
 use Rattle.rtsp_record.specs.Moments.{due, sent_before, sent_with_due}
 use Rattle.rtsp_rtp.specs.Sinks.{Calls}
 use Rattle.rtsp_rtp.specs.Pacing.{Pacing, begun_at, units_in, schedule}
@@ -53,9 +53,8 @@ same_count : (s m n : ℕ) → m < 2 ^ 32 → n < 2 ^ 32 → (s + m) % 2 ^ 32 �
 same_count s m n few small is = omega (arith, few, small, is)
 
 counted : (p q : Phase) (unit_ms m : ℕ) → IsLeftFor p unit_ms m q → sent_before q ≡ sent_with_due p unit_ms m
-counted p (Ready at sent) unit_ms m is = is.1
-counted p (Playing from stop sent since) unit_ms m is = is.1
 counted p (Ended at sent) unit_ms m is = absurd is
+counted p q unit_ms m is = is.1
 
 -- whenever a play was left for a phase, as many units were due
 pub same_due : (p q : Phase) (unit_ms m n : ℕ) → units_in p < 2 ^ 32 → IsLeftFor p unit_ms m q → IsLeftFor p unit_ms n q → due p unit_ms m ≡ due p unit_ms n

@@ -5,7 +5,7 @@ use Rattle.std.proofs.lemmas.Nat.{div_below, le-div, mul-le}
 use Rattle.std.proofs.Math.Nat.{div-mul-le_self, lt-div-mul-add, min-le_left, min-le_right, le-min, add-mul}
 use Rattle.std.proofs.Math.Arith.{lt_of_le-ne}
 use Rattle.rtsp_record.specs.declared.phases.Phase.{Phase}
-use Rattle.rtsp_record.specs.declared.phases.Phase.TheVariants.{Ready, Playing, Ended}
+use Rattle.rtsp_record.specs.declared.phases.Phase.TheVariants.{Playing}
 use Rattle.rtsp_record.specs.Moments.{due}
 use Rattle.rtsp_record.specs.Rules.{is_playing}
 use Rattle.rtsp_rtp.specs.Pacing.{Pacing, begun_at, units_in, packets_in, IsPacing}
@@ -14,9 +14,8 @@ use Rattle.rtsp_rtp.specs.Moments.{HasDue, IsNextDue, IsNeverDue}
 
 -- the units that are due of a play
 pub due_is : (p : Phase) (unit_ms m : ℕ) → due p unit_ms m ≡ min (units_in p) ((m - begun_at p) / unit_ms + 1)
-due_is (Ready at sent) unit_ms m = grind arith
 due_is (Playing from stop sent since) unit_ms m = refl
-due_is (Ended at sent) unit_ms m = grind arith
+due_is p unit_ms m = grind arith
 
 -- no more are due than there are
 pub due_most : (p : Phase) (unit_ms m : ℕ) → due p unit_ms m ≤ units_in p
