@@ -79,7 +79,7 @@ port_in_found n m e = go (nat_le 1 n) (nat_le n 65535) refl refl e where
   go true false p q h = absurd cc
   go false y p q h = absurd cc
 
-port_found : (digits : List ℕ) (n : ℕ) → port_of digits ≡ Some n → SpellsNumber 5 digits n × (0 < n) × (n ≤ 65535)
+pub port_found : (digits : List ℕ) (n : ℕ) → port_of digits ≡ Some n → SpellsNumber 5 digits n × (0 < n) × (n ≤ 65535)
 unfolding port_of
 port_found digits n e =
     let s = chain_found (number_of 5 digits) port_in n e in
@@ -87,7 +87,7 @@ port_found digits n e =
     let r = sound_at (SpellsNumber 5) (number_of 5) (numbers 5) digits s.0 s.1 in
     (subst (λ (k : ℕ). SpellsNumber 5 digits k) p.0 r, subst (λ (k : ℕ). 0 < k) p.0 p.1, subst (λ (k : ℕ). k ≤ 65535) p.0 p.2)
 
-port_some : (digits : List ℕ) (n : ℕ) → SpellsNumber 5 digits n → 0 < n → n ≤ 65535 → port_of digits ≡ Some n
+pub port_some : (digits : List ℕ) (n : ℕ) → SpellsNumber 5 digits n → 0 < n → n ≤ 65535 → port_of digits ≡ Some n
 unfolding port_of
 port_some digits n s low high =
     let a = (numbers 5).complete digits n s in

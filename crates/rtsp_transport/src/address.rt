@@ -63,8 +63,9 @@ fn quoted_whole(text: &[u8]) -> Option<&[u8]>
     if rest.is_empty() { Some(inner) } else { None }
 }
 
+/// The port, from 1 to 65,535, that digits spell.
 #[tactic(auto, unfolding(crate::specs::Address::port_of))]
-fn port_of(digits: &[u8]) -> Option<u16>
+pub fn port_of(digits: &[u8]) -> Option<u16>
     ensures { result ≡ port_of digits.now }
 {
     let port = number_of(digits, PORT_DIGITS)?;

@@ -16,9 +16,11 @@ mod tags;
 mod transports;
 mod write;
 
+pub use address::port_of;
 pub use channels::ChannelPair;
 pub use fault::TextFault;
 pub use laws::law_header_grammar;
+pub use names::{is_named, is_udp};
 pub use numbers::{read_cseq, read_startup};
 pub use picks::Pick;
 pub use rtsp_text::Text;

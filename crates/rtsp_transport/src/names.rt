@@ -3,16 +3,16 @@
 ghost use Rattle.std.specs.Prelude.{◌≡◌};
 ghost use Rattle.rtsp_transport.specs.Names.{is_named, is_udp, is_tcp};
 
-// The names are one but for the case of their ASCII letters.
-pub(crate) fn is_named(name: &[u8], other: &[u8]) -> bool
+/// Whether the names are equal but for the case of their ASCII letters.
+pub fn is_named(name: &[u8], other: &[u8]) -> bool
     ensures { result ≡ is_named name.now other.now }
 {
     name.eq_ignore_ascii_case(other)
 }
 
-// RTP over UDP.
+/// Whether the protocol is RTP over UDP.
 #[tactic(auto, unfolding(crate::specs::Names::is_udp))]
-pub(crate) fn is_udp(protocol: &[u8]) -> bool
+pub fn is_udp(protocol: &[u8]) -> bool
     ensures { result ≡ is_udp protocol.now }
 {
     is_named(protocol, b"RTP/AVP") || is_named(protocol, b"RTP/AVP/UDP")
