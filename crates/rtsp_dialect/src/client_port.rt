@@ -1,26 +1,11 @@
 //! Parameters of a Transport header that name the ports of a client.
 
-ghost use Rattle.std.specs.Prelude.{◌≡◌, is_some};
+ghost use Rattle.std.specs.Prelude.{◌≡◌};
 ghost use Rattle.rtsp_text.specs.Slices.{halves};
-ghost use Rattle.rtsp_transport.specs.Address.{port_of};
 ghost use Rattle.rtsp_dialect.specs.ClientPort.{port_pair};
 
-use crate::names::is_named;
-use rtsp_text::{number_of, split_once, trimmed};
-
-// The most digits of a port (RFC 2326 section 12.39).
-const PORT_DIGITS: usize = 5;
-
-// Whether digits are a port, from 1 to 65,535.
-#[tactic(auto, unfolding(rtsp_transport::specs::Address::port_of))]
-fn is_port(digits: &[u8]) -> bool
-    ensures { result ≡ is_some (port_of digits.now) }
-{
-    match number_of(digits, PORT_DIGITS) {
-        Some(port) => port >= 1 && port <= 65_535,
-        None => false,
-    }
-}
+use rtsp_text::{split_once, trimmed};
+use rtsp_transport::{is_named, port_of};
 
 // Two ports with a dash between them, RTP's and RTCP's, as they are written.
 #[tactic(auto, unfolding(crate::specs::ClientPort::port_pair))]
@@ -28,11 +13,9 @@ fn port_pair(text: &[u8]) -> Option<(&[u8], &[u8])>
     ensures { halves result ≡ port_pair text.now }
 {
     let (rtp, rtcp) = split_once(text, b'-')?;
-    if is_port(rtp) && is_port(rtcp) {
-        Some((rtp, rtcp))
-    } else {
-        None
-    }
+    port_of(rtp)?;
+    port_of(rtcp)?;
+    Some((rtp, rtcp))
 }
 
 /// A parameter of a specification, where it stands in the text.

@@ -13,7 +13,6 @@
 
 mod client_port;
 mod laws;
-mod names;
 mod parts;
 mod repairing;
 mod request;

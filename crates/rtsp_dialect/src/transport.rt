@@ -8,9 +8,9 @@ ghost use Rattle.rtsp_dialect.specs.ClientPortText.{repaired_part, repaired_spec
 ghost use Rattle.rtsp_dialect.specs.PartText.{parts_left, behind};
 
 use crate::client_port::PartParameter;
-use crate::names::is_udp;
 use crate::parts::first_part;
 use rtsp_text::trimmed;
+use rtsp_transport::is_udp;
 use std::alloc::{AllocError, Global};
 
 // Whether the client's ports are named once among the parameters, as two, and no address is.
