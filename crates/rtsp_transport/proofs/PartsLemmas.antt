@@ -25,7 +25,7 @@ separates true true e = absurd cc
 separates true false e = (refl, refl)
 separates false inside e = absurd cc
 
-nil_split : (inside : Bool) (separator : ℕ) → split inside separator [] ≡ [] ∷ []
+pub nil_split : (inside : Bool) (separator : ℕ) → split inside separator [] ≡ [] ∷ []
 unfolding split
 nil_split inside separator = refl
 
