@@ -2,6 +2,7 @@
 use Rattle.std.proofs.Common.{◌≡◌, ℕ, Bool, true, false, List, [], ◌∷◌, map, refl, sym, ap, ◌∙◌}
 use Rattle.std.specs.Prelude.{not, ◌&&◌, filter}
 use Rattle.std.specs.List.{list_any}
+use Rattle.std.proofs.Math.Bool.{and-false}
 use Rattle.rtsp_transport.specs.declared.spec.Parameter.{Parameter}
 use Rattle.rtsp_dialect.specs.ClientPort.{has_ports, is_unclear, is_single, has_ports_alone}
 use Rattle.rtsp_dialect.specs.ClientPortText.{parameter_in}
@@ -15,16 +16,12 @@ wanted false ps = is_single ps
 abbrev pub still : Bool → List Parameter → Bool
 still found ps = wanted found (filter has_ports ps) && not (list_any is_unclear ps)
 
-no_and : (x : Bool) → (x && false) ≡ false
-no_and true = refl
-no_and false = refl
-
 single_first : (p : Parameter) (ps : List Parameter) → is_single (p ∷ ps) ≡ wanted true ps
 single_first p [] = refl
 single_first p (q ∷ ps) = refl
 
 still_unclear : (found : Bool) (p : Parameter) (ps : List Parameter) → is_unclear p ≡ true → still found (p ∷ ps) ≡ false
-still_unclear found p ps u = rw u (no_and (wanted found (filter has_ports (p ∷ ps))))
+still_unclear found p ps u = rw u (and-false (wanted found (filter has_ports (p ∷ ps))))
 
 still_other : (found : Bool) (p : Parameter) (ps : List Parameter) → is_unclear p ≡ false → has_ports p ≡ false → still found (p ∷ ps) ≡ still found ps
 still_other found p ps u h = rw (u, h) refl

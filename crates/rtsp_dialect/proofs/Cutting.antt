@@ -2,13 +2,14 @@
 use Rattle.std.proofs.Common.{◌≡◌, ℕ, ◌+◌, ◌-◌, ◌<◌, Bool, true, false, eqb, List, [], ◌∷◌, ◌++◌, length, get_or, take, drop, refl, sym, ap, subst, ◌∙◌, arith}
 use Rattle.std.specs.Prelude.{not, ◌&&◌, Option, Some, None}
 use Rattle.std.specs.List.{list_all}
-use Rattle.std.proofs.lemmas.Bool.{and_parts}
+use Rattle.std.proofs.lemmas.Bool.{and_parts, not-true}
 use Rattle.std.proofs.lemmas.List.{append-nil, drop_more, take_all, length-drop, length-append}
 use Rattle.rtsp_text.specs.Bytes.{is_other}
 use Rattle.rtsp_text.specs.SplitOnce.{split_once, IsSplitAt}
 use Rattle.rtsp_text.proofs.ByteLemmas.{eqb_same}
 use Rattle.rtsp_text.proofs.SplitLemmas.{split_is, split_parts}
 use Rattle.rtsp_transport.specs.Split.{onto_first, split}
+use Rattle.rtsp_transport.proofs.PartsLemmas.{nil_split}
 use Rattle.rtsp_transport.proofs.SplitLemmas.{Splits, piece, split_quote, split_separator, split_plain, at_end}
 
 piece_front : (text : List ℕ) (i : ℕ) → piece text 0 i ≡ take i text
@@ -32,19 +33,11 @@ cut_nowhere text i inside separator e so_far =
 
 -- ---- texts without quotes
 
-not_so : (x : Bool) → not x ≡ true → x ≡ false
-not_so true e = absurd cc
-not_so false e = refl
-
-nil_split : (inside : Bool) (separator : ℕ) → split inside separator [] ≡ [] ∷ []
-unfolding split
-nil_split inside separator = refl
-
 whole : (inside : Bool) (separator : ℕ) (text : List ℕ) → list_all (is_other separator) text ≡ true → split inside separator text ≡ text ∷ []
 whole inside separator [] h = nil_split inside separator
 whole inside separator (b ∷ bytes) h =
     let s = and_parts (is_other separator b) (list_all (is_other separator) bytes) h in
-    go (eqb b 34) refl (not_so (eqb b separator) s.0) (λ i. whole i separator bytes s.1) where
+    go (eqb b 34) refl (not-true (eqb b separator) s.0) (λ i. whole i separator bytes s.1) where
       go : (x : Bool) → eqb b 34 ≡ x → eqb b separator ≡ false → ((i : Bool) → split i separator bytes ≡ bytes ∷ []) → split inside separator (b ∷ bytes) ≡ (b ∷ bytes) ∷ []
       go true q n again = split_quote inside separator b bytes q ∙ ap (onto_first (b ∷ [])) (again (not inside))
       go false q n again = split_plain inside separator b bytes q (ap (λ (x : Bool). x && not inside) n) ∙ ap (onto_first (b ∷ [])) (again inside)
@@ -55,7 +48,7 @@ plainly separator [] rest n h q = split_separator false separator separator rest
 plainly separator (b ∷ bytes) rest n h q =
     let s = and_parts (is_other separator b) (list_all (is_other separator) bytes) h in
     let t = and_parts (is_other 34 b) (list_all (is_other 34) bytes) q in
-    split_plain false separator b (bytes ++ separator ∷ rest) (not_so (eqb b 34) t.0) (ap (λ (x : Bool). x && true) (not_so (eqb b separator) s.0))
+    split_plain false separator b (bytes ++ separator ∷ rest) (not-true (eqb b 34) t.0) (ap (λ (x : Bool). x && true) (not-true (eqb b separator) s.0))
     ∙ ap (onto_first (b ∷ [])) (plainly separator bytes rest n s.1 t.1)
 
 none_of : (byte : ℕ) (text : List ℕ) → split_once byte text ≡ None → list_all (is_other byte) text ≡ true

@@ -1,23 +1,16 @@
 -- Names of one spelling have one length.
-use Rattle.std.proofs.Common.{◌≡◌, ℕ, suc, Bool, true, false, List, [], ◌∷◌, length, map, refl, sym, ap, ◌∙◌}
-use Rattle.std.specs.Prelude.{cond, codes, ◌&&◌, is_some, nat_eq}
+use Rattle.std.proofs.Common.{◌≡◌, ℕ, Bool, true, false, List, length, map, refl, sym, ap, ◌∙◌}
+use Rattle.std.specs.Prelude.{cond, codes, ◌&&◌, is_some}
 use Rattle.std.specs.Char.{to_ascii_lowercase}
-use Rattle.std.specs.Cmp.Lexicographic.{pointwise}
-use Rattle.std.proofs.lemmas.Bool.{and_parts}
+use Rattle.std.specs.Cmp.Lexicographic.{same_text}
 use Rattle.std.proofs.lemmas.List.{length-map}
 use Rattle.rtsp_grammar.specs.Header.{HeaderText, is_named}
 use Rattle.rtsp_dialect.specs.Startup.{long_startup}
 use Rattle.rtsp_dialect.specs.ClientPortText.{has_old}
 use Rattle.rtsp_dialect.specs.Repair.{is_startup, is_transport, needs_repair}
 
-same_length : (xs ys : List ℕ) → pointwise nat_eq xs ys ≡ true → length xs ≡ length ys
-same_length [] [] h = refl
-same_length [] (y ∷ ys) h = absurd cc
-same_length (x ∷ xs) [] h = absurd cc
-same_length (x ∷ xs) (y ∷ ys) h = ap suc (same_length xs ys (and_parts (nat_eq x y) (pointwise nat_eq xs ys) h).1)
-
 named_length : (name other : List ℕ) → is_named name other ≡ true → length name ≡ length other
-named_length name other h = sym (length-map name to_ascii_lowercase) ∙ same_length (map to_ascii_lowercase name) (map to_ascii_lowercase other) h ∙ length-map other to_ascii_lowercase
+named_length name other h = sym (length-map name to_ascii_lowercase) ∙ ap length (same_text (map to_ascii_lowercase name) (map to_ascii_lowercase other) (sym h)) ∙ length-map other to_ascii_lowercase
 
 pub other_length : (h : HeaderText) → (length h.name ≡ 18 → ⊥) → (length h.name ≡ 9 → ⊥) → needs_repair h ≡ false
 unfolding needs_repair

@@ -6,10 +6,10 @@ use Rattle.std.proofs.lemmas.Bool.{and_parts, and_from, not-true}
 use Rattle.std.proofs.lemmas.List.{get_or-append_right, length-append}
 use Rattle.rtsp_text.specs.Bytes.{is_other, is_blank}
 use Rattle.rtsp_text.specs.Trim.{IsPadded}
+use Rattle.rtsp_transport.specs.Address.{Places, SpellsPlaces}
 use Rattle.rtsp_transport.specs.Split.{is_part, IsPart, is_closed}
 use Rattle.rtsp_transport.proofs.PartsLemmas.{part_closed}
 use Rattle.rtsp_dialect.specs.ClientPort.{addresses_text}
-use Rattle.rtsp_dialect.proofs.Ports.{IsPair, port_bytes}
 
 -- what follows a part begins outside quotes
 part_append : (inside : Bool) (separator : ℕ) (xs ys : List ℕ) → is_part inside separator xs ≡ true → is_part inside separator (xs ++ ys) ≡ is_part false separator ys
@@ -59,24 +59,17 @@ quoted : (separator : ℕ) (xs ys : List ℕ) → list_all (is_other 34) xs ≡ 
 quoted separator [] ys h = refl
 quoted separator (b ∷ bytes) ys h =
     let s = and_parts (is_other 34 b) (list_all (is_other 34) bytes) h in
-    go (eqb b 34) s.0 ∙ quoted separator bytes ys s.1 where
-      go : (x : Bool) → not x ≡ true → cond x (is_part false separator (bytes ++ ys)) (is_part true separator (bytes ++ ys)) ≡ is_part true separator (bytes ++ ys)
-      go true n = absurd cc
-      go false n = refl
+    rw (not-true (eqb b 34) s.0) (quoted separator bytes ys s.1)
 
-regroup : (first second : List ℕ) → (((first ++ codes "\"/\":") ++ second) ++ codes "\"") ≡ first ++ (codes "\"/\":" ++ (second ++ codes "\""))
-regroup first second = append_assoc (first ++ codes "\"/\":") second (codes "\"") ∙ append_assoc first (codes "\"/\":") (second ++ codes "\"")
-
-module _ (text : List ℕ) (ports : List ℕ × List ℕ) (pair : IsPair text ports) where
-  pub address_among_parameters : IsPart 59 (address ports)
-  address_among_parameters =
-      ap (is_part true 59) (regroup ports.0 ports.1) ∙ quoted 59 ports.0 (codes "\"/\":" ++ (ports.1 ++ codes "\"")) (port_bytes 34 ports.0 pair.rtp refl pair.rtp_port)
-      ∙ quoted 59 ports.1 (codes "\"") (port_bytes 34 ports.1 pair.rtcp refl pair.rtcp_port)
-
-  pub address_among_specs : IsPart 44 (address ports)
-  address_among_specs =
-      ap (is_part true 44) (regroup ports.0 ports.1) ∙ quoted 44 ports.0 (codes "\"/\":" ++ (ports.1 ++ codes "\"")) (port_bytes 34 ports.0 pair.rtp refl pair.rtp_port)
-      ∙ quoted 44 ports.1 (codes "\"") (port_bytes 34 ports.1 pair.rtcp refl pair.rtcp_port)
+-- a separator that isn't in the rest of an address
+pub address_among : (separator : ℕ) → IsPart separator (codes "dest_addr=") → IsPart separator (codes "/") → (ports : List ℕ × List ℕ) (places : Places) → SpellsPlaces (addresses_text ports) places
+    → IsPart separator (address ports)
+address_among separator name slash ports places s =
+    part_append false separator (codes "dest_addr=") (addresses_text ports) name
+    ∙ ap (is_part false separator) (s.parts ∙ append_assoc (34 ∷ s.first) (34 ∷ 47 ∷ 34 ∷ s.second) (34 ∷ []))
+    ∙ quoted separator s.first (34 ∷ 47 ∷ 34 ∷ s.second ++ 34 ∷ []) s.first_closed
+    ∙ part_append false separator (codes "/") (34 ∷ s.second ++ 34 ∷ []) slash
+    ∙ quoted separator s.second (34 ∷ []) s.second_closed
 
 last_plain : (front : List ℕ) → is_blank (get_or (front ++ 34 ∷ []) (length (front ++ 34 ∷ []) - 1) 0) ≡ false
 last_plain front =

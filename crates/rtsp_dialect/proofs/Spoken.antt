@@ -1,8 +1,9 @@
 -- Repaired specifications say what they said.
 use Rattle.std.proofs.Common.{◌≡◌, ◌≢◌, ℕ, ◌≤◌, Bool, true, false, cond, List, [], ◌∷◌, map, Option, Some, None, refl, sym, ap, subst, ◌∙◌}
-use Rattle.std.specs.Prelude.{not, ◌&&◌, ◌||◌, filter, is_some}
+use Rattle.std.specs.Prelude.{not, ◌&&◌, ◌||◌, filter, is_some, codes}
 use Rattle.std.specs.List.{list_any, join_with_byte, AllByRecursion}
-use Rattle.std.proofs.lemmas.Bool.{and_parts}
+use Rattle.std.proofs.lemmas.Bool.{and_parts, or_parts, or_from, not-true}
+use Rattle.std.proofs.Math.Bool.{and-false}
 use Rattle.std.proofs.lemmas.List.{length-map}
 use Rattle.rtsp_text.specs.Options.{◌>>=◌}
 use Rattle.rtsp_transport.specs.Names.{is_udp}
@@ -14,8 +15,9 @@ use Rattle.rtsp_transport.specs.declared.spec.Spec.{Spec}
 use Rattle.rtsp_dialect.specs.ClientPort.{port_pair, is_client_port, client_ports, has_ports, is_unclear, is_single, has_ports_alone, is_old, address_or, repaired_parameter, repaired_spec}
 use Rattle.rtsp_dialect.specs.ClientPortText.{parameter_in, is_old_text, address_part, repaired_part, repaired_parts, repaired_spec_text, has_old, repaired_transport}
 use Rattle.rtsp_dialect.specs.Within.{HasNoClientPort}
-use Rattle.rtsp_dialect.proofs.Ports.{IsPair, pair_found}
-use Rattle.rtsp_dialect.proofs.Quoted.{pieces, together, address_among_parameters, address_among_specs, address_padded}
+use Rattle.rtsp_dialect.specs.Laws.{ports_only}
+use Rattle.rtsp_dialect.proofs.Ports.{says_ports}
+use Rattle.rtsp_dialect.proofs.Quoted.{pieces, together, address_among, address_padded}
 use Rattle.rtsp_dialect.proofs.Reading.{parameter_read, spec_parts, text_is_old, value_parts, value_has_old}
 use Rattle.rtsp_dialect.proofs.Rewritten.{plain_spec, plain_transport}
 
@@ -26,9 +28,6 @@ client_found p ports e = go (is_client_port p) p.value e where
   go true (Some text) h = (text, h)
   go true None h = absurd cc
   go false value h = absurd cc
-
-pair_of : (p : Parameter) (ports : List ℕ × List ℕ) → client_ports p ≡ Some ports → (text : List ℕ) × IsPair text ports
-pair_of p ports e = let f = client_found p ports e in (f.0, pair_found f.0 ports f.1)
 
 -- ---- parameters
 
@@ -47,27 +46,20 @@ parameters_repaired [] (p ∷ ps) h = absurd h
 parameters_repaired (part ∷ parts) [] h = absurd h
 parameters_repaired (part ∷ parts) (p ∷ ps) h = (parameter_repaired part p h.0, parameters_repaired parts ps h.1)
 
-among_parameters : (part : List ℕ) → IsPart 59 part → IsPart 59 (repaired_part part)
-unfolding repaired_part
-among_parameters part h = go (client_ports (parameter_in part)) refl where
-  go : (o : Option (List ℕ × List ℕ)) → client_ports (parameter_in part) ≡ o → IsPart 59 (address_part part o)
-  go None e = h
-  go (Some ports) e = let f = pair_of (parameter_in part) ports e in address_among_parameters f.0 ports f.1
+module _ (separator : ℕ) (name : IsPart separator (codes "dest_addr=")) (slash : IsPart separator (codes "/")) where
+  among : (part : List ℕ) → IsPart separator part → IsPart separator (repaired_part part)
+  unfolding repaired_part
+  among part h = go (client_ports (parameter_in part)) refl where
+    go : (o : Option (List ℕ × List ℕ)) → client_ports (parameter_in part) ≡ o → IsPart separator (address_part part o)
+    go None e = h
+    go (Some ports) e =
+        let f = client_found (parameter_in part) ports e in
+        let s = says_ports f.0 ports f.1 in
+        address_among separator name slash ports (ports_only s.rtp s.rtcp) s.new
 
-among_specs : (part : List ℕ) → IsPart 44 part → IsPart 44 (repaired_part part)
-unfolding repaired_part
-among_specs part h = go (client_ports (parameter_in part)) refl where
-  go : (o : Option (List ℕ × List ℕ)) → client_ports (parameter_in part) ≡ o → IsPart 44 (address_part part o)
-  go None e = h
-  go (Some ports) e = let f = pair_of (parameter_in part) ports e in address_among_specs f.0 ports f.1
-
-all_among_parameters : (parts : List (List ℕ)) → AllByRecursion (IsPart 59) parts → AllByRecursion (IsPart 59) (map repaired_part parts)
-all_among_parameters [] each = tt
-all_among_parameters (part ∷ parts) each = (among_parameters part each.0, all_among_parameters parts each.1)
-
-all_among_specs : (parts : List (List ℕ)) → AllByRecursion (IsPart 44) parts → AllByRecursion (IsPart 44) (map repaired_part parts)
-all_among_specs [] each = tt
-all_among_specs (part ∷ parts) each = (among_specs part each.0, all_among_specs parts each.1)
+  all_among : (parts : List (List ℕ)) → AllByRecursion (IsPart separator) parts → AllByRecursion (IsPart separator) (map repaired_part parts)
+  all_among [] each = tt
+  all_among (part ∷ parts) each = (among part each.0, all_among parts each.1)
 
 -- ---- specifications
 
@@ -93,11 +85,11 @@ old_stands text spec s old =
     let each = pieces (t.first ∷ t.others) t.split.each whole in
     subst (λ (z : List ℕ). Stands z (record spec { parameters = map repaired_parameter spec.parameters })) (sym (old_text_is text t.first t.others old (spec_parts text spec t)))
     (record {
-      part = together t.first (map repaired_part t.others) each.0 (all_among_specs t.others each.1);
+      part = together t.first (map repaired_part t.others) each.0 (all_among 44 refl refl t.others each.1);
       spells = record {
         first = t.first;
         others = map repaired_part t.others;
-        split = record { joined = refl; each = (t.split.each.0, all_among_parameters t.others t.split.each.1); some = λ z. absurd cc };
+        split = record { joined = refl; each = (t.split.each.0, all_among 59 refl refl t.others t.split.each.1); some = λ z. absurd cc };
         protocol = t.protocol;
         parameters = parameters_repaired t.others spec.parameters t.parameters;
       };
@@ -127,10 +119,9 @@ all_stand (part ∷ parts) (spec ∷ specs) each h =
 
 none_old : (specs : List Spec) → list_any is_old specs ≡ false → map repaired_spec specs ≡ specs
 none_old [] e = refl
-none_old (spec ∷ specs) e = go (is_old spec) refl e (λ h. none_old specs h) where
-  go : (x : Bool) → is_old spec ≡ x → (x || list_any is_old specs) ≡ false → (list_any is_old specs ≡ false → map repaired_spec specs ≡ specs) → map repaired_spec (spec ∷ specs) ≡ spec ∷ specs
-  go true q h again = absurd cc
-  go false q h again = ap (λ (s : Spec). s ∷ map repaired_spec specs) (plain_stays spec q) ∙ ap (λ (ss : List Spec). spec ∷ ss) (again h)
+none_old (spec ∷ specs) e =
+    let s = or_parts (is_old spec) (list_any is_old specs) e in
+    ap (λ (z : Spec). z ∷ map repaired_spec specs) (plain_stays spec s.0) ∙ ap (λ (zs : List Spec). spec ∷ zs) (none_old specs s.1)
 
 map_some : (parts : List (List ℕ)) → parts ≢ [] → map repaired_spec_text parts ≢ []
 map_some [] some e = some refl
@@ -161,23 +152,18 @@ no_ports : (p : Parameter) → is_client_port p ≡ false → has_ports p ≡ fa
 unfolding client_ports
 no_ports p e = rw e refl
 
-no_and : (x : Bool) → (x && false) ≡ false
-no_and true = refl
-no_and false = refl
-
 none_with_ports : (ps : List Parameter) → list_any is_client_port ps ≡ false → filter has_ports ps ≡ []
 none_with_ports [] e = refl
-none_with_ports (p ∷ ps) e = go (is_client_port p) refl e (λ h. none_with_ports ps h) where
-  go : (x : Bool) → is_client_port p ≡ x → (x || list_any is_client_port ps) ≡ false → (list_any is_client_port ps ≡ false → filter has_ports ps ≡ []) → filter has_ports (p ∷ ps) ≡ []
-  go true q h again = absurd cc
-  go false q h again = ap (λ (b : Bool). cond b (p ∷ filter has_ports ps) (filter has_ports ps)) (no_ports p q) ∙ again h
+none_with_ports (p ∷ ps) e =
+    let s = or_parts (is_client_port p) (list_any is_client_port ps) e in
+    ap (λ (b : Bool). cond b (p ∷ filter has_ports ps) (filter has_ports ps)) (no_ports p s.0) ∙ none_with_ports ps s.1
 
 none_alone : (ps : List Parameter) → list_any is_client_port ps ≡ false → has_ports_alone ps ≡ false
 unfolding has_ports_alone
 none_alone ps e = ap (λ (qs : List Parameter). is_single qs && not (list_any is_unclear ps)) (none_with_ports ps e)
 
 pub new_is_not_old : (spec : Spec) → HasNoClientPort spec → is_old spec ≡ false
-new_is_not_old spec h = ap (λ (b : Bool). is_udp spec.protocol && b) (none_alone spec.parameters h) ∙ no_and (is_udp spec.protocol)
+new_is_not_old spec h = ap (λ (b : Bool). is_udp spec.protocol && b) (none_alone spec.parameters h) ∙ and-false (is_udp spec.protocol)
 
 clear_changes : (p : Parameter) → is_unclear p ≡ false → is_client_port (repaired_parameter p) ≡ false
 unfolding is_unclear
@@ -194,18 +180,13 @@ clear_changes p u = go (client_ports p) refl where
 
 all_clear_change : (ps : List Parameter) → list_any is_unclear ps ≡ false → list_any is_client_port (map repaired_parameter ps) ≡ false
 all_clear_change [] e = refl
-all_clear_change (p ∷ ps) e = go (is_unclear p) refl e (λ h. all_clear_change ps h) where
-  go : (x : Bool) → is_unclear p ≡ x → (x || list_any is_unclear ps) ≡ false → (list_any is_unclear ps ≡ false → list_any is_client_port (map repaired_parameter ps) ≡ false)
-      → list_any is_client_port (map repaired_parameter (p ∷ ps)) ≡ false
-  go true q h again = absurd cc
-  go false q h again = ap (λ (b : Bool). b || list_any is_client_port (map repaired_parameter ps)) (clear_changes p q) ∙ again h
+all_clear_change (p ∷ ps) e =
+    let s = or_parts (is_unclear p) (list_any is_unclear ps) e in
+    or_from (is_client_port (repaired_parameter p)) (list_any is_client_port (map repaired_parameter ps)) (clear_changes p s.0) (all_clear_change ps s.1)
 
 alone_clear : (ps : List Parameter) → has_ports_alone ps ≡ true → list_any is_unclear ps ≡ false
 unfolding has_ports_alone
-alone_clear ps e = let s = and_parts (is_single (filter has_ports ps)) (not (list_any is_unclear ps)) e in go (list_any is_unclear ps) s.1 where
-  go : (x : Bool) → not x ≡ true → x ≡ false
-  go true h = absurd cc
-  go false h = refl
+alone_clear ps e = not-true (list_any is_unclear ps) (and_parts (is_single (filter has_ports ps)) (not (list_any is_unclear ps)) e).1
 
 pub old_gets_new : (spec : Spec) → is_old spec ≡ true → HasNoClientPort (repaired_spec spec)
 old_gets_new spec e =

@@ -1,7 +1,8 @@
 -- What needs no repair stays.
 use Rattle.std.proofs.Common.{◌≡◌, ℕ, Bool, true, false, List, [], ◌∷◌, map, Option, Some, None, refl, ap, ◌∙◌}
-use Rattle.std.specs.Prelude.{◌||◌, ◌&&◌, is_some, cond}
+use Rattle.std.specs.Prelude.{◌&&◌, is_some, cond}
 use Rattle.std.specs.List.{list_any}
+use Rattle.std.proofs.lemmas.Bool.{or_parts}
 use Rattle.rtsp_grammar.specs.Header.{HeaderText}
 use Rattle.rtsp_grammar.specs.declared.message.Request.{Request}
 use Rattle.rtsp_dialect.specs.Startup.{long_startup, startup_or, repaired_startup}
@@ -21,19 +22,11 @@ value_stays h e = go (is_startup h) (is_transport h) e where
   go false true n = plain_transport h.value n
   go false false n = refl
 
-or_first : (a b : Bool) → (a || b) ≡ false → a ≡ false
-or_first true b e = e
-or_first false b e = refl
-
-or_second : (a b : Bool) → (a || b) ≡ false → b ≡ false
-or_second true b e = absurd cc
-or_second false b e = e
-
 pub headers_stay : (hs : List HeaderText) → list_any needs_repair hs ≡ false → map repaired_header hs ≡ hs
 headers_stay [] e = refl
 headers_stay (h ∷ hs) e =
-    ap (λ (v : List ℕ). (record { name = h.name; value = v }) ∷ map repaired_header hs) (value_stays h (or_first (needs_repair h) (list_any needs_repair hs) e))
-    ∙ ap (λ (xs : List HeaderText). h ∷ xs) (headers_stay hs (or_second (needs_repair h) (list_any needs_repair hs) e))
+    let s = or_parts (needs_repair h) (list_any needs_repair hs) e in
+    ap (λ (v : List ℕ). (record { name = h.name; value = v }) ∷ map repaired_header hs) (value_stays h s.0) ∙ ap (λ (xs : List HeaderText). h ∷ xs) (headers_stay hs s.1)
 
 pub request_stays : (r : Request) → list_any needs_repair r.headers ≡ false → repaired r ≡ r
 request_stays r e = ap (λ (hs : List HeaderText). record r { headers = hs }) (headers_stay r.headers e)
