@@ -1,8 +1,9 @@
 -- A text has one address, or one pair of them.
-use Rattle.std.proofs.Common.{◌≡◌, ℕ, ◌<◌, ◌≤◌, Bool, true, false, cond, eqb, List, [], ◌∷◌, ◌++◌, Option, Some, None, refl, sym, ap, subst, ◌∙◌, append_assoc}
+use Rattle.std.proofs.Common.{◌≡◌, ℕ, ◌<◌, ◌≤◌, Bool, true, false, cond, eqb, List, [], ◌∷◌, ◌++◌, Some, None, refl, sym, ap, subst, ◌∙◌, append_assoc}
 use Rattle.std.specs.Prelude.{◌&&◌, nat_le}
 use Rattle.std.specs.List.{list_all}
 use Rattle.std.proofs.lemmas.Bool.{leb-true, le-leb, eqb-true}
+use Rattle.std.proofs.lemmas.Option.{same_Some}
 use Rattle.rtsp_text.specs.Bytes.{is_other}
 use Rattle.rtsp_text.specs.Options.{◌>>=◌}
 use Rattle.rtsp_text.specs.SplitOnce.{split_once}
@@ -104,13 +105,9 @@ place_sound text p e =
     let t = chain_found (port_of s.0.1) (λ port. Some (made s.0.0 port)) p s.2 in
     let c = split_parts 58 text s.0 s.1 in
     let n = port_found s.0.1 t.0 t.1 in
-    let same : made s.0.0 t.0 ≡ p = inside (made s.0.0 t.0) p t.2 in
-    subst (λ (q : Place). SpellsPlace text q) same (record { digits = s.0.1; parts = c.0; host = c.1; port = n.0; some = n.1; few = n.2 }) where
+    subst (λ (q : Place). SpellsPlace text q) (same_Some (made s.0.0 t.0) p t.2) (record { digits = s.0.1; parts = c.0; host = c.1; port = n.0; some = n.1; few = n.2 }) where
       made : List ℕ → ℕ → Place
       made host port = record { host = host; port = port }
-
-      inside : (x y : Place) → ◌≡◌ {A = Option Place} (Some x) (Some y) → x ≡ y
-      inside x y q = cc
 
 pub place_complete : (text : List ℕ) (p : Place) → SpellsPlace text p → place_of text ≡ Some p
 unfolding place_of
@@ -153,14 +150,10 @@ places_sound text p e =
     let t = chain_found (place_of s.0.0) (λ rtp. place_of s.0.1 >>= λ rtcp. Some (made rtp rtcp)) p s.2 in
     let u = chain_found (place_of s.0.1) (λ rtcp. Some (made t.0 rtcp)) p t.2 in
     let q = pair_found text s.0 s.1 in
-    let same : made t.0 u.0 ≡ p = inside (made t.0 u.0) p u.2 in
-    subst (λ (x : Places). SpellsPlaces text x) same
+    subst (λ (x : Places). SpellsPlaces text x) (same_Some (made t.0 u.0) p u.2)
     (record { first = s.0.0; second = s.0.1; parts = q.parts; first_closed = q.first_closed; second_closed = q.second_closed; rtp = place_sound s.0.0 t.0 t.1; rtcp = place_sound s.0.1 u.0 u.1 }) where
       made : Place → Place → Places
       made rtp rtcp = record { rtp = rtp; rtcp = rtcp }
-
-      inside : (x y : Places) → ◌≡◌ {A = Option Places} (Some x) (Some y) → x ≡ y
-      inside x y q = cc
 
 pub places_complete : (text : List ℕ) (p : Places) → SpellsPlaces text p → places_of text ≡ Some p
 unfolding places_of

@@ -2,8 +2,9 @@
 use Rattle.std.proofs.Common.{◌≡◌, ℕ, Bool, true, false, cond, eqb, List, length, get_or, map, Option, Some, None, refl, sym, ap, ◌∙◌, inl, inr, eq-eqb, arith}
 use Rattle.std.specs.Prelude.{◌||◌, ◌&&◌, not, is_some, codes}
 use Rattle.std.specs.Char.{to_ascii_lowercase}
+use Rattle.std.specs.Cmp.Lexicographic.{same_text}
 use Rattle.std.specs.List.{list_any}
-use Rattle.std.proofs.lemmas.Bool.{eqb-true, or_cases, or_parts, or_from, false_from_ne_true, and_parts, and_from, both_ways}
+use Rattle.std.proofs.lemmas.Bool.{eqb-true, or_cases, or_left, or_right, or_parts, or_from, false_from_ne_true, and_parts, and_from, both_ways}
 use Rattle.std.proofs.lemmas.List.{nil_from_length}
 use Rattle.rtsp_text.specs.Options.{◌>>=◌}
 use Rattle.rtsp_transport.specs.Address.{Place, Places, SpellsQuoted, SpellsPlaces, quoted_place_of, places_of}
@@ -16,7 +17,7 @@ use Rattle.rtsp_transport.specs.Picking.{IsOverUdp, IsUdpForm, IsUdp, IsMuxForm,
 use Rattle.rtsp_transport.specs.declared.picks.Pick.{Pick}
 use Rattle.rtsp_transport.specs.declared.picks.Pick.TheVariants.{Udp, Mux, Inter, Unsupported, Prohibited}
 use Rattle.rtsp_transport.specs.declared.spec.Spec.{Spec}
-use Rattle.rtsp_transport.proofs.PeerLemmas.{same_text, peer_is}
+use Rattle.rtsp_transport.proofs.PeerLemmas.{peer_is}
 use Rattle.rtsp_transport.proofs.AddressLemmas.{quoted_sound, quoted_complete, places_sound, places_complete}
 use Rattle.rtsp_transport.proofs.ChannelLemmas.{is_pair, one_pair}
 
@@ -25,20 +26,17 @@ use Rattle.rtsp_transport.proofs.ChannelLemmas.{is_pair, one_pair}
 allowed : (peer : ℕ) (host : List ℕ) → allows peer host ≡ true → AllowsHost peer host
 allowed peer host e = elim (or_cases (eqb (length host) 0) (is_peer peer host) e) [
   | inl z ↦ inl (nil_from_length host (eqb-true (length host) 0 z))
-  | inr p ↦ inr (same_text host (peer_text peer) p)
+  | inr p ↦ inr (same_text host (peer_text peer) (sym p))
 ]
 
 allowing : (peer : ℕ) (host : List ℕ) → AllowsHost peer host → allows peer host ≡ true
-allowing peer host (inl e) = let z = eq-eqb (length host) 0 (ap length e) in rw z refl
-allowing peer host (inr e) = let p = peer_is peer host e in go (eqb (length host) 0) p where
-  go : (x : Bool) → is_peer peer host ≡ true → (x || is_peer peer host) ≡ true
-  go true p = refl
-  go false p = p
+allowing peer host (inl e) = or_left (eqb (length host) 0) (is_peer peer host) (eq-eqb (length host) 0 (ap length e))
+allowing peer host (inr e) = or_right (eqb (length host) 0) (is_peer peer host) (peer_is peer host e)
 
 -- ---- protocols
 
 apart : (protocol x y : List ℕ) → is_named protocol x ≡ true → is_named protocol y ≡ true → map to_ascii_lowercase x ≡ map to_ascii_lowercase y
-apart protocol x y p q = sym (same_text (map to_ascii_lowercase protocol) (map to_ascii_lowercase x) p) ∙ same_text (map to_ascii_lowercase protocol) (map to_ascii_lowercase y) q
+apart protocol x y p q = sym (same_text (map to_ascii_lowercase protocol) (map to_ascii_lowercase x) (sym p)) ∙ same_text (map to_ascii_lowercase protocol) (map to_ascii_lowercase y) (sym q)
 
 ninth : List ℕ → ℕ
 ninth text = get_or text 8 0

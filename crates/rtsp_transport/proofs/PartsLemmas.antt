@@ -21,9 +21,7 @@ byte_part false true e = refl
 byte_part false false e = refl
 
 separates : (x inside : Bool) → (x && not inside) ≡ true → (x ≡ true) × (inside ≡ false)
-separates true true e = absurd cc
-separates true false e = (refl, refl)
-separates false inside e = absurd cc
+separates x inside e = let s = and_parts x (not inside) e in (s.0, not-true inside s.1)
 
 pub nil_split : (inside : Bool) (separator : ℕ) → split inside separator [] ≡ [] ∷ []
 unfolding split

@@ -2,8 +2,9 @@
 use Rattle.std.proofs.Common.{◌≡◌, ℕ, ◌/◌, ◌%◌, Bool, true, false, cond, eqb, nat_eq, List, [], ◌∷◌, ◌++◌, length, drop, Some, None, refl, sym, ap, ◌∙◌, arith}
 use Rattle.std.specs.Prelude.{decimal}
 use Rattle.std.specs.List.{starts_with}
-use Rattle.std.specs.Cmp.Lexicographic.{pointwise}
-use Rattle.std.proofs.lemmas.Bool.{eqb-true, ne_eqb, and_parts, and_from, both_ways}
+use Rattle.std.specs.Cmp.Lexicographic.{same_text}
+use Rattle.std.proofs.lemmas.Bool.{eqb-true, ne_eqb, and_parts, and_from, false_from_ne_true}
+use Rattle.std.proofs.lemmas.Cmp.{nat_list_eq_equiv}
 use Rattle.std.proofs.lemmas.List.{append-nil, drop_at}
 use Rattle.rtsp_text.specs.Options.{◌>>=◌}
 use Rattle.rtsp_transport.specs.Address.{after}
@@ -60,32 +61,15 @@ peer_spelled peer = steps (decimal (peer / 0x1000000)) (decimal (peer / 0x10000 
       let d : after_text s s ≡ Some [] = ap (after_text s) (sym (append-nil s)) ∙ after_text_some s [] in
       rw a (rw b (rw c d))
 
-pub same_text : (xs ys : List ℕ) → pointwise nat_eq xs ys ≡ true → xs ≡ ys
-same_text [] [] e = refl
-same_text [] (y ∷ ys) e = absurd cc
-same_text (x ∷ xs) [] e = absurd cc
-same_text (x ∷ xs) (y ∷ ys) e =
-    let s = and_parts (eqb x y) (pointwise nat_eq xs ys) e in
-    ap (λ (z : ℕ). z ∷ xs) (eqb-true x y s.0) ∙ ap (λ (zs : List ℕ). y ∷ zs) (same_text xs ys s.1)
-
-pub text_itself : (xs : List ℕ) → pointwise nat_eq xs xs ≡ true
-text_itself [] = refl
-text_itself (x ∷ xs) = and_from (eqb x x) (pointwise nat_eq xs xs) (eqb_same x) (text_itself xs)
-
 pub peer_is : (peer : ℕ) (text : List ℕ) → text ≡ peer_text peer → is_peer peer text ≡ true
-peer_is peer text e = ap (is_peer peer) e ∙ text_itself (peer_text peer)
-
-same_test : (a b : Bool) → (a ≡ true → b ≡ true) → (b ≡ true → a ≡ true) → a ≡ b
-same_test true b f g = sym (f refl)
-same_test false true f g = g refl
-same_test false false f g = refl
+peer_is peer text e = ap (is_peer peer) e ∙ nat_list_eq_equiv.refl (peer_text peer)
 
 pub peer_some : (peer : ℕ) (text rest : List ℕ) (empty : Bool) → Some rest ≡ after_peer peer text → empty ≡ eqb (length rest) 0 → empty ≡ is_peer peer text
 peer_some peer text [] empty e n =
     n ∙ sym (peer_is peer text (peer_found peer text [] (sym e) ∙ ap (λ (t : List ℕ). decimal (peer / 0x1000000) ++ 46 ∷ (decimal (peer / 0x10000 % 256) ++ 46 ∷ (decimal (peer / 0x100 % 256) ++ 46 ∷ t))) (append-nil (decimal (peer % 256)))))
 peer_some peer text (b ∷ rest) empty e n =
     let f : eqb (length (b ∷ rest)) 0 ≡ false = ne_eqb (length (b ∷ rest)) 0 (λ z. omega arith) in
-    same_test empty (is_peer peer text) (λ t. absurd (both_ways empty (n ∙ f) t)) (λ t. let h = e ∙ ap (after_peer peer) (same_text text (peer_text peer) t) ∙ peer_spelled peer in absurd cc)
+    n ∙ f ∙ sym (false_from_ne_true (is_peer peer text) (λ t. let h = e ∙ ap (after_peer peer) (same_text text (peer_text peer) (sym t)) ∙ peer_spelled peer in absurd cc))
 
 pub peer_none : (peer : ℕ) (text : List ℕ) → None ≡ after_peer peer text → false ≡ is_peer peer text
-peer_none peer text e = same_test false (is_peer peer text) (λ f. absurd cc) (λ t. let h = e ∙ ap (after_peer peer) (same_text text (peer_text peer) t) ∙ peer_spelled peer in absurd cc)
+peer_none peer text e = sym (false_from_ne_true (is_peer peer text) (λ t. let h = e ∙ ap (after_peer peer) (same_text text (peer_text peer) (sym t)) ∙ peer_spelled peer in absurd cc))

@@ -10,18 +10,10 @@ use Rattle.rtsp_transport.proofs.FittingLemmas.{Fits, fits, usable_only, foreign
 
 -- a refusal is no use
 none_unsupported : (peer : ℕ) (spec : Spec) → fit_of peer spec ≡ Unsupported → NotUsable peer spec
-none_unsupported peer spec e (Udp a b) u = let c = usable_only peer spec (Udp a b) u in absurd cc
-none_unsupported peer spec e (Mux a) u = let c = usable_only peer spec (Mux a) u in absurd cc
-none_unsupported peer spec e (Inter w) u = let c = usable_only peer spec (Inter w) u in absurd cc
-none_unsupported peer spec e Unsupported u = u
-none_unsupported peer spec e Prohibited u = u
+none_unsupported peer spec e pick u = subst (λ (p : Pick). IsUsable peer spec p) (sym (usable_only peer spec pick u) ∙ e) u
 
 none_prohibited : (peer : ℕ) (spec : Spec) → fit_of peer spec ≡ Prohibited → NotUsable peer spec
-none_prohibited peer spec e (Udp a b) u = let c = usable_only peer spec (Udp a b) u in absurd cc
-none_prohibited peer spec e (Mux a) u = let c = usable_only peer spec (Mux a) u in absurd cc
-none_prohibited peer spec e (Inter w) u = let c = usable_only peer spec (Inter w) u in absurd cc
-none_prohibited peer spec e Unsupported u = u
-none_prohibited peer spec e Prohibited u = u
+none_prohibited peer spec e pick u = subst (λ (p : Pick). IsUsable peer spec p) (sym (usable_only peer spec pick u) ∙ e) u
 
 not_foreign : (peer : ℕ) (spec : Spec) → fit_of peer spec ≡ Unsupported → ¬ IsForeign peer spec
 not_foreign peer spec e f = let c = foreign_only peer spec f in absurd cc

@@ -3,6 +3,7 @@ use Rattle.std.proofs.Common.{◌≡◌, ℕ, ◌+◌, ◌-◌, ◌<◌, ◌≤�
 use Rattle.std.specs.Prelude.{not, ◌&&◌}
 use Rattle.std.specs.Borrow.{Bor}
 use Rattle.std.proofs.lemmas.Bool.{ne_eqb}
+use Rattle.std.proofs.Math.Bool.{and-false}
 use Rattle.std.proofs.lemmas.List.{append-nil, drop_more, drop_all, take_more, get_or-drop, length-drop, map-append}
 use Rattle.rtsp_transport.specs.Split.{onto_first, split}
 use Rattle.rtsp_text.specs.Slices.{texts}
@@ -89,8 +90,6 @@ at_end done new text start i inside separator e n so_far =
 pub texts_push : (old new : List (Bor (List ℕ))) (last : Bor (List ℕ)) (piece : List ℕ) → new ≡ old ++ last ∷ [] → last.now ≡ piece → texts new ≡ texts old ++ piece ∷ []
 texts_push old new last piece n e = ap texts n ∙ map-append (λ (s : Bor (List ℕ)). s.now) old (last ∷ []) ∙ ap (λ (p : List ℕ). texts old ++ p ∷ []) e
 
--- ---- quotes
-
 -- ---- the branches of the loop, by their equations
 
 pub kept : (done new : List (List ℕ)) (text : List ℕ) (start start' i : ℕ) (inside inside' next : Bool) (separator : ℕ) → start ≤ i → new ≡ done → start' ≡ start → inside' ≡ next
@@ -106,10 +105,7 @@ pub separates : (b separator : ℕ) (inside : Bool) → b ≡ separator → insi
 separates b separator inside e n = rw (eq-eqb b separator e, n) refl
 
 pub in_quotes : (b separator : ℕ) (inside : Bool) → inside ≡ true → (eqb b separator && not inside) ≡ false
-in_quotes b separator inside n = rw n (go (eqb b separator)) where
-  go : (x : Bool) → (x && false) ≡ false
-  go true = refl
-  go false = refl
+in_quotes b separator inside n = rw n (and-false (eqb b separator))
 
 pub no_separator : (b separator : ℕ) (inside : Bool) → (b ≡ separator → ⊥) → (eqb b separator && not inside) ≡ false
 no_separator b separator inside ne = rw (ne_eqb b separator ne) refl
