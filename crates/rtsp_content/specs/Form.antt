@@ -5,12 +5,15 @@ use Rattle.rtsp_content.specs.declared.limits.TheConstants.{MAX_NAME, MAX_ENCODI
 use Rattle.rtsp_content.specs.declared.keys.Form.{Form}
 use Rattle.rtsp_content.specs.declared.keys.Form.TheVariants.{Name, Encoding, FormatParameters, Folder, Address, Path}
 
+-- a to z
 abbrev pub is_lowercase : ℕ → Bool
 is_lowercase b = nat_le 97 b && nat_le b 122
 
+-- A to Z
 abbrev pub is_uppercase : ℕ → Bool
 is_uppercase b = nat_le 65 b && nat_le b 90
 
+-- 0 to 9
 abbrev pub is_digit : ℕ → Bool
 is_digit b = nat_le 48 b && nat_le b 57
 

@@ -32,6 +32,7 @@ presentation_of folder before ms = do
   tracks ← tracks_from folder [] items
   Ok (record { name = name; units = units; unit_ms = unit_ms; tracks = tracks })
 
+-- the same of a value, which has to be a table
 abbrev pub as_presentation : Option (List ℕ) → List PresentationValue → Data → Read PresentationValue
 as_presentation folder before d = of_type (as_table d) >>= presentation_of folder before
 

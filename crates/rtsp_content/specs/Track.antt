@@ -23,6 +23,7 @@ abbrev pub as_media : Data → Read Media
 as_media (string text) = if bytes_eq text (codes "audio") then Ok Audio else (if bytes_eq text (codes "video") then Ok Video else Err BadValue)
 as_media _ = Err BadValue
 
+-- a medium has to be named
 abbrev pub media_in : Option Data → Read Media
 media_in None = Err Missing
 media_in (Some d) = as_media d
@@ -58,5 +59,6 @@ track_of folder before ms = do
     channels = channels;
   })
 
+-- the same of a value, which has to be a table
 abbrev pub as_track : Option (List ℕ) → List TrackValue → Data → Read TrackValue
 as_track folder before d = of_type (as_table d) >>= track_of folder before

@@ -69,7 +69,7 @@ fn read_in<T: Stated>(
     }
 }
 
-// Reads the tables of an array, of which the files are in the folder of the media.
+// Reads the tables of an array, whose files are in the folder of the media.
 fn read_each<T: Stated>(
     alloc: Global,
     values: &Array,
@@ -206,7 +206,7 @@ impl Stated for Presentation {
     }
 }
 
-/// Reads the tables `[[presentation]]`, of which the files are in the folder of the media.
+/// Reads the tables `[[presentation]]`, whose files are in the folder of the media.
 pub(crate) fn read_presentations(
     alloc: Global,
     values: &Array,
