@@ -41,7 +41,7 @@ pub trait ByteOut {
         ensures cause { HasCause (failures self.old) (failures self.new) result };
 }
 
-/// A reader of std as a reader of bytes.
+/// A `std::io::Read` that counts its failures.
 #[derive(Drop)]
 pub struct CountedReader<R> {
     inner: R,
@@ -73,7 +73,7 @@ impl<R: Read> ByteIn for CountedReader<R> {
     }
 }
 
-/// A writer of std as a writer of bytes. After a partial write it goes on with the rest.
+/// A `std::io::Write` that counts its failures. After a partial write it goes on with the rest.
 #[derive(Drop)]
 pub struct CountedWriter<W> {
     inner: W,

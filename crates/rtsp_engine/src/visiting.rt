@@ -30,7 +30,7 @@ pub enum Reading {
     Broken,
 }
 
-/// A reader that doesn't wait. Where it was broken is counted.
+/// A reader that doesn't wait. It counts how often it was broken.
 pub trait PieceIn {
     /// The bytes that it will give from here on, where they are known.
     ghost remaining: { Self → Option (List ℕ) };
