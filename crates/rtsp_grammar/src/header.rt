@@ -129,8 +129,8 @@ impl Headers {
         None
     }
 
-    /// The value of the one header of this name; None where there is none, `Repeated` where there are
-    /// more. The headers are gone over once.
+    /// The value of the one header of this name; None where there is none, `Repeated` where there
+    /// are more. The headers are gone over once.
     #[tactic(auto, using(crate::proofs::ValueLemmas::no_values))]
     pub fn only_value(&self, name: &[u8]) -> Result<Option<&[u8]>, Repeated>
         ensures one { IfOk result (λ found. values_of name.now self.now ≡ cons_option (option_map (λ v. v.now) found) []) }
