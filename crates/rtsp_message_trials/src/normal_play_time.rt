@@ -7,7 +7,7 @@ use rtsp_npt::{
 };
 use std::alloc::{AllocError, Global};
 
-// What is taken of ten seconds in units of 20 ms, by a header of a session that halts at a unit.
+// What a Range header takes of ten seconds in units of 20 ms, where `halt` is the resume point.
 fn taken(alloc: Global, text: &str, halt: u32) -> Result<String, AllocError> {
     match read_range(text.as_bytes()) {
         Ok(range) => match resolve(range, halt, UnitLength::new(20), 500) {
@@ -20,7 +20,7 @@ fn taken(alloc: Global, text: &str, halt: u32) -> Result<String, AllocError> {
     }
 }
 
-// A header, where the session halts, and what is taken. What names no beginning begins at the halt.
+// A header, the resume point, at which a range without a start begins, and what is taken.
 const TAKEN: &str = "\
 npt=2.505-                | 0   | 125 to 500
 npt=9.999-                | 0   | 499 to 500
