@@ -141,8 +141,8 @@ impl RefusalCounters {
     }
 }
 
-/// The counters of what a lane answers. Each lane has its own, and alone adds to them, so that no two write
-/// to the same place in memory; anyone may read them meanwhile.
+/// The counters of what a lane answers. Each lane has its own and alone adds to them, so that no two
+/// write to the same place in memory; anyone may read them meanwhile.
 #[derive(Drop)]
 pub struct AnswerCounters {
     requests: MethodCounters,
