@@ -48,8 +48,10 @@ pub record FitsHeader (text : List ℕ) (most : ℕ) : Type 0 where
 abbrev pub TimeFits : Type 0
 TimeFits = (unit unit_ms : ℕ) → unit < 2 ^ 32 → unit_ms < 2 ^ 32 → FitsHeader (time_text unit unit_ms) 21
 
+-- so does a range
 abbrev pub RangeFits : Type 0
 RangeFits = (from stop unit_ms : ℕ) → from < 2 ^ 32 → stop < 2 ^ 32 → unit_ms < 2 ^ 32 → FitsHeader (range_text from stop unit_ms) 47
 
+-- and a stop alone
 abbrev pub StopFits : Type 0
 StopFits = (stop unit_ms : ℕ) → stop < 2 ^ 32 → unit_ms < 2 ^ 32 → FitsHeader (stop_text stop unit_ms) 26

@@ -62,14 +62,14 @@ is_npt unit = pointwise nat_eq (map to_ascii_lowercase unit) (codes "npt")
 abbrev pub has_now : List ℕ → Bool
 has_now times = starts_with nat_eq times (codes "now-") || ends_with nat_eq times (codes "-now")
 
--- the time at a side of the dash, or nothing
+-- the time at a side of the dash; an empty side has none
 abbrev pub side_of : List ℕ → Option (Option Time)
 side_of [] = Some None
 side_of (b ∷ text) = do
   nanos ← time_of (b ∷ text)
   Some (Some (record { nanos = nanos }))
 
--- one of the sides may be missing
+-- either side may be missing, but not both
 abbrev pub bounds_of : Option Time → Option Time → Option Range
 bounds_of None None = None
 bounds_of None (Some stop) = Some (record { start = None; stop = Some stop })

@@ -6,8 +6,8 @@ use crate::time::Time;
 /// `npt=a-b`.
 #[derive(Clone, Copy, PartialEq, Eq)]
 pub struct Range {
-    /// Where it begins. One that is missing is the resume point.
+    /// Where it begins; the resume point where none is written.
     pub start: Option<Time>,
-    /// Where it stops. One that is missing is the end of the media.
+    /// Where it stops; the end of the media where none is written.
     pub stop: Option<Time>,
 }

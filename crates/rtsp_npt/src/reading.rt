@@ -18,7 +18,7 @@ fn is_npt(unit: &[u8]) -> bool
     unit.eq_ignore_ascii_case(b"npt")
 }
 
-// The time at a side of the dash, or nothing.
+// The time at a side of the dash. An empty side has none: `Some(None)`.
 fn read_side(text: &[u8]) -> Option<Option<Time>>
     ensures { result ≡ side_of text.now }
 {

@@ -8,7 +8,7 @@ use crate::fault::OutOfMedia;
 use crate::range::Range;
 use crate::unit_length::UnitLength;
 
-/// The units from `from` on and before `stop`.
+/// The units from `from` on and before `stop`, counted from 0.
 #[derive(Clone, Copy)]
 pub struct Span {
     pub from: u32,
