@@ -5,8 +5,8 @@
 //! and what a record makes of it), Sums (what is counted over a book), Choices (the least of what
 //! is free), Rules (when a record is allowed), Sound (what is true of the book of every legal
 //! journal), Ports (what is held and what is free of the UDP ports, counted), Journals (a journal
-//! undone, or with entries left out), LastWord (the book in a journal's own words), Moments (how far
-//! a play is), Counters (failures, counted).
+//! undone, or with entries left out), LastWord (the book in a journal's own words), Moments (how
+//! far a play is), Counters (counts of failures).
 
 #![tactic(auto)]
 
