@@ -2,7 +2,7 @@
 use Rattle.std.specs.Prelude.{◌≡◌, ℕ, List}
 use Rattle.rtsp_record.specs.Counters.{raised}
 
--- a sink before and after it gave the octets of a unit of a track, after it sent a packet of a track, and after a call that failed; and how many calls have failed, up to the greatest u64
+-- a sink before and after it gave the octets of a track's unit, sent a packet of a track, or failed; and how many calls have failed, up to the greatest u64
 pub record Calls (S : Type 0) : Type 1 where
   pub octets : S → ℕ → ℕ → List ℕ → S → Type 0
   pub sends : S → ℕ → List ℕ → S → Type 0

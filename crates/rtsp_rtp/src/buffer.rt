@@ -13,9 +13,9 @@ use std::marker::Model;
 
 const DOLLAR: u8 = 0x24;
 
-/// An RTP packet (RFC 3550 section 5.1) with a payload of at most 1,400 bytes, or an RTCP packet, in
-/// a buffer of fixed size. Before it is room for the head of an interleaved frame, so it is sent
-/// either way from where it stands. Its value is the bytes of the datagram.
+/// An RTP packet (RFC 3550 section 5.1) with a payload of at most 1,400 bytes, or an RTCP packet,
+/// in a buffer of fixed size. In front of it is room for the head of an interleaved frame, so it is
+/// sent either way from where it stands. Its value is the bytes of the datagram.
 #[derive(Drop)]
 pub struct Packet {
     buffer: [u8; 1416],
@@ -64,8 +64,8 @@ impl Packet {
         &self.buffer[..4 + self.len]
     }
 
-    // Puts the packet that follows `sent` others of a source, with this payload, in place of what is
-    // there.
+    // Puts the packet that follows `sent` others of a source, with this payload, in place of what
+    // is there.
     pub(crate) fn put(&mut self, source: &Source, sent: u32, payload: &[u8])
         requires { length payload.now ≤ MAX_OCTETS }
         ensures { self.new ≡ packet_of source.now sent payload.now }
