@@ -23,7 +23,7 @@ use rtsp_record::{Record, Whole};
 use std::alloc::{AllocError, Global};
 use std::marker::Model;
 
-/// A book as a vector of its sessions. A session is found by its number in a few steps; other
+/// A book as a vector of its sessions. A session is found by its number by binary search; other
 /// questions look at all.
 #[derive(Drop)]
 pub struct PlainBook {

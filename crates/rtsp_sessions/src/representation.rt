@@ -43,11 +43,11 @@ pub trait BookRep: Drop {
         ensures whole { whole_of self.new ≡ whole_of self.old }
         ensures gives { TakesNoMemory changes.now → IsOk result };
 
-    /// The session of this number, where it lives, lent.
+    /// The session of this number, where it lives.
     fn get(&self, session: u64) -> Option<&SessionView>
         ensures { option_copied result ≡ session_at (contents self.now) session };
 
-    /// The session of this number, where it lives.
+    /// A copy of the session of this number, where it lives.
     fn session(&self, session: u64) -> Option<SessionView>
         ensures { result ≡ session_at (contents self.now) session }
     {
@@ -62,8 +62,8 @@ pub trait BookRep: Drop {
     fn next_session(&self, from: u64) -> Option<u64>
         ensures { result ≡ first_from from (entries (contents self.now)) };
 
-    /// The least numbers of living sessions above this one, or of all where there is none: as many as
-    /// there are, and no more than 256. They replace the numbers in `found`.
+    /// The least numbers of living sessions above this one, or of all where there is none: as many
+    /// as there are, and no more than 256. They replace the numbers in `found`.
     fn next_sessions(&self, above: Option<u64>, found: &mut SessionNumbers)
         ensures { found.new ≡ take 256 (numbers_above above (entries (contents self.now))) };
 
