@@ -18,7 +18,7 @@ module _ {S : Type 0} (remaining : S → Option (List ℕ)) where
   abbrev pub unread : SourceWords S → Option (List ℕ)
   unread w = prepend_known (drop w.used w.pool) (remaining w.source)
 
-  -- one word more was given, which is the next bytes by their worth, the least first, as many as it is wide
+  -- a word was given, which is as many bytes as it is wide, in little-endian order
   pub record Gives (width : Width) (b : SourceWords S) (word : ℕ) (c : SourceWords S) : Type 0 where
     pub bytes : List ℕ
     pub size : length bytes ≡ byte_len width
@@ -29,6 +29,7 @@ module _ {S : Type 0} (remaining : S → Option (List ℕ)) where
   abbrev pub Fails : SourceWords S → SourceWords S → Type 0
   Fails b c = Loses (unread b) (unread c)
 
+  -- the calls of such a source
   abbrev pub calls : WordCalls (SourceWords S)
   calls = record {
     ids = Gives w128;

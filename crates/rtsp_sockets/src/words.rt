@@ -14,8 +14,8 @@ const SOURCE: &str = "/dev/urandom";
 // How many bytes are read at once.
 const POOL: usize = 32;
 
-/// Words made of the bytes that a source gives. A read that gives fewer bytes than were asked for is
-/// a fault, and the next word is read anew.
+/// Words made of the bytes that a source gives. A read of fewer bytes than were asked for is a
+/// fault, and the next word is read anew.
 #[derive(Drop)]
 pub struct SourceWords<S> {
     source: S,
