@@ -28,16 +28,18 @@ use Rattle.rtsp_state.specs.declared.step_plan.Details.TheVariants as details
 use Rattle.rtsp_state.specs.Values.{single_value}
 use Rattle.rtsp_state.specs.Context.{ContextValue, Living, streams_of, is_other, timing_of, known}
 
--- no Range header is the rest of the media; another unit than npt, a malformed text and `now` are refused
+-- another unit than npt, a malformed text and `now` are refused
 abbrev pub fault_of : RangeFault → Fault
 fault_of faults.NotNpt = Refused HeaderNotValid
 fault_of faults.BadNpt = Refused BadRequest
 fault_of faults.Now = Refused InvalidRange
 
+-- a range that was read, or that refusal
 abbrev pub range_read : Result Range RangeFault → Result Range Fault
 range_read (Ok range) = Ok range
 range_read (Err fault) = Err (fault_of fault)
 
+-- no Range header is the rest of the media
 abbrev pub range_in : Option (List ℕ) → Result Range Fault
 range_in None = Ok (record { start = None; stop = None })
 range_in (Some value) = range_read (range_of value)
@@ -47,6 +49,7 @@ abbrev pub units_in : Range → Result Span OutOfMedia → Result Units Fault
 units_in range (Ok taken) = Ok (record { from = option_and range.start (Some taken.from); stop = taken.stop })
 units_in range (Err outside) = Err (Refused InvalidRange)
 
+-- the units that a request asks for
 abbrev pub units_asked : ContextValue → Living → PresentationValue → Result Units Fault
 units_asked context view p = do
   value ← single_value (codes "Range") context.headers
@@ -58,9 +61,11 @@ abbrev pub stream_of : ℕ → List Stream → Option Stream
 stream_of t [] = None
 stream_of t (s ∷ ss) = if s.track == t then Some s else stream_of t ss
 
+-- what RTP-Info says of a stream
 abbrev pub stream_info : List ℕ → TrackValue → Stream → StreamInfo
 stream_info base t s = record { url = base ++ t.name; ssrc = s.ssrc; seq = s.seq; rtptime = s.rtptime; ticks = t.ticks }
 
+-- the same of a track, if it has a stream
 abbrev pub stream_info_at : List ℕ → TrackValue → Option Stream → List StreamInfo
 stream_info_at base t None = []
 stream_info_at base t (Some s) = stream_info base t s ∷ []
@@ -70,6 +75,7 @@ abbrev pub rtp_info_from : List ℕ → List Stream → ℕ → List TrackValue 
 rtp_info_from base streams i [] = []
 rtp_info_from base streams i (t ∷ ts) = stream_info_at base t (stream_of i streams) ++ rtp_info_from base streams (i + 1) ts
 
+-- PLAY of a presentation by a session that has streams, all of them of it
 abbrev pub play_presentation : ContextValue → Living → List ℕ → ℕ → Result Plan Fault
 play_presentation context view base p = do
   same ← must (not (is_other p (streams_of view.1))) SessionNotFound
@@ -83,6 +89,7 @@ play_presentation context view base p = do
     details = details.Played (timing_of presentation) (rtp_info_from base (streams_of view.1) 0 presentation.tracks);
   }))
 
+-- PLAY by its target: the tracks of a session are played together
 abbrev pub play : ContextValue → Living → Target → Result Plan Fault
 play context view (targets.Track base p t) = Err (Refused OnlyAggregateAllowed)
 play context view (targets.Presentation base p) = play_presentation context view base p

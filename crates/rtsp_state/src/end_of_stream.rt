@@ -23,7 +23,7 @@ use std::alloc::{AllocError, Global};
 struct EndedPlay {
     cseq: u32,
     session: u128,
-    // The number of the PLAY.
+    // The CSeq of the PLAY.
     play_cseq: u32,
     // The unit that it stopped before.
     stop: u32,
@@ -130,8 +130,8 @@ fn headers_of(alloc: Global, play: &EndedPlay) -> Result<Headers, AllocError>
 }
 
 /// The request that reports the end of a session's play to its client. The presentation is that of
-/// the session's streams, `uri` is the URI of the PLAY and `play_cseq` its number; `cseq` is the
-/// server's own number on the connection.
+/// the session's streams, `uri` is the URI of the PLAY and `play_cseq` its CSeq; `cseq` is the
+/// server's own on the connection.
 pub fn notify(
     alloc: Global,
     uri: &MediaUri,

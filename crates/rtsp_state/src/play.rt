@@ -24,7 +24,7 @@ use rtsp_npt::{OutOfMedia, Range, RangeFault, Span, read_range, resolve};
 use rtsp_record::Stream;
 use std::alloc::Global;
 
-/// The units to be played: from `from`, or the session's point if it is missing, up to `stop`.
+/// The units to be played: from `from` on, or the session's point if it is missing, before `stop`.
 #[derive(Clone, Copy)]
 pub struct Units {
     pub from: Option<u32>,
