@@ -96,5 +96,6 @@ pub record Devices (B W C P S : Type 0) : Type 1 where
   pub plays : PlayCalls P
   pub shares : ShareCalls S
 
+-- these calls together
 abbrev pub devices : {B W C P S : Type 0} → Calls B → WordCalls W → (C → ℕ → C → Type 0) → PlayCalls P → ShareCalls S → Devices B W C P S
 devices b w c p s = record { binder = b; words = w; clock = c; plays = p; shares = s }

@@ -100,5 +100,6 @@ pub record Unbinds (b : PortSet) (a : ℕ) (x : Thing) (c : PortSet) : Type 0 wh
   pub others : KeepsOthers b x c
   pub first : c.first_port ≡ b.first_port
 
+-- the calls of such a binder
 abbrev pub calls : Calls PortSet
 calls = record { binds = Binds; fails = Fails; unbinds = Unbinds; failures = λ b. b.failed }
