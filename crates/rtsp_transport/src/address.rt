@@ -114,7 +114,7 @@ impl Address<'_> {
         self.host.contains(&b'[')
     }
 
-    /// Whether the host is empty or the peer's.
+    /// Whether the host is empty or the peer's, whose IPv4 address is given as a number.
     pub fn is_allowed(&self, peer: u32) -> bool
         ensures { result ≡ allows peer self.now.host.now }
     {

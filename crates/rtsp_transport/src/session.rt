@@ -55,8 +55,8 @@ fn is_session_name(name: &[u8]) -> bool
 }
 
 /// Reads a session's name, which is its identifier as a Session header has it: 1 to 256 letters,
-/// digits and `$ - _ . +`. From a semicolon on, as a timeout, the text is ignored (RFC 7826 section
-/// 18.49).
+/// digits and `$ - _ . +`. The text from a semicolon on, such as a timeout, is ignored (RFC 7826
+/// section 18.49).
 #[tactic(auto, using(crate::proofs::SessionLemmas::name_spelled))]
 pub fn read_session(text: &[u8]) -> Result<&[u8], TextFault>
     ensures found { IfOk result (λ name. SpellsSession text.now name.now) }

@@ -1,4 +1,4 @@
-//! Transport specifications as plain trees (RFC 7826 section 18.54).
+//! Transport specifications: a protocol and its parameters each (RFC 7826 section 18.54).
 
 ghost use Rattle.std.specs.Prelude.{◌≡◌};
 ghost use Rattle.rtsp_text.specs.Results.{Gives, GivesBy};
@@ -64,7 +64,7 @@ impl Parameter {
         Ok(parameters)
     }
 
-    // The mode is PLAY, in quotes or not.
+    // Whether the mode is PLAY, in quotes or not.
     fn is_play(&self) -> bool
         ensures { result ≡ is_play self.now.value }
     {
@@ -75,7 +75,7 @@ impl Parameter {
         }
     }
 
-    // The name is of a parameter that this server doesn't serve.
+    // Whether the name is of a parameter that this server doesn't serve.
     #[tactic(auto, unfolding(crate::specs::Names::is_unserved))]
     fn is_unserved(name: &[u8]) -> bool
         ensures { result ≡ is_unserved name.now }
@@ -88,7 +88,7 @@ impl Parameter {
             || is_named(name, b"MIKEY")
     }
 
-    // RTCP-mux with a value, which it never has (RFC 7826 section 18.54).
+    // Whether it is RTCP-mux with a value, which that never has (RFC 7826 section 18.54).
     #[tactic(auto, unfolding(crate::specs::Parameters::mux_has_value))]
     fn mux_has_value(&self) -> bool
         ensures { result ≡ mux_has_value self.now }
@@ -96,7 +96,7 @@ impl Parameter {
         is_named(self.name.as_bytes(), b"RTCP-mux") && self.value.is_some()
     }
 
-    // The parameter asks for more than this server serves.
+    // Whether the parameter asks for more than this server serves.
     #[tactic(auto, unfolding(crate::specs::Parameters::asks_more))]
     fn asks_more(&self) -> bool
         ensures { result ≡ asks_more self.now }
@@ -155,7 +155,7 @@ impl Spec {
         Ok(specs)
     }
 
-    // One of the parameters asks for more than this server serves.
+    // Whether one of the parameters asks for more than this server serves.
     fn asks_more(&self) -> bool
         ensures { result ≡ list_any asks_more self.now.parameters }
     {
@@ -170,7 +170,7 @@ impl Spec {
         parameters.find(|p| is_named(p.name.as_bytes(), name))
     }
 
-    // RTP and RTCP are to share one port (RFC 5761).
+    // Whether RTP and RTCP are to share one port (RFC 5761).
     fn has_mux(&self) -> bool
         ensures { result ≡ has_mux self.now.parameters }
     {
@@ -234,7 +234,7 @@ impl Spec {
         }
     }
 
-    /// What this specification alone comes to.
+    /// What this specification alone comes to, for the peer of this IPv4 address.
     #[tactic(auto, unfolding(crate::specs::Fitting::fit_of))]
     pub fn fit(&self, peer: u32) -> Pick
         ensures { result ≡ fit_of peer self.now }

@@ -47,7 +47,8 @@ pub fn read_transports(alloc: Global, text: &[u8]) -> Result<Vec<Spec>, TextFaul
 }
 
 /// What the first specification that can be served comes to. Where there is none, `Prohibited` if
-/// one fails only because a host of it isn't the peer's, whose IPv4 address is given as a number.
+/// one fails only because a host of it isn't the peer's, whose IPv4 address is given as a number,
+/// and else `Unsupported`.
 #[tactic(auto, using(crate::proofs::PickingLemmas::past_unsupported, crate::proofs::PickingLemmas::past_prohibited, crate::proofs::PickingLemmas::at_use, crate::proofs::PickingLemmas::at_end))]
 pub fn pick(specs: &[Spec], peer: u32) -> Pick
     ensures { Picks peer specs.now result }
