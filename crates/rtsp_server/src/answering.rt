@@ -42,7 +42,7 @@ pub(crate) struct Front<'a, R> {
 
 // Has a piece of a connection's input answered at a desk over the connection's handle of the book,
 // with the server's sockets, its clock, which is read once at most, and what addresses have of the
-// sessions, by the lane's handle. Each item is answered as the players of the configuration mean it.
+// sessions, by the lane's handle. Each item is answered as the configuration's players mean it.
 fn answer_piece<R: Wait + Net + rt::Clock, W: Words, P: Plays>(
     service: &Service<'_, R>,
     handle: &mut BookHandle,
@@ -147,7 +147,7 @@ impl<R: Wait + Net + rt::Clock> PieceAnswerer for Front<'_, R> {
         if pushed.is_err() {
             recorded.note();
         }
-        // Where the track was refused, the session has ended.
+        // A session that was opened for a track that was then refused has ended.
         if has_setup {
             shared.note_end();
         }

@@ -26,8 +26,8 @@ const NO_MARK: Mark = Mark {
     rounds: u64::MAX,
 };
 
-// Whether a SETUP of this status may have opened a session, also one that ended at once. Where a session
-// is opened an admission is refused 453, 500 or 503. What a request asks wrongly has another status.
+// Whether a SETUP of this status may have opened a session, also one that ended at once: once it has
+// opened one, an admission is refused 453, 500 or 503. A wrong request has another status.
 fn may_have_opened(status: u16) -> bool {
     matches!(status, 200 | 453 | OUT_OF_MEMORY | UNAVAILABLE)
 }
@@ -37,8 +37,8 @@ fn may_have_opened(status: u16) -> bool {
 pub(crate) struct AnswerCounter<'a, R> {
     service: Service<'a, R>,
     asker: Asker,
-    // The moment of the lines, in milliseconds since 1970: the clock is read once for the requests of a
-    // piece, which are answered within some milliseconds.
+    // The moment of the log's lines, in milliseconds since 1970: the clock is read once for the
+    // requests of a piece, which are answered within some milliseconds.
     moment: u64,
     // How many SETUPs may have opened a session.
     setups: Cell<u64>,
@@ -61,7 +61,7 @@ impl<'a, R: rt::Clock> AnswerCounter<'a, R> {
         }
     }
 
-    /// So many SETUPs were refused 503 before anything was drawn, since their address has no place left.
+    /// So many SETUPs were refused 503 before anything was drawn: their address has no place left.
     pub(crate) fn note_unplaced(&self, refused: u64) {
         self.setups.set(self.setups.get().saturating_sub(refused));
     }
