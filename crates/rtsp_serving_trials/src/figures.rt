@@ -111,7 +111,7 @@ const ROWS: &str = "\
 ";
 
 #[test]
-fn tells_each_family(rt: HostRuntime) -> Result<(), Fail> {
+fn metrics_text_has_the_figures(rt: HostRuntime) -> Result<(), Fail> {
     let text = metrics_text(rt.alloc(), &snapshot())?;
     has_lines(&rt, &text, FAMILIES);
     assert!(rt; text.ends_with(b"# EOF\n"));
@@ -119,7 +119,7 @@ fn tells_each_family(rt: HostRuntime) -> Result<(), Fail> {
 }
 
 #[test]
-fn shows_the_same(rt: HostRuntime) -> Result<(), Fail> {
+fn page_has_the_same_figures(rt: HostRuntime) -> Result<(), Fail> {
     has_lines(&rt, &page_text(rt.alloc(), &snapshot())?, ROWS);
     Ok(())
 }

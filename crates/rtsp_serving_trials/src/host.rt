@@ -21,7 +21,7 @@ fn words_differ(rt: HostRuntime) -> Result<(), Fail> {
 
 // A first read takes 32 of these bytes, and a second one finds too few.
 #[test]
-fn words_of_a_source(rt: HostRuntime) {
+fn words_are_the_bytes_of_their_source(rt: HostRuntime) {
     let bytes = b"abcdefghijklmnopqrstuvwxyz0123456789ABCD".as_slice();
     let mut words = SourceWords::new(bytes);
     assert!(rt; words.ssrc() == Ok(0x6463_6261) && words.seq() == Ok(0x6665));
@@ -30,7 +30,7 @@ fn words_of_a_source(rt: HostRuntime) {
 }
 
 #[test]
-fn moments(rt: HostRuntime) -> Result<(), Fail> {
+fn moments_go_on_and_a_piece_has_one(rt: HostRuntime) -> Result<(), Fail> {
     let mut clock = RunningClock::new(&rt, Instant::now(&rt)?);
     let early = clock.now();
     assert!(rt; clock.now() >= early && clock.until(early) == Some(Duration::ZERO));
