@@ -15,6 +15,7 @@ pub struct Failing {
     pub word: u32,
 }
 
+/// No device fails.
 pub const NEVER: Failing = Failing {
     read: 0,
     write: 0,
@@ -114,7 +115,7 @@ impl ByteOut for Answers {
     }
 }
 
-/// Binds each pair, but for one call.
+/// Binds all ports, but for one call.
 #[derive(Drop)]
 pub struct Ports {
     left: u32,
