@@ -12,6 +12,7 @@ GivesId b word c = (word ≡ b.ids + 1) × (c ≡ record b { ids = b.ids + 1 })
 abbrev pub GivesSsrc : CountedWords → ℕ → CountedWords → Type 0
 GivesSsrc b word c = (word ≡ b.ssrcs + 1) × (c ≡ record b { ssrcs = b.ssrcs + 1 })
 
+-- a sequence number or a timestamp
 abbrev pub GivesZero : CountedWords → ℕ → CountedWords → Type 0
 GivesZero b word c = (word ≡ 0) × (c ≡ b)
 
@@ -24,6 +25,7 @@ pub record Fails (b c : CountedWords) : Type 0 where
   pub spent : (b.ids ≡ 2 ^ 128 - 1) ⊎ (b.ssrcs ≡ 2 ^ 32 - 1)
   pub counted : Counts b c
 
+-- the calls of such a source
 abbrev pub calls : WordCalls CountedWords
 calls = record {
   ids = GivesId;
