@@ -1,6 +1,6 @@
 //! An admission: its chain of steps, and at a refusal its unwinding.
 
-ghost use Rattle.std.specs.Prelude.{◌≡◌, IfOk, IfErr, OnErr, Ok};
+ghost use Rattle.std.specs.Prelude.{IfOk, IfErr, OnErr, Ok};
 ghost use Rattle.rtsp_record.specs.Rules.{IsAddress};
 ghost use Rattle.rtsp_book.specs.Replies.{AreDifferent};
 ghost use Rattle.rtsp_lock.specs.Calls.{seat_view, IsSeatOf, SameSeat};

@@ -1,6 +1,6 @@
 //! Who binds ports.
 
-ghost use Rattle.std.specs.Prelude.{◌≡◌, ℕ, OnOk, OnErr};
+ghost use Rattle.std.specs.Prelude.{◌≡◌, OnOk, OnErr};
 ghost use Rattle.rtsp_record.specs.declared.holdings.Thing.TheVariants.{Pair, Port};
 ghost use Rattle.rtsp_book.specs.Receipts.{freed_as};
 ghost use Rattle.rtsp_admit.specs.Binder.{Calls, Bound, Failed, Unbound, UnboundAll, Released, booked, freed_of, freed_addresses};

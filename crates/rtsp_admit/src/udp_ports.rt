@@ -1,6 +1,6 @@
 //! What a stream over UDP has at the server.
 
-ghost use Rattle.std.specs.Prelude.{◌≡◌, IfOk, OnOk, OnErr};
+ghost use Rattle.std.specs.Prelude.{◌≡◌, OnOk, OnErr};
 ghost use Rattle.rtsp_admit.specs.Binder.{Bound, Failed};
 ghost use Rattle.rtsp_admit.specs.Steps.{ports_from, next_above, ports_step};
 

@@ -1,7 +1,7 @@
 //! How many returns are owed after records: one for each living session, holding, stream and
 //! binding, and one for each session that isn't in its opening phase.
 
-ghost use Rattle.std.specs.Prelude.{◌≡◌, ◌+◌, ◌≤◌, ◌<◌, ◌^◌, length};
+ghost use Rattle.std.specs.Prelude.{◌≡◌, ◌+◌, ◌<◌, ◌^◌, length};
 ghost use Rattle.rtsp_book.specs.Owed.{owed_with};
 
 use rtsp_record::Record;

@@ -1,7 +1,7 @@
 //! Dialogues at a lock with two seats: the first acts and admits, and the other one does what is
 //! asked in between, and binds the ports of admissions.
 
-ghost use Rattle.std.specs.Prelude.{◌≡◌, IfSome};
+ghost use Rattle.std.specs.Prelude.{IfSome};
 ghost use Rattle.rtsp_record.specs.Choices.{HasPorts};
 ghost use Rattle.rtsp_lock.specs.Calls.{IsSeatOf, SameSeat};
 ghost use Rattle.rtsp_admit.specs.Steps.{HasWish};

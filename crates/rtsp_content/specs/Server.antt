@@ -37,7 +37,19 @@ server_of ms = do
   sessions_per_address ← optional_number_at (codes "sessions_per_address") 1 sessions ms
   connections_per_address ← optional_number_at (codes "connections_per_address") 1 MAX_CONNECTIONS ms
   players ← players_in (get_member (codes "players") ms)
-  Ok (record { first_port = first_port; pairs = pairs; uplink = uplink; sessions = sessions; timeout = timeout; renewal_step = renewal_step; journal = journal; workers = workers; sessions_per_address = sessions_per_address; connections_per_address = connections_per_address; players = players })
+  Ok (record {
+    first_port = first_port;
+    pairs = pairs;
+    uplink = uplink;
+    sessions = sessions;
+    timeout = timeout;
+    renewal_step = renewal_step;
+    journal = journal;
+    workers = workers;
+    sessions_per_address = sessions_per_address;
+    connections_per_address = connections_per_address;
+    players = players;
+  })
 
 -- the limits of these numbers
 pub record IsWithinLimits (server : Server) : Type 0 where

@@ -1,6 +1,6 @@
 //! One media stream of a presentation.
 
-ghost use Rattle.std.specs.Prelude.{◌≡◌, ◌≤◌, ◌^◌, ◌<◌, true, IfSome, option_map};
+ghost use Rattle.std.specs.Prelude.{◌≡◌, ◌≤◌, ◌<◌, true, IfSome, option_map};
 ghost use Rattle.rtsp_content.specs.Form.{is_name, is_encoding, is_format_parameters};
 ghost use Rattle.rtsp_content.specs.declared.limits.TheConstants.{MAX_PAYLOAD_TYPE, MAX_CLOCK, MAX_OCTETS, MAX_TICKS, MAX_CHANNELS};
 ghost use Rattle.rtsp_content.specs.Track.{media_text};

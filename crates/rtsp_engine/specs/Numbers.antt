@@ -1,5 +1,5 @@
 -- The numbers under which a connection's seat holds and adds; and what is left of a SETUP that was refused, of the only seat of a lock.
-use Rattle.std.specs.Prelude.{ℕ, List, [], Option, Result, Ok, Err}
+use Rattle.std.specs.Prelude.{ℕ, List, Option, Ok, Err}
 use mathlib.Core.Logic.{inl, inr}
 use Rattle.rtsp_grammar.specs.declared.fault.MessageFault.{MessageFault}
 use Rattle.rtsp_grammar.specs.declared.message.Item.{Item}

@@ -1,6 +1,6 @@
 //! What is drawn for an admission: words, and then numbers.
 
-ghost use Rattle.std.specs.Prelude.{◌≡◌, IfOk, IfErr, OnErr, OnOk};
+ghost use Rattle.std.specs.Prelude.{◌≡◌, IfOk, IfErr, OnErr};
 ghost use Rattle.rtsp_lock.specs.Calls.{seat_view, IsSeatOf, SameSeat};
 ghost use Rattle.rtsp_engine.specs.Drawing.{opens, GivesId, LacksId, GivesWords, LacksWord, Draws, DrawsNone, DrawsNumbers, LacksNumber};
 

@@ -1,6 +1,5 @@
 //! Serves a connection that is read and written by blocking calls.
 
-ghost use Rattle.std.specs.Prelude.{◌≡◌};
 ghost use Rattle.rtsp_engine.specs.Served.{Ends, Written, parts};
 ghost use Rattle.rtsp_engine.specs.Causes.{ReadFails, WriteFails, TurnWriteFails, ClosesAtEnd, SpendsTurns};
 

@@ -1,5 +1,5 @@
 -- The run of a sweep: accepted steps, each with the unbinding of the ports that it freed. Between any two of them other seats may act.
-use Rattle.std.specs.Prelude.{◌≡◌, ℕ, ◌≤◌, ◌<◌, Bool, true, false, List, [], ◌∷◌, length, slice_get, Option, None, option_map, Ok, Err}
+use Rattle.std.specs.Prelude.{◌≡◌, ℕ, ◌<◌, Bool, true, false, List, [], ◌∷◌, length, slice_get, Option, None, option_map, Ok, Err}
 use Rattle.rtsp_record.specs.declared.changes.Record.{Record}
 use Rattle.rtsp_record.specs.Records.{session_of}
 use Rattle.rtsp_book.specs.declared.refusals.Refusal.TheVariants.{NothingDue}

@@ -1,6 +1,6 @@
 //! Headers of a message, kept in one buffer.
 
-ghost use Rattle.std.specs.Prelude.{◌≡◌, ◌<◌, ◌≤◌, ◌+◌, [], ◌∷◌, ◌++◌, length, OnOk, OnErr, IfOk, slice_get, option_map, Some, IsOk, IsTrue, ◌↔◌};
+ghost use Rattle.std.specs.Prelude.{◌≡◌, ◌<◌, ◌≤◌, ◌+◌, [], length, OnOk, OnErr, IfOk, slice_get, option_map, Some, IsOk, IsTrue, ◌↔◌};
 ghost use Rattle.rtsp_grammar.specs.HeadersBuilder.{Takes, HasRoom};
 ghost use Rattle.std.specs.List.{cons_option};
 ghost use Rattle.rtsp_grammar.specs.Header.{is_named, values_of};

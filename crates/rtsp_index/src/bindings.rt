@@ -1,8 +1,8 @@
 //! How many sessions are bound to each connection.
 
-ghost use Rattle.std.specs.Prelude.{◌≡◌, ◌+◌, ◌-◌, ◌≤◌, ◌<◌, ◌^◌, ◌==◌, ℕ, nat_eq, IsOk, OnOk};
+ghost use Rattle.std.specs.Prelude.{◌≡◌, ◌+◌, ◌-◌, ◌≤◌, ◌<◌, ◌^◌, ◌==◌, ℕ, IsOk, OnOk};
 ghost use Rattle.std.specs.FinMap.{empty};
-ghost use Rattle.indexmap.specs.IndexMap.{get, spare};
+ghost use Rattle.indexmap.specs.IndexMap.{spare};
 ghost use Rattle.rtsp_record.specs.Books.{Book, after};
 ghost use Rattle.rtsp_record.specs.Sums.{one_if};
 ghost use Rattle.rtsp_record.specs.declared.holdings.Whole.{Whole};

@@ -1,6 +1,6 @@
 //! Moments by place, and the least of them.
 
-ghost use Rattle.std.specs.Prelude.{◌≡◌, ◌≢◌, ◌+◌, ◌*◌, ◌<◌, ◌≤◌, ◌^◌, ℕ, slice_index, IsOk, IfOk, OnOk};
+ghost use Rattle.std.specs.Prelude.{◌≡◌, ◌≢◌, ◌+◌, ◌*◌, ◌<◌, ◌≤◌, ℕ, slice_index, IfOk, OnOk};
 ghost use Rattle.rtsp_index.specs.Lessers.{AreLessers};
 
 use std::alloc::{AllocError, Global};

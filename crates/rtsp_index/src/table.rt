@@ -1,6 +1,6 @@
 //! The table of living sessions, by number.
 
-ghost use Rattle.std.specs.Prelude.{◌≡◌, ◌+◌, ◌<◌, ◌≤◌, ℕ, nat_eq, Some, None, IsSome, IfSome, is_some, IsTrue, IsOk, OnOk, option_copied, slice_get, take, length, ◌⊎◌};
+ghost use Rattle.std.specs.Prelude.{◌≡◌, ◌+◌, ◌<◌, ℕ, nat_eq, Some, None, IsSome, IfSome, is_some, IsTrue, IsOk, OnOk, option_copied, slice_get, take, length, ◌⊎◌};
 ghost use Rattle.std.specs.FinMap.{get, empty, entries};
 ghost use Rattle.indexmap.specs.IndexMap.{get as get_place};
 ghost use Rattle.slab.specs.Slab.{get as row_in};

@@ -1,6 +1,5 @@
 //! The packets of a play, one turn after another, to sinks that keep what they are sent.
 
-ghost use Rattle.std.specs.Prelude.{◌≡◌};
 
 use rtsp_content::{EXAMPLE, Table};
 use rtsp_journal_text::read_journal;

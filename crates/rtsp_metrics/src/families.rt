@@ -1,6 +1,6 @@
 //! Writing families. After a refusal a part of the text may be at the end.
 
-ghost use Rattle.std.specs.Prelude.{◌≡◌, ◌++◌, OnOk, Some, None, codes, decimal};
+ghost use Rattle.std.specs.Prelude.{◌≡◌, ◌++◌, OnOk, Some, None, decimal};
 ghost use Rattle.rtsp_text.specs.Slices.{held};
 ghost use Rattle.rtsp_metrics.specs.Families.{head_text, sample_line, family_text, gauge, counter, held_and_free, sample_lines, seconds_text, unit_line};
 ghost use Rattle.rtsp_metrics.specs.FigureLines.{figure_line};

@@ -28,7 +28,8 @@ RangeReadsBack = (from stop unit_ms : ℕ) → from * unit_ms < 10 ^ 22 → stop
 
 -- and a stop alone
 abbrev pub StopReadsBack : Type 0
-StopReadsBack = (stop unit_ms : ℕ) → stop * unit_ms < 10 ^ 22 → SpellsRange (stop_text stop unit_ms) (record { start = None; stop = Some (unit_time stop unit_ms) })
+StopReadsBack = (stop unit_ms : ℕ) → stop * unit_ms < 10 ^ 22
+    → SpellsRange (stop_text stop unit_ms) (record { start = None; stop = Some (unit_time stop unit_ms) })
 
 -- these times are the same units again
 abbrev pub UnitsStay : Type 0

@@ -1,6 +1,6 @@
 //! Times of normal play time.
 
-ghost use Rattle.std.specs.Prelude.{◌≡◌, ◌+◌, ◌*◌, ◌/◌, ◌^◌, ◌<◌, ◌≤◌, length, OnSome, IfSome};
+ghost use Rattle.std.specs.Prelude.{◌≡◌, ◌+◌, ◌*◌, ◌/◌, ◌^◌, ◌<◌, ◌≤◌, IfSome};
 ghost use Rattle.std.specs.Int.{div_ceil};
 ghost use Rattle.rtsp_npt.specs.Reading.{sixtieth_of, seconds_of, fraction_of, time_of};
 ghost use Rattle.rtsp_npt.specs.Units.{unit_nanos};

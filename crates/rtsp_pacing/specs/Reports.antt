@@ -8,7 +8,6 @@ use Rattle.rtsp_record.specs.declared.holdings.Thing.TheVariants.{Chan}
 use Rattle.rtsp_record.specs.declared.holdings.Admission.{Admission}
 use Rattle.rtsp_record.specs.Books.{Session, book_of}
 use Rattle.rtsp_book.specs.declared.refusals.Refusal.{Refusal}
-use Rattle.rtsp_book.specs.declared.steps.Step.{Step}
 use Rattle.rtsp_book.specs.declared.steps.Step.TheVariants.{Touch}
 use Rattle.rtsp_content.specs.declared.server.Server.{Server}
 use Rattle.rtsp_lock.specs.declared.names.Name.TheVariants.{Number}

@@ -1,7 +1,6 @@
 //! What a pacer works with.
 
 ghost use Rattle.rtsp_lock.specs.Calls.{IsSeatOf};
-ghost use Rattle.std.specs.Prelude.{◌≡◌};
 
 use crate::bell::Bell;
 use rtsp_book::{Refusal, SessionView, Step};

@@ -1,6 +1,6 @@
 //! At which moment a play has its turn, and when its next one.
 
-ghost use Rattle.std.specs.Prelude.{◌≡◌, ◌<◌, ◌≤◌, ◌+◌, ◌-◌, ◌%◌, ◌*◌, ◌^◌, ◌↔◌, ℕ, min, IsTrue};
+ghost use Rattle.std.specs.Prelude.{◌≡◌, ◌<◌, ◌≤◌, ◌+◌, ◌-◌, ◌%◌, ◌*◌, ◌^◌, ◌↔◌, min, IsTrue};
 ghost use Rattle.rtsp_pacing.specs.Catching.{IsMeasured, most_at_once};
 
 // How much of the time since the last turn of a play counts where it is behind, in milliseconds.

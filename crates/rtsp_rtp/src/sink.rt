@@ -1,6 +1,6 @@
 //! Where the packets of a play get their media, and where they go.
 
-ghost use Rattle.std.specs.Prelude.{◌≡◌, OnOk, OnErr};
+ghost use Rattle.std.specs.Prelude.{OnOk, OnErr};
 ghost use Rattle.rtsp_rtp.specs.Sinks.{Calls, Took, Sent, Failed};
 
 use crate::buffer::Packet;

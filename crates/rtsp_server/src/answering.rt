@@ -1,6 +1,6 @@
 //! Has the input of a connection answered by the engine, a piece at a time.
 
-ghost use Rattle.std.specs.Prelude.{◌≡◌, ◌++◌, IfErr, OnOk};
+ghost use Rattle.std.specs.Prelude.{◌++◌, IfErr, OnOk};
 ghost use Rattle.rtsp_grammar.specs.Answer.{IsUndecided};
 ghost use Rattle.rtsp_traits.specs.Devices.{devices};
 ghost use Rattle.rtsp_engine.specs.Serving.{serving_of};

@@ -27,7 +27,8 @@ const NO_MARK: Mark = Mark {
 };
 
 // Whether a SETUP of this status may have opened a session, also one that ended at once: once it has
-// opened one, an admission is refused 453, 500 or 503. A wrong request has another status.
+// opened one, an admission is refused 453, 500 or 503, or 454 where another has ended the session,
+// who then notes that. A wrong request has another status.
 fn may_have_opened(status: u16) -> bool {
     matches!(status, 200 | 453 | OUT_OF_MEMORY | UNAVAILABLE)
 }

@@ -1,6 +1,5 @@
 //! A small book of several seats, and whoever writes its history into memory.
 
-ghost use Rattle.std.specs.Prelude.{◌≡◌};
 ghost use Rattle.rtsp_book.specs.Replies.{IsAskable};
 ghost use Rattle.rtsp_lock.specs.Calls.{IsSeatOf, SameSeat};
 

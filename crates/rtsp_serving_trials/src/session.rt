@@ -1,6 +1,5 @@
 //! The session 2, which plays eight units of 200 ms.
 
-ghost use Rattle.std.specs.Prelude.{◌≡◌};
 ghost use Rattle.rtsp_book.specs.Replies.{IsAskable};
 ghost use Rattle.rtsp_lock.specs.Calls.{IsSeatOf, SameSeat};
 

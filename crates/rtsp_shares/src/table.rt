@@ -1,6 +1,6 @@
 //! The places that addresses have taken.
 
-ghost use Rattle.std.specs.Prelude.{◌≡◌, ◌++◌, ◌∷◌, ◌≤◌, ◌<◌, ◌+◌, ◌⊎◌, ◌↔◌, [], length, List, IsTrue, IfOk, IfSome, IfNone, slice_get, Some};
+ghost use Rattle.std.specs.Prelude.{◌≡◌, ◌++◌, ◌∷◌, ◌≤◌, ◌<◌, ◌+◌, ◌⊎◌, ◌↔◌, [], length, IsTrue, IfOk, IfSome, IfNone, slice_get, Some};
 ghost use Rattle.std.specs.Bool.{OnTrue, OnFalse};
 ghost use Rattle.rtsp_shares.specs.declared.place.Place.{Place};
 ghost use Rattle.rtsp_shares.specs.Places.{places_of, held, kept, HasHeld, IsOf, SameLimits, Exchanges, LastMovesTo};

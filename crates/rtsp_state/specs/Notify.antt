@@ -48,7 +48,7 @@ reason_line = record { name = codes "Notify-Reason"; value = codes "end-of-strea
 unfoldable pub success_text : List ℕ
 success_text = codes " status=200 reason=\"OK\""
 
--- the number of the PLAY, and what it was answered (RFC 7826 section 18.42)
+-- the CSeq of the PLAY, and what it was answered (RFC 7826 section 18.42)
 abbrev pub request_status_text : ℕ → List ℕ
 request_status_text play_cseq = codes "cseq=" ++ decimal play_cseq ++ success_text
 

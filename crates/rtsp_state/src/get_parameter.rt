@@ -1,6 +1,6 @@
 //! GET_PARAMETER (RFC 7826 section 13.8).
 
-ghost use Rattle.std.specs.Prelude.{◌≡◌, option_map, not, IfOk};
+ghost use Rattle.std.specs.Prelude.{◌≡◌, option_map, IfOk};
 ghost use Rattle.rtsp_state.specs.Fault.{Gives};
 ghost use Rattle.rtsp_state.specs.Conduct.{IsConducted};
 ghost use Rattle.rtsp_state.specs.Context.{context_value};

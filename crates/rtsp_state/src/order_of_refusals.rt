@@ -1,11 +1,11 @@
 //! The order of refusals, as far as it needs no session: what a request asks, or why it is refused.
 //! In order: CSeq, version, method, Require, URI, and the form of the session's name.
 
-ghost use Rattle.std.specs.Prelude.{◌≡◌, codes, option_map, Some, None};
+ghost use Rattle.std.specs.Prelude.{◌≡◌, option_map, Some, None};
 ghost use Rattle.rtsp_text.specs.Slices.{texts};
 ghost use Rattle.rtsp_content.specs.Paths.{find_of};
 ghost use Rattle.rtsp_state.specs.Values.{uri_of, with_slash};
-ghost use Rattle.rtsp_state.specs.Fault.{Gives, GivesBy};
+ghost use Rattle.rtsp_state.specs.Fault.{Gives};
 ghost use Rattle.rtsp_state.specs.OrderOfRefusals.{unless_unknown, cseq_of, version_rule, require_of_value, require_rule, target_at, media_of, target_of, session_named, startup_named, name_of_values, name_of, asked_of};
 ghost use Rattle.rtsp_state.specs.Method.{takes_star};
 

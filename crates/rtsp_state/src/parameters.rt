@@ -1,8 +1,8 @@
 //! The parameters in a body.
 
 ghost use Rattle.std.specs.Prelude.{◌≡◌, ◌++◌, OnOk, IfOk, nat_eq, codes};
-ghost use Rattle.std.specs.List.{flat_map, list_any, starts_with};
-ghost use Rattle.rtsp_state.specs.Fault.{Gives, GivesBy};
+ghost use Rattle.std.specs.List.{list_any, starts_with};
+ghost use Rattle.rtsp_state.specs.Fault.{GivesBy};
 ghost use Rattle.rtsp_state.specs.GetParameter.{first_line, parameter_of, parameters_in, parameter_line, parameters_body, is_position};
 
 use crate::fault::Fault;

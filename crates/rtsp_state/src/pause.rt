@@ -1,6 +1,6 @@
 //! PAUSE (RFC 7826 section 13.6).
 
-ghost use Rattle.std.specs.Prelude.{◌≡◌, not, IfOk, option_map, None};
+ghost use Rattle.std.specs.Prelude.{IfOk, option_map, None};
 ghost use Rattle.rtsp_state.specs.Fault.{Gives};
 ghost use Rattle.rtsp_state.specs.Conduct.{IsConducted};
 ghost use Rattle.rtsp_state.specs.Context.{context_value};

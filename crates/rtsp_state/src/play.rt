@@ -1,6 +1,6 @@
 //! PLAY (RFC 7826 section 13.4).
 
-ghost use Rattle.std.specs.Prelude.{◌≡◌, ◌≤◌, not, Ok, option_map, IfOk, None};
+ghost use Rattle.std.specs.Prelude.{◌≡◌, ◌≤◌, Ok, option_map, IfOk, None};
 ghost use Rattle.rtsp_state.specs.Fault.{Gives};
 ghost use Rattle.rtsp_state.specs.Conduct.{IsConducted};
 ghost use Rattle.rtsp_state.specs.Context.{context_value};

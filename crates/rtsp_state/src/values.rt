@@ -1,8 +1,7 @@
 //! Values of a request's headers, as the lower crates read them.
 
-ghost use Rattle.std.specs.Prelude.{◌≡◌, ◌++◌, ◌∷◌, [], IfOk, OnOk, option_map};
+ghost use Rattle.std.specs.Prelude.{◌≡◌, ◌++◌, IfOk, OnOk, option_map};
 ghost use Rattle.std.specs.Cow.{cow_slice_items};
-ghost use Rattle.std.specs.List.{flat_map};
 ghost use Rattle.rtsp_grammar.specs.Header.{values_of};
 ghost use Rattle.rtsp_text.specs.Decimal.{number_of};
 ghost use Rattle.rtsp_text.specs.Slices.{texts};

@@ -1,6 +1,6 @@
 //! Writing at the end of bytes, all of a text or nothing.
 
-ghost use Rattle.std.specs.Prelude.{◌≡◌, ◌≤◌, ◌++◌, length, take, vec_capacity, OnOk, OnErr, IsOk};
+ghost use Rattle.std.specs.Prelude.{◌≡◌, ◌≤◌, ◌++◌, take, vec_capacity, OnOk, OnErr, IsOk};
 ghost use Rattle.rtsp_text.specs.Appending.{HasRoom};
 ghost use Rattle.rtsp_text.specs.Slices.{joined};
 

@@ -1,6 +1,6 @@
 //! Hexadecimal numbers of a fixed width, in lower case, read and written.
 
-ghost use Rattle.std.specs.Prelude.{◌≡◌, ◌<◌, ◌≤◌, ◌^◌, ◌++◌, ℕ, length, vec_capacity, Some};
+ghost use Rattle.std.specs.Prelude.{◌≡◌, ◌<◌, ◌≤◌, ◌++◌, ℕ, length, vec_capacity, Some};
 ghost use Rattle.std.specs.Prelude.{IsOk, OnOk, OnErr, IfSome, IfNone};
 ghost use Rattle.rtsp_text.specs.Appending.{HasRoom};
 ghost use Rattle.rtsp_text.specs.Hexadecimal.{hex_digit, hex_text, IsHexOf};

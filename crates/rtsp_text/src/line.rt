@@ -1,6 +1,5 @@
 //! A line that CR LF ends, at the front of a text.
 
-ghost use Rattle.std.specs.Prelude.{◌≡◌};
 ghost use Rattle.rtsp_text.specs.Bytes.{is_line_byte};
 ghost use Rattle.rtsp_text.specs.Span.{IsSpan};
 ghost use Rattle.rtsp_text.specs.LineAt.{IsLineAt};

@@ -3,10 +3,11 @@
 use crate::limits::{MESSAGE_LIMIT, SILENCE_LIMIT};
 use rtsp_engine::Connection;
 
-/// When a connection was heard of, and what was asked on it. Moments are milliseconds.
+/// When a connection was heard of, and whether a SETUP may have opened a session on it. Moments are
+/// milliseconds.
 #[derive(Clone, Copy)]
 pub struct Activity {
-    // Whether a track was to be set up on it.
+    // Whether a SETUP may have opened a session on it.
     has_setup: bool,
     // When it was last heard of, and since when it has owed the rest of a message.
     heard: u64,
@@ -24,7 +25,7 @@ impl Activity {
     }
 
     /// A piece came, which made so many bytes with what was held, and was answered; this is held
-    /// now. `has_setup` says whether it asked for a track to be set up.
+    /// now. `has_setup` says whether a SETUP in it may have opened a session.
     pub fn note(&mut self, now: u64, all: usize, held: &Connection, has_setup: bool) {
         self.heard = now;
         self.has_setup = self.has_setup || has_setup;
@@ -37,8 +38,8 @@ impl Activity {
     }
 
     /// Whether up to this moment the player was silent for too long, or owed the rest of a message for
-    /// too long. Where it has asked for a track to be set up, it may be silent for `timeout`, for which
-    /// a session lives without a request.
+    /// too long. Where it may have opened a session, it may be silent for `timeout`, for which a session
+    /// lives without a request.
     pub fn is_overdue(&self, moment: u64, timeout: u64) -> bool {
         let most = if self.has_setup {
             SILENCE_LIMIT.max(timeout)

@@ -1,6 +1,6 @@
 //! How many connections there are descriptors for.
 
-ghost use Rattle.std.specs.Prelude.{◌≡◌, ◌+◌, ◌*◌, ◌-◌, min};
+ghost use Rattle.std.specs.Prelude.{◌≡◌, ◌*◌, ◌-◌, min};
 ghost use Rattle.rtsp_threads.specs.declared.limits.TheConstants.{CONNECTIONS};
 
 use crate::limits::CONNECTIONS;

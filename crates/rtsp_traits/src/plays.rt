@@ -1,6 +1,6 @@
 //! Who learns of the plays that are begun.
 
-ghost use Rattle.std.specs.Prelude.{◌≡◌, OnOk, OnErr};
+ghost use Rattle.std.specs.Prelude.{OnOk, OnErr};
 ghost use Rattle.rtsp_traits.specs.Devices.{PlayCalls};
 
 use rtsp_record::Phase;

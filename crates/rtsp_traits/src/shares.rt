@@ -1,6 +1,6 @@
 //! Who counts the sessions of each player.
 
-ghost use Rattle.std.specs.Prelude.{◌≡◌, ℕ, Option, OnOk, OnErr};
+ghost use Rattle.std.specs.Prelude.{Option, OnOk, OnErr};
 ghost use Rattle.rtsp_traits.specs.Devices.{ShareCalls, Took, TurnedAway};
 
 use thiserror::Error;

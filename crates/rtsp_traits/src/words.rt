@@ -1,6 +1,6 @@
 //! Where the ids of sessions and the words of streams come from.
 
-ghost use Rattle.std.specs.Prelude.{◌≡◌, IfOk, OnErr};
+ghost use Rattle.std.specs.Prelude.{IfOk, OnErr};
 ghost use Rattle.rtsp_traits.specs.Devices.{WordCalls, Gave, Lacked};
 
 use thiserror::Error;

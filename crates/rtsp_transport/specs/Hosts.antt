@@ -7,6 +7,7 @@ use Rattle.rtsp_transport.specs.Peer.{peer_text, is_peer}
 abbrev pub AllowsHost : ℕ → List ℕ → Type 0
 AllowsHost peer host = (host ≡ []) ⊎ (host ≡ peer_text peer)
 
+-- the same as a Boolean
 abbrev pub allows : ℕ → List ℕ → Bool
 allows peer host = length host == 0 || is_peer peer host
 

@@ -1,6 +1,6 @@
 //! The value of a Transport header: its specifications, and the first that can be served.
 
-ghost use Rattle.std.specs.Prelude.{ℕ, List, IfOk, IfErr};
+ghost use Rattle.std.specs.Prelude.{List, IfOk, IfErr};
 ghost use Rattle.rtsp_text.specs.Results.{GivesBy};
 ghost use Rattle.rtsp_transport.specs.Picking.{Picks};
 ghost use Rattle.rtsp_transport.specs.Reads.{Refuses, Answers};

@@ -1,6 +1,6 @@
 //! Takes the input of a player at a desk of parts that are lent for one piece.
 
-ghost use Rattle.std.specs.Prelude.{◌≡◌, ◌++◌, IfErr, OnOk};
+ghost use Rattle.std.specs.Prelude.{◌++◌, IfErr, OnOk};
 ghost use Rattle.rtsp_grammar.specs.Answer.{IsUndecided};
 ghost use Rattle.rtsp_lock.specs.Calls.{IsSeatOf, SameSeat};
 ghost use Rattle.rtsp_traits.specs.Devices.{devices};

@@ -1,7 +1,7 @@
 //! Takes the input of a player at a desk, has each item answered as the players of the configuration
 //! mean it, and tells of each request.
 
-ghost use Rattle.std.specs.Prelude.{◌≡◌, ◌++◌, IfErr, OnOk};
+ghost use Rattle.std.specs.Prelude.{◌++◌, IfErr, OnOk};
 ghost use Rattle.rtsp_grammar.specs.Answer.{IsUndecided};
 ghost use Rattle.rtsp_engine.specs.Desk.{SameParts};
 ghost use Rattle.rtsp_engine.specs.DeskAnswers.{Takes, Faults};

@@ -1,9 +1,8 @@
 //! What a record asks of its own session.
 
-ghost use Rattle.std.specs.Prelude.{◌≡◌, ◌<◌, ◌↔◌, Some, None, IsTrue, option_copied, option_map};
+ghost use Rattle.std.specs.Prelude.{◌≡◌, ◌<◌, ◌↔◌, Some, None, IsTrue, option_copied};
 ghost use Rattle.std.specs.FinMap.{empty};
-ghost use Rattle.rtsp_record.specs.Books.{opening, opened};
-ghost use Rattle.rtsp_record.specs.Sums.{of_session, streams, is_opening};
+ghost use Rattle.rtsp_record.specs.Books.{opened};
 ghost use Rattle.rtsp_record.specs.Rules.{alike, Own, MayHold, MayFree, MayAdd, MayDrop, MayMove};
 ghost use Rattle.rtsp_sessions.specs.Plain.{session_in};
 
