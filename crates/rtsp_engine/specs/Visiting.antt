@@ -4,6 +4,7 @@ use Rattle.std.specs.Io.KnownBytes.{Appends, Consumes, Keeps, IsAtEnd}
 use Rattle.rtsp_record.specs.Counters.{raised}
 use Rattle.rtsp_grammar.specs.Answer.{IsUndecided}
 use Rattle.rtsp_grammar.specs.declared.message.Item.{Item}
+use Rattle.rtsp_engine.specs.Causes.{WriteFails}
 use Rattle.rtsp_engine.specs.Served.{Line, Parts, Progress, LastBreaksOff, Tells}
 use Rattle.rtsp_engine.specs.Serving.{Serving}
 use Rattle.rtsp_engine.specs.Streams.{WritesPart}
@@ -72,12 +73,7 @@ serve_end (Fault fault) = serve.Fault fault
 
 -- the writer's count at an end
 abbrev pub CountsWrite : VisitEnd → ℕ → ℕ → Type 0
-CountsWrite WriteFault old new = new ≡ raised old
-CountsWrite More old new = new ≡ old
-CountsWrite Waits old new = new ≡ old
-CountsWrite Closed old new = new ≡ old
-CountsWrite ReadFault old new = new ≡ old
-CountsWrite (Fault fault) old new = new ≡ old
+CountsWrite end old new = WriteFails (serve_end end) old new
 
 -- that after answers were delivered
 abbrev pub CountsDelivery : Option VisitEnd → ℕ → ℕ → Type 0
