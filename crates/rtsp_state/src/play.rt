@@ -3,6 +3,7 @@
 ghost use Rattle.std.specs.Prelude.{◌≡◌, ◌≤◌, Ok, option_map, IfOk, None};
 ghost use Rattle.rtsp_state.specs.Fault.{Gives};
 ghost use Rattle.rtsp_state.specs.Conduct.{IsConducted};
+ghost use Rattle.rtsp_content.specs.declared.limits.TheConstants.{MAX_UNITS};
 ghost use Rattle.rtsp_state.specs.Context.{context_value};
 ghost use Rattle.rtsp_state.specs.declared.method.Method.TheVariants as methods;
 ghost use Rattle.rtsp_state.specs.StateTable.{row};
@@ -59,9 +60,9 @@ fn range_in(value: Option<&[u8]>) -> Result<Range, Fault>
 
 // The units that a range takes. They are played from the session's point where no start is written.
 fn units_in(range: Range, resolved: Result<Span, OutOfMedia>) -> Result<Units, Fault>
-    requires { IfOk resolved (λ taken. taken.stop ≤ 10000000) }
+    requires { IfOk resolved (λ taken. taken.stop ≤ MAX_UNITS) }
     ensures value { result ≡ units_in range resolved }
-    ensures most { IfOk result (λ units. units.stop ≤ 10000000) }
+    ensures most { IfOk result (λ units. units.stop ≤ MAX_UNITS) }
 {
     match resolved {
         Ok(taken) => Ok(Units {
@@ -78,7 +79,7 @@ fn units_asked(
     presentation: &Presentation,
 ) -> Result<Units, Fault>
     ensures value { result ≡ units_asked (context_value context.now) view.now presentation.now }
-    ensures most { IfOk result (λ units. units.stop ≤ 10000000) }
+    ensures most { IfOk result (λ units. units.stop ≤ MAX_UNITS) }
 {
     let value = single_value(context.headers, b"Range")?;
     let range = range_in(value)?;
