@@ -22,7 +22,7 @@ pub use example::EXAMPLE;
 pub use fault::TableFault;
 pub use found::Found;
 pub use journal_files::{JournalFiles, WhenFull};
-pub use limits::MAX_CONNECTIONS;
+pub use limits::{MAX_CONNECTIONS, MAX_TRACKS};
 pub use operation::Operation;
 pub use presentation::Presentation;
 pub use server::{Players, Server};
