@@ -3,6 +3,7 @@
 ghost use Rattle.std.specs.Prelude.{◌≡◌, ◌≤◌, [], length, OnOk, OnErr};
 ghost use Rattle.rtsp_grammar.specs.Frame.{frame_text};
 ghost use Rattle.rtsp_content.specs.declared.limits.TheConstants.{MAX_OCTETS};
+ghost use Rattle.rtsp_rtp.specs.declared.buffer.TheConstants.{MAX_DATAGRAM};
 ghost use Rattle.rtsp_rtp.specs.Buffers.{framed, Filled};
 ghost use Rattle.rtsp_rtp.specs.Sinks.{Failed};
 ghost use Rattle.rtsp_rtp.specs.Packets.{packet_of};
@@ -13,24 +14,31 @@ use std::marker::Model;
 
 const DOLLAR: u8 = 0x24;
 
+/// The most bytes of a packet: those of its header and of a unit.
+pub const MAX_DATAGRAM: usize = 1412;
+
+// A packet's bytes, and room for the head of a frame in front of them.
+pub(crate) const BUFFER: usize = 4 + MAX_DATAGRAM;
+
 /// An RTP packet (RFC 3550 section 5.1) with a payload of at most 1,400 bytes, or an RTCP packet,
 /// in a buffer of fixed size. In front of it is room for the head of an interleaved frame, so it is
 /// sent either way from where it stands. Its value is the bytes of the datagram.
 #[derive(Drop)]
 pub struct Packet {
-    buffer: [u8; 1416],
+    buffer: [u8; BUFFER],
     len: usize,
 }
 
 impl Model for Packet {
     ghost use Rattle.std.specs.Prelude.{ℕ, List, ◌≤◌};
     ghost use Rattle.rtsp_rtp.specs.Buffers.{datagram_in};
+    ghost use Rattle.rtsp_rtp.specs.declared.buffer.TheConstants.{MAX_DATAGRAM};
 
     ghost Value = { List ℕ };
 
     ghost view = { λ p. datagram_in p.buffer p.len };
 
-    ghost invariant = { λ p. p.len ≤ 1412 };
+    ghost invariant = { λ p. p.len ≤ MAX_DATAGRAM };
 }
 
 impl Packet {
@@ -39,7 +47,7 @@ impl Packet {
         ensures { result ≡ [] }
     {
         Packet {
-            buffer: [0; 1416],
+            buffer: [0; BUFFER],
             len: 0,
         }
     }
@@ -47,7 +55,7 @@ impl Packet {
     /// The packet as it is sent over UDP.
     pub fn datagram(&self) -> &[u8]
         ensures value { result.now ≡ self.now }
-        ensures short { length result.now ≤ 1412 }
+        ensures short { length result.now ≤ MAX_DATAGRAM }
     {
         &self.buffer[4..4 + self.len]
     }

@@ -4,6 +4,7 @@ ghost use Rattle.std.specs.Prelude.{◌≡◌, ◌≤◌, ◌++◌, take, drop};
 ghost use Rattle.rtsp_content.specs.declared.limits.TheConstants.{MAX_OCTETS};
 ghost use Rattle.rtsp_rtp.specs.Packets.{source_of, header_of};
 
+use crate::buffer::BUFFER;
 use rtsp_content::Track;
 use rtsp_record::Stream;
 
@@ -44,7 +45,7 @@ impl Source {
     // Puts the header of the packet that follows `sent` others of the session, modulo 2^32, at its
     // place in a packet's buffer. It is put byte by byte: the compiler makes whole words of these
     // stores, which it can't of an array that is copied.
-    pub(crate) fn put_header(&self, sent: u32, buffer: &mut [u8; 1416])
+    pub(crate) fn put_header(&self, sent: u32, buffer: &mut [u8; BUFFER])
         ensures { buffer.new ≡ take 4 buffer.old ++ (header_of self.now sent ++ drop 16 buffer.old) }
     {
         buffer[4] = 0x80;

@@ -3,32 +3,32 @@
 ghost use Rattle.std.specs.Prelude.{◌≡◌, ◌<◌, ◌≤◌, [], ◌∷◌, ◌++◌, length, All, IfSome};
 ghost use Rattle.std.specs.FinMap.{entries};
 ghost use Rattle.rtsp_sessions.specs.Searches.{first_with, is_of_track};
-ghost use Rattle.rtsp_content.specs.declared.limits.TheConstants.{MAX_OCTETS};
+ghost use Rattle.rtsp_content.specs.declared.limits.TheConstants.{MAX_OCTETS, MAX_TRACKS};
 ghost use Rattle.rtsp_rtp.specs.Pacing.{source_under, sources_from};
 
 use crate::source::Source;
-use rtsp_content::{Presentation, Track};
+use rtsp_content::{MAX_TRACKS, Presentation, Track};
 use rtsp_sessions::SessionView;
 use std::marker::Model;
 
-/// The sources of a play, at most 8, in the order of the presentation's tracks. It is of fixed
-/// size. The count stands beside the first of them, since each turn looks at both.
+/// The sources of a play, at most `MAX_TRACKS`, in the order of the presentation's tracks. It is of
+/// fixed size. The count stands beside the first of them, since each turn looks at both.
 #[derive(Drop)]
 pub struct Sources {
     len: usize,
-    rows: [Source; 8],
+    rows: [Source; MAX_TRACKS],
 }
 
 impl Model for Sources {
     ghost use Rattle.std.specs.Prelude.{List, take, ◌≤◌, All};
-    ghost use Rattle.rtsp_content.specs.declared.limits.TheConstants.{MAX_OCTETS};
+    ghost use Rattle.rtsp_content.specs.declared.limits.TheConstants.{MAX_OCTETS, MAX_TRACKS};
     ghost use Rattle.rtsp_rtp.specs.declared.source.Source.{Source};
 
     ghost Value = { List Source };
 
     ghost view = { λ s. take s.len s.rows };
 
-    ghost invariant = { λ s. (s.len ≤ 8) × All (λ x. x.octets ≤ MAX_OCTETS) (take s.len s.rows) };
+    ghost invariant = { λ s. (s.len ≤ MAX_TRACKS) × All (λ x. x.octets ≤ MAX_OCTETS) (take s.len s.rows) };
 }
 
 impl Sources {
@@ -46,12 +46,12 @@ impl Sources {
         };
         Sources {
             len: 0,
-            rows: [blank; 8],
+            rows: [blank; MAX_TRACKS],
         }
     }
 
     fn push(&mut self, source: Source)
-        requires room { length self.old < 8 }
+        requires room { length self.old < MAX_TRACKS }
         requires short { source.octets ≤ MAX_OCTETS }
         ensures { self.new ≡ self.old ++ source ∷ [] }
     {
@@ -61,7 +61,7 @@ impl Sources {
 
     pub(crate) fn as_slice(&self) -> &[Source]
         ensures value { result.now ≡ self.now }
-        ensures few { length result.now ≤ 8 }
+        ensures few { length result.now ≤ MAX_TRACKS }
         ensures short { All (λ x. x.octets ≤ MAX_OCTETS) result.now }
     {
         &self.rows[..self.len]
