@@ -3,7 +3,6 @@
 ghost use Rattle.std.specs.Prelude.{◌≡◌, ◌≤◌, [], length, OnOk, OnErr};
 ghost use Rattle.rtsp_grammar.specs.Frame.{frame_text};
 ghost use Rattle.rtsp_content.specs.declared.limits.TheConstants.{MAX_OCTETS};
-ghost use Rattle.rtsp_rtp.specs.declared.buffer.TheConstants.{MAX_DATAGRAM};
 ghost use Rattle.rtsp_rtp.specs.Buffers.{framed, Filled};
 ghost use Rattle.rtsp_rtp.specs.Sinks.{Failed};
 ghost use Rattle.rtsp_rtp.specs.Packets.{packet_of};
@@ -55,7 +54,7 @@ impl Packet {
     /// The packet as it is sent over UDP.
     pub fn datagram(&self) -> &[u8]
         ensures value { result.now ≡ self.now }
-        ensures short { length result.now ≤ MAX_DATAGRAM }
+        ensures short { length result.now ≤ 1412 }
     {
         &self.buffer[4..4 + self.len]
     }
