@@ -1,6 +1,5 @@
 //! The packets of a play, one turn after another, to sinks that keep what they are sent.
 
-
 use rtsp_content::{EXAMPLE, Table};
 use rtsp_journal_text::read_journal;
 use rtsp_record::{Entry, Phase, Stream, Whole};

@@ -190,8 +190,14 @@ impl Counted {
 impl Words for Counted {
     ghost use Rattle.std.specs.Prelude.{⊤};
 
-    ghost calls = { record { ids = λ b word c. ⊤; ssrcs = λ b word c. ⊤; seqs = λ b word c. ⊤;
-        rtptimes = λ b word c. ⊤; fails = λ b c. ⊤; failures = λ b. b.failures } };
+    ghost calls = { record {
+      ids = λ b word c. ⊤;
+      ssrcs = λ b word c. ⊤;
+      seqs = λ b word c. ⊤;
+      rtptimes = λ b word c. ⊤;
+      fails = λ b c. ⊤;
+      failures = λ b. b.failures;
+    } };
 
     fn id(&mut self) -> Result<u128, WordsFault> {
         self.call()?;
