@@ -149,7 +149,7 @@ impl<R: Wait + Net + rt::Clock> PieceAnswerer for Front<'_, R> {
         }
         // A session that was opened for a track that was then refused has ended.
         if has_setup {
-            shared.note_end();
+            shared.ends.note();
         }
         if witness.is_unavailable() {
             shared.note_unavailable(rt, self.lane);

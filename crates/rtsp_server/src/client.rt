@@ -360,7 +360,7 @@ impl Client {
         shared.outlets.remove(rt, conn);
         let mut binder = shared.unbinder(rt);
         if take_leave(rt, &mut self.handle, &mut binder, conn) {
-            shared.note_end();
+            shared.ends.note();
         }
         shared.gate.leave(rt, peer);
     }

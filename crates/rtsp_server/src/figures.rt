@@ -94,7 +94,7 @@ impl<R: Wait + rt::Clock> Witness for AnswerCounter<'_, R> {
             recorded.note();
         }
         if method == Method::Teardown {
-            shared.note_end();
+            shared.ends.note();
         }
         if method == Method::Setup && may_have_opened(told.status) {
             self.setups.set(self.setups.get().saturating_add(1));
@@ -166,7 +166,7 @@ impl<R: Wait> Figures<'_, R> {
             shortenings: self.shortenings(),
             ..self.shared.counters.read()
         };
-        self.shared.add_answers(self.rt, &mut counts);
+        self.shared.lanes.add_answers(self.rt, &mut counts);
         counts
     }
 

@@ -1,14 +1,14 @@
 //! What the threads of a server share.
 
+use crate::all_lanes::AllLanes;
+use crate::end_note::EndNote;
 use crate::opening::Opening;
 use crate::unread::HELD_IN_ALL;
-use crossbeam_utils::CachePadded;
-use mio::Waker;
 use mio::net::TcpListener;
 use rtsp_content::{Operation, Server, Table};
 use rtsp_lock::BookHandle;
 use rtsp_log::{BATCH_LINES, Event, Log};
-use rtsp_metrics::{AnswerCounters, Counters, Counts};
+use rtsp_metrics::Counters;
 use rtsp_pacing::Bells;
 use rtsp_shares::{ShareTable, Watermark};
 use rtsp_sockets::{LENT_IN_ALL, Outlets, PortBinder, PortTable, SharedRoom};
@@ -18,7 +18,6 @@ use rtsp_threads::{
 };
 use std::alloc::{AllocError, Global};
 use std::net::Ipv4Addr;
-use std::sync::atomic::{AtomicBool, AtomicU64, Ordering};
 use std::sync::{Arc, Mutex, Wait};
 use std::time::Instant;
 use std::{io, rt};
@@ -64,16 +63,10 @@ pub(crate) struct Shared {
     pub(crate) log: Log,
     /// From when on moments are counted.
     pub(crate) begun: Instant,
-    watermark: Mutex<Watermark>,
-    // Whether a session may have ended since `take_ends` was called last.
-    has_ended: AtomicBool,
-    wakers: Mutex<Vec<Waker>>,
-    // What each lane counts of its answers.
-    answers: Mutex<Vec<Arc<CachePadded<AnswerCounters>>>>,
-    // The moment from which on no connection is waited for, the greatest while the server serves.
-    stop_by: AtomicU64,
-    // How many lanes have begun.
-    standing: AtomicU64,
+    /// How far the lanes have read, so that connections which were silent up to then are over.
+    pub(crate) watermark: Mutex<Watermark>,
+    pub(crate) ends: EndNote,
+    pub(crate) lanes: AllLanes,
 }
 
 // Written out, so that whoever lets go of it makes one call, and not one for each of its parts.
@@ -94,11 +87,8 @@ impl Drop for Shared {
             log: _log,
             begun: _,
             watermark: _watermark,
-            has_ended: _has_ended,
-            wakers: _wakers,
-            answers: _answers,
-            stop_by: _stop_by,
-            standing: _standing,
+            ends: _ends,
+            lanes: _lanes,
         } = self;
     }
 }
@@ -168,11 +158,8 @@ impl Shared {
             log,
             begun,
             watermark: Mutex::new(watermark),
-            has_ended: AtomicBool::new(false),
-            wakers: Mutex::new(Vec::new(alloc)),
-            answers: Mutex::new(Vec::new(alloc)),
-            stop_by: AtomicU64::new(u64::MAX),
-            standing: AtomicU64::new(0),
+            ends: EndNote::new(),
+            lanes: AllLanes::new(alloc),
         })
     }
 
@@ -187,25 +174,6 @@ impl Shared {
     /// A binder that unbinds what sessions leave, and binds nothing.
     pub(crate) fn unbinder<'a, R>(&'a self, rt: &'a R) -> PortBinder<'a, R> {
         PortBinder::new(rt, &self.ports, Ipv4Addr::UNSPECIFIED)
-    }
-
-    /// A lane has read all that had come up to a moment.
-    pub(crate) fn note_read<R: Wait>(&self, rt: &R, lane: usize, moment: u64) {
-        self.watermark.lock(rt).note_read(lane, moment);
-    }
-
-    /// The moment up to which all lanes have read what had come, so that connections which were
-    /// silent up to it are over. See `Watermark`.
-    pub(crate) fn swept_until<R: Wait>(&self, rt: &R, now: u64) -> u64 {
-        self.watermark.lock(rt).moment(now)
-    }
-
-    /// The same at the beginning of a sweep of sessions, which the watermark counts as one of its sweeps.
-    pub(crate) fn begin_sweep<R: Wait>(&self, rt: &R, now: u64) -> u64 {
-        let mut watermark = self.watermark.lock(rt);
-        let moment = watermark.moment(now);
-        watermark.note_sweep(now);
-        moment
     }
 
     /// Keeps the journal from filling, before a lane has a piece answered.
@@ -245,76 +213,11 @@ impl Shared {
         }
     }
 
-    /// A lane has begun.
-    pub(crate) fn note_standing(&self) {
-        self.standing.fetch_add(1, Ordering::Relaxed);
-    }
-
-    /// How many lanes have begun.
-    pub(crate) fn standing(&self) -> u64 {
-        self.standing.load(Ordering::Relaxed)
-    }
-
-    /// A session may have ended. Where that is noted already nothing is written: many lanes read the flag,
-    /// and a write would take its memory from their caches.
-    pub(crate) fn note_end(&self) {
-        if !self.has_ended.load(Ordering::SeqCst) {
-            self.has_ended.store(true, Ordering::SeqCst);
-        }
-    }
-
-    /// Whether a session may have ended since this was asked last.
-    pub(crate) fn take_ends(&self) -> bool {
-        self.has_ended.swap(false, Ordering::SeqCst)
-    }
-
-    /// A lane is woken by this.
-    pub(crate) fn add_waker<R: Wait>(&self, rt: &R, waker: Waker) -> Result<(), AllocError> {
-        self.wakers.lock(rt).push(waker)?;
-        Ok(())
-    }
-
-    /// Counters for the answers of one more lane.
-    pub(crate) fn answer_counters<R: Wait>(
-        &self,
-        rt: &R,
-        alloc: Global,
-    ) -> Result<Arc<CachePadded<AnswerCounters>>, AllocError> {
-        let counters = Arc::new(alloc, CachePadded::new(AnswerCounters::new()))?;
-        self.answers.lock(rt).push(Arc::try_clone(&counters)?)?;
-        Ok(counters)
-    }
-
-    /// Adds what all lanes have answered.
-    pub(crate) fn add_answers<R: Wait>(&self, rt: &R, counts: &mut Counts) {
-        let answers = self.answers.lock(rt);
-        for of_one in answers.iter() {
-            of_one.add_to(counts);
-        }
-    }
-
-    /// Ends the waits of all lanes.
-    pub(crate) fn wake_lanes<R: Wait>(&self, rt: &R) {
-        let wakers = self.wakers.lock(rt);
-        for waker in wakers.iter() {
-            let _ = waker.wake();
-        }
-    }
-
     /// Has the lanes end: no connection is let in any more, and those that are open are answered
     /// what they have asked, and hung up, at the latest at this moment.
     pub(crate) fn begin_stop<R: Wait>(&self, rt: &R, by: u64) {
-        self.stop_by.fetch_min(by, Ordering::SeqCst);
         self.gate.shut();
-        self.wake_lanes(rt);
-    }
-
-    /// The moment from which on no connection is waited for, where the server is at its end.
-    pub(crate) fn stop_by(&self) -> Option<u64> {
-        match self.stop_by.load(Ordering::SeqCst) {
-            u64::MAX => None,
-            by => Some(by),
-        }
+        self.lanes.set_stop(rt, by);
     }
 
     /// Ends the threads beside the lanes, but for that of the log and those that read ahead.

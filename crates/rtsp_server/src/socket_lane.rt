@@ -91,7 +91,7 @@ impl SocketLane {
         number: usize,
         listener: net::TcpListener,
     ) -> io::Result<SocketLane> {
-        let answers = shared.answer_counters(rt, alloc)?;
+        let answers = shared.lanes.answer_counters(rt, alloc)?;
         let shared = Arc::try_clone(shared)?;
         let clients = Clients::open(rt, alloc, &shared, number, listener)?;
         Ok(SocketLane {
@@ -111,7 +111,8 @@ fn open_poll<R: Wait + Net>(rt: &R, shared: &Shared) -> io::Result<Poll> {
     let fd = shared.listener.as_raw_fd();
     let registry = poll.registry();
     registry.register(&mut SourceFd(&fd), LISTENER, Interest::READABLE)?;
-    shared.add_waker(rt, Waker::new(registry, WAKER)?)?;
+    let waker = Waker::new(registry, WAKER)?;
+    shared.lanes.add_waker(rt, waker)?;
     Ok(poll)
 }
 
@@ -221,7 +222,7 @@ impl Clients {
         }
         service.shared.counters.accepted();
         if gate.is_shut() {
-            service.shared.wake_lanes(service.rt);
+            service.shared.lanes.wake(service.rt);
         }
         let is_taken_in = match Client::open(service, handle, stream, peer) {
             Some(client) => self.take_in(service.rt, &service.shared.outlets, client),
@@ -339,7 +340,8 @@ impl Clients {
     fn tell_read<R: Wait>(&mut self, service: &Service<'_, R>, moment: u64) {
         if moment > self.read {
             self.read = moment;
-            service.shared.note_read(service.rt, self.number, moment);
+            let mut watermark = service.shared.watermark.lock(service.rt);
+            watermark.note_read(self.number, moment);
         }
     }
 
@@ -351,7 +353,8 @@ impl Clients {
         }
         self.swept = service.now;
         self.acceptor.restore();
-        let moment = service.shared.swept_until(service.rt, service.now);
+        let watermark = &service.shared.watermark;
+        let moment = watermark.lock(service.rt).moment(service.now);
         let timeout = u64::from(service.table.server().timeout).saturating_mul(1_000);
         for key in 0..self.roster.keys() {
             self.roster.sweep(service.rt, key, timeout, moment);
@@ -385,7 +388,7 @@ impl Clients {
         self.gather();
         let is_none_new = self.accept_some(service, handle);
         self.visit_ready(service, handle);
-        if let Some(by) = service.shared.stop_by() {
+        if let Some(by) = service.shared.lanes.stop_by() {
             self.hang_up_all(service, handle, by);
         }
         if let Some(moment) = told
@@ -409,7 +412,7 @@ impl Lane for SocketLane {
     ) -> LaneTurn {
         if !self.stands {
             self.stands = true;
-            self.shared.note_standing();
+            self.shared.lanes.note_standing();
         }
         let SocketLane {
             shared,

@@ -21,7 +21,7 @@ pub(crate) fn watch_signals<R: Wait + rt::Clock>(rt: &R, status: &OwnStatus, sha
         let now = shared.now(rt);
         match status.stop_asked() {
             Some(StopAsked::Stop) => {
-                if shared.stop_by().is_none() {
+                if shared.lanes.stop_by().is_none() {
                     shared.log.event(rt, Event::Stopping);
                 }
                 shared.begin_stop(rt, now.saturating_add(STOP_LIMIT));

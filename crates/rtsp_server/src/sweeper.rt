@@ -5,11 +5,12 @@ use crate::shared::Shared;
 use rtsp_lock::BookHandle;
 use rtsp_log::{Event, Log};
 use rtsp_metrics::Counters;
+use rtsp_shares::Watermark;
 use rtsp_sockets::PortBinder;
 use rtsp_threads::{HELD_TOLD_AFTER, SWEEP_EVERY, end_next_expired};
 use std::net::Net;
 use std::rt;
-use std::sync::Wait;
+use std::sync::{Mutex, Wait};
 use std::time::Duration;
 
 // Ends the sessions that had expired at a moment, and tells of each. How many have ended.
@@ -68,6 +69,15 @@ impl HeldJournal {
     }
 }
 
+// Begins a sweep of sessions, which the watermark counts. The moment up to which all lanes have read what
+// had come: see `Watermark`.
+fn begin_sweep<R: Wait>(rt: &R, watermark: &Mutex<Watermark>, now: u64) -> u64 {
+    let mut watermark = watermark.lock(rt);
+    let moment = watermark.moment(now);
+    watermark.note_sweep(now);
+    moment
+}
+
 /// Ends from time to time the sessions that had expired when all lanes had read what had come, until
 /// it is told to stop. After each sweep it forgets all sessions that have ended by then, however they
 /// ended, and has those that live restated where they have done much. So the journal is as long as
@@ -87,18 +97,19 @@ pub(crate) fn run_sweeper<R: Wait + Net + rt::Clock>(
         {
             break;
         }
-        let moment = shared.begin_sweep(rt, shared.now(rt));
+        let now = shared.now(rt);
+        let moment = begin_sweep(rt, &shared.watermark, now);
         tell_media_failure(rt, &shared.counters, &shared.log);
         held.tell(rt, shared);
         let ended = end_expired(rt, &mut handle, &mut binder, &shared.log, moment);
         if ended > 0 {
-            shared.note_end();
+            shared.ends.note();
             shared.counters.expired(ended);
         }
         if shared.scribe.is_some() {
             continue;
         }
-        if shared.take_ends() {
+        if shared.ends.take() {
             handle.forget(rt);
         }
         handle.relieve(rt, 0);

@@ -162,7 +162,7 @@ impl Parts {
     // Waits until all lanes have begun, but no longer than they should take: then some have no thread.
     fn wait_for_lanes<R: Wait + rt::Clock>(&self, rt: &R, lanes: u64) {
         for _ in 0..STANDING_LIMIT {
-            if self.shared.standing() >= lanes {
+            if self.shared.lanes.standing() >= lanes {
                 return;
             }
             thread::sleep(rt, Duration::from_millis(1));
