@@ -1,19 +1,8 @@
--- How much of a text is left, and what is written part by part.
-use Rattle.std.proofs.Common.{◌≡◌, ℕ, suc, ◌<◌, Bool, true, false, List, [], ◌∷◌, ◌++◌, length, map, Option, Some, None, IfSome, sym, ap, ◌∙◌, arith, append_assoc, append-nil}
+-- What is tested and what is written part by part.
+use Rattle.std.proofs.Common.{◌≡◌, ℕ, Bool, true, false, List, [], ◌∷◌, ◌++◌, map, sym, ap, ◌∙◌, append_assoc, append-nil}
 use Rattle.std.specs.Prelude.{◌||◌}
-use Rattle.std.specs.Borrow.{Bor}
 use Rattle.std.specs.List.{list_any, join_with_byte}
-use Rattle.rtsp_text.specs.Slices.{held}
 use Rattle.rtsp_dialect.specs.PartText.{behind}
-
--- one more than the length of what is left, where something is
-abbrev pub left_len : Option (List ℕ) → ℕ
-left_len None = 0
-left_len (Some text) = suc (length text)
-
-pub left_shorter : (rest : Option (Bor (List ℕ))) (text : List ℕ) → IfSome rest (λ r. length r.now < length text) → left_len (held rest) < suc (length text)
-left_shorter None text h = omega arith
-left_shorter (Some r) text h = omega arith
 
 -- ---- a test of some part
 

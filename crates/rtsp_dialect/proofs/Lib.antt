@@ -1,4 +1,3 @@
-pub mod Cutting
 pub mod LeftParts
 pub mod Alone
 pub mod Rewritten

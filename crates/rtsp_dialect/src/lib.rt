@@ -13,7 +13,6 @@
 
 mod client_port;
 mod laws;
-mod parts;
 mod repairing;
 mod request;
 mod startup;

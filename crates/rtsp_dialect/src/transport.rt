@@ -2,19 +2,19 @@
 
 ghost use Rattle.std.specs.Prelude.{◌≡◌, ◌++◌, true, map, codes, OnOk, IfOk};
 ghost use Rattle.rtsp_text.specs.Slices.{held};
+ghost use Rattle.rtsp_transport.specs.Split.{parts_left};
 ghost use Rattle.rtsp_dialect.specs.ClientPort.{has_ports_alone, addresses_text};
 ghost use Rattle.rtsp_dialect.specs.ClientPortText.{parameter_in, is_old_text, has_old};
 ghost use Rattle.rtsp_dialect.specs.ClientPortText.{repaired_part, repaired_spec_text, repaired_transport};
-ghost use Rattle.rtsp_dialect.specs.PartText.{parts_left, behind};
+ghost use Rattle.rtsp_dialect.specs.PartText.{behind};
 
 use crate::client_port::PartParameter;
-use crate::parts::first_part;
 use rtsp_text::trimmed;
-use rtsp_transport::is_udp;
+use rtsp_transport::{first_part, is_udp};
 use std::alloc::{AllocError, Global};
 
 // Whether the client's ports are named once among the parameters, as two, and no address is.
-#[tactic(auto, using(crate::proofs::Alone::meets_unclear, crate::proofs::Alone::meets_other, crate::proofs::Alone::meets_again, crate::proofs::Alone::meets_first, crate::proofs::LeftParts::left_shorter))]
+#[tactic(auto, using(crate::proofs::Alone::meets_unclear, crate::proofs::Alone::meets_other, crate::proofs::Alone::meets_again, crate::proofs::Alone::meets_first, rtsp_transport::proofs::EachPart::left_shorter))]
 fn has_ports_alone(parameters: Option<&[u8]>) -> bool
     ensures { result ≡ has_ports_alone (map parameter_in (parts_left 59 (held parameters.entry))) }
 {
@@ -46,7 +46,7 @@ fn is_old_text(text: &[u8]) -> bool
 }
 
 /// Whether one of the specifications names the client's ports as RTSP 1.0 does.
-#[tactic(auto, using(crate::proofs::LeftParts::any_here, crate::proofs::LeftParts::any_behind, crate::proofs::LeftParts::left_shorter), unfolding(crate::specs::ClientPortText::has_old))]
+#[tactic(auto, using(crate::proofs::LeftParts::any_here, crate::proofs::LeftParts::any_behind, rtsp_transport::proofs::EachPart::left_shorter), unfolding(crate::specs::ClientPortText::has_old))]
 pub fn has_old(value: &[u8]) -> bool
     ensures { result ≡ has_old value.now }
 {
@@ -84,7 +84,7 @@ fn write_part(out: &mut Vec<u8>, part: &[u8]) -> Result<(), AllocError>
 }
 
 // Writes the parameters behind a protocol, each with a semicolon before it.
-#[tactic(auto, using(crate::proofs::LeftParts::written_more, crate::proofs::LeftParts::left_shorter))]
+#[tactic(auto, using(crate::proofs::LeftParts::written_more, rtsp_transport::proofs::EachPart::left_shorter))]
 fn write_parameters(out: &mut Vec<u8>, parameters: Option<&[u8]>) -> Result<(), AllocError>
     ensures { OnOk result (out.new.items ≡ out.old.items ++ behind 59 (map repaired_part (parts_left 59 (held parameters.entry)))) }
 {
@@ -112,7 +112,7 @@ fn write_spec(out: &mut Vec<u8>, text: &[u8]) -> Result<(), AllocError>
 }
 
 // Writes the specifications behind the first, each with a comma before it.
-#[tactic(auto, using(crate::proofs::LeftParts::written_more, crate::proofs::LeftParts::left_shorter))]
+#[tactic(auto, using(crate::proofs::LeftParts::written_more, rtsp_transport::proofs::EachPart::left_shorter))]
 fn write_others(out: &mut Vec<u8>, others: Option<&[u8]>) -> Result<(), AllocError>
     ensures { OnOk result (out.new.items ≡ out.old.items ++ behind 44 (map repaired_spec_text (parts_left 44 (held others.entry)))) }
 {

@@ -1,6 +1,6 @@
 //! What a row of the state table is decided from, and what the rows share.
 
-ghost use Rattle.std.specs.Prelude.{◌≡◌, IfOk};
+ghost use Rattle.std.specs.Prelude.{◌≡◌, ◌==◌, not, length, IfOk};
 ghost use Rattle.rtsp_state.specs.Context.{streams_of, is_other, has_track, timing_of, expiry};
 
 use crate::response_start::ResponseStart;
@@ -38,11 +38,32 @@ pub fn streams_of(alloc: Global, view: &SessionView) -> Result<Vec<Stream>, Allo
     Ok(streams)
 }
 
-/// Whether some stream is of another presentation.
-pub fn is_other(presentation: u16, streams: &[Stream]) -> bool
-    ensures { result ≡ is_other presentation streams.now }
+/// Whether some stream of the session is of another presentation.
+pub fn is_other(presentation: u16, view: &SessionView) -> bool
+    ensures { result ≡ is_other presentation (streams_of view.now.1) }
 {
-    streams.iter().any(|s| s.presentation != presentation)
+    for index in 0..view.admissions().len() {
+        let (_, held) = view.admissions().at(index);
+        if let Some(stream) = held.stream {
+            if stream.presentation != presentation {
+                return true;
+            }
+        }
+    }
+    false
+}
+
+/// Whether the session has a stream.
+pub fn has_streams(view: &SessionView) -> bool
+    ensures { result ≡ not (length (streams_of view.now.1) == 0) }
+{
+    for index in 0..view.admissions().len() {
+        let (_, held) = view.admissions().at(index);
+        if held.stream.is_some() {
+            return true;
+        }
+    }
+    false
 }
 
 /// Whether some stream is of the track.

@@ -19,27 +19,28 @@ use std::alloc::Global;
 fn describe_presentation(
     alloc: Global,
     context: &Context<'_>,
-    base: MediaBase,
+    base: &MediaBase<'_>,
     presentation: u16,
 ) -> Result<Plan, Fault>
-    ensures value { Gives result (describe_presentation (context_value context.now) base presentation) }
+    ensures value { Gives result (describe_presentation (context_value context.now) base.now presentation) }
     ensures conducted { IfOk result IsConducted }
 {
     let Some(presentation) = context.table.presentation(presentation) else {
         return Err(Fault::Refused(Status::NotFound));
     };
+    let base = base.to_text(alloc)?;
     let sdp = Text::from_slice(alloc, presentation.sdp())?;
     Ok(Plan::Answer(Reply::described(context.start, base, sdp)))
 }
 
 /// DESCRIBE is answered in each state. A track has no description of its own.
-pub fn describe(alloc: Global, context: &Context<'_>, target: Target) -> Result<Plan, Fault>
-    ensures value { Gives result (describe (context_value context.now) target) }
+pub fn describe(alloc: Global, context: &Context<'_>, target: &Target<'_>) -> Result<Plan, Fault>
+    ensures value { Gives result (describe (context_value context.now) target.now) }
     ensures conducted { IfOk result IsConducted }
 {
     match target {
         Target::Presentation(base, presentation) => {
-            describe_presentation(alloc, context, base, presentation)
+            describe_presentation(alloc, context, base, *presentation)
         }
         Target::Track(..) => Err(Fault::Refused(Status::NotFound)),
         Target::Server | Target::Star => Err(Fault::Refused(Status::BadRequest)),

@@ -53,7 +53,7 @@ fn get_parameter_body(
     alloc: Global,
     context: &Context<'_>,
     view: Option<&SessionView>,
-    target: &Target,
+    target: &Target<'_>,
 ) -> Result<Plan, Fault>
     ensures value { Gives result (get_parameter_body (context_value context.now) (option_map (λ v. v.now) view.entry) target.now) }
     ensures conducted { IfOk result IsConducted }
@@ -76,7 +76,7 @@ pub fn get_parameter(
     alloc: Global,
     context: &Context<'_>,
     view: Option<&SessionView>,
-    target: &Target,
+    target: &Target<'_>,
 ) -> Result<Plan, Fault>
     ensures value { Gives result (get_parameter (context_value context.now) (option_map (λ v. v.now) view.entry) target.now) }
     ensures conducted { IfOk result IsConducted }

@@ -12,7 +12,6 @@ ghost use Rattle.rtsp_state.specs.declared.words.Word.TheVariants as words;
 ghost use Rattle.rtsp_state.specs.declared.words.Field.TheVariants as fields;
 ghost use Rattle.rtsp_state.specs.declared.status.Status.TheVariants as statuses;
 
-use crate::media_base::MediaBase;
 use crate::response_start::ResponseStart;
 use crate::room::Room;
 use crate::timing::Timing;
@@ -270,25 +269,15 @@ pub fn put_seek_style(room: &mut Room)
     put_fixed(room, Field::SeekStyle, Word::Rap);
 }
 
-fn put_base_value(room: &mut Room, base: &MediaBase)
-    requires { length base.now ≤ room.old.spare }
-    ensures text { room.new.text ≡ room.old.text ++ base.now }
-    ensures room { Takes room.old room.new (length base.now) }
-{
-    let (bytes, slash) = base.parts();
-    room.put(bytes);
-    room.put(slash);
-}
-
 /// Content-Base: what the names of the tracks are joined to.
 #[tactic(auto, using(crate::proofs::MessageLemmas::line_of))]
-pub fn put_base(room: &mut Room, base: &MediaBase)
+pub fn put_base(room: &mut Room, base: &[u8])
     requires { length base.now + 20 ≤ room.old.spare }
     ensures text { room.new.text ≡ room.old.text ++ header_text (base_line base.now) }
     ensures room { Takes room.old room.new (length base.now + 20) }
 {
     put_name(room, Field::ContentBase);
-    put_base_value(room, base);
+    room.put(base);
     put_end(room);
 }
 

@@ -13,7 +13,7 @@ use std::alloc::{AllocError, Global};
 #[derive(Drop)]
 pub struct MediaUri {
     pub text: Text,
-    pub base: MediaBase,
+    pub base: MediaBase<'static>,
 }
 
 impl MediaUri {

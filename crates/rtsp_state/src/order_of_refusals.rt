@@ -26,9 +26,9 @@ use std::alloc::Global;
 
 /// What a request asks, whatever its number.
 #[derive(Drop)]
-pub struct Asked {
+pub struct Asked<'a> {
     pub method: Method,
-    pub target: Target,
+    pub target: Target<'a>,
     pub name: Option<Name>,
 }
 
@@ -89,25 +89,23 @@ fn takes_star(method: Method) -> bool
     matches!(method, Method::GetParameter | Method::SetParameter)
 }
 
-// What the path of a plain URI names. The URI is copied only where it names something.
-fn plain_media(alloc: Global, table: &Table, text: &[u8], path: &[u8]) -> Result<Target, Fault>
+// What the path of a plain URI names.
+fn plain_media<'a>(table: &Table, text: &'a [u8], path: &[u8]) -> Result<Target<'a>, Fault>
     ensures { Gives result (target_at (with_slash text.now) (find_of table.now path.now)) }
 {
     match table.find(path) {
         Found::Nothing => Err(Fault::Refused(Status::NotFound)),
         Found::Presentation(presentation) => {
-            let base = MediaBase::plain(alloc, text)?;
-            Ok(Target::Presentation(base, presentation))
+            Ok(Target::Presentation(MediaBase::plain(text), presentation))
         }
         Found::Track(presentation, track) => {
-            let base = MediaBase::plain(alloc, text)?;
-            Ok(Target::Track(base, presentation, track))
+            Ok(Target::Track(MediaBase::plain(text), presentation, track))
         }
     }
 }
 
 // What the path of any other URI names.
-fn parsed_media(alloc: Global, table: &Table, text: &[u8]) -> Result<Target, Fault>
+fn parsed_media<'a>(alloc: Global, table: &Table, text: &[u8]) -> Result<Target<'a>, Fault>
     ensures { Gives result (media_of table.now (uri_of text.now)) }
 {
     let Some(url) = read_uri(alloc, text)? else {
@@ -124,16 +122,21 @@ fn parsed_media(alloc: Global, table: &Table, text: &[u8]) -> Result<Target, Fau
     }
 }
 
-fn media_of(alloc: Global, table: &Table, text: &[u8]) -> Result<Target, Fault>
+fn media_of<'a>(alloc: Global, table: &Table, text: &'a [u8]) -> Result<Target<'a>, Fault>
     ensures { Gives result (media_of table.now (uri_of text.now)) }
 {
     match plain_path(text) {
-        Some(path) => plain_media(alloc, table, text, path),
+        Some(path) => plain_media(table, text, path),
         None => parsed_media(alloc, table, text),
     }
 }
 
-fn target_of(alloc: Global, table: &Table, method: Method, text: &[u8]) -> Result<Target, Fault>
+fn target_of<'a>(
+    alloc: Global,
+    table: &Table,
+    method: Method,
+    text: &'a [u8],
+) -> Result<Target<'a>, Fault>
     ensures { Gives result (target_of table.now method text.now) }
 {
     if matches!(method, Method::Options) {
@@ -191,7 +194,7 @@ fn name_of(method: Method, headers: &Headers) -> Result<Option<Name>, Fault>
 
 /// The second place to the sixth: from the version to the form of the session's name.
 #[tactic(auto, unfolding(crate::specs::OrderOfRefusals::asked_of))]
-pub fn asked_of(alloc: Global, table: &Table, request: &Request) -> Result<Asked, Fault>
+pub fn asked_of<'a>(alloc: Global, table: &Table, request: &'a Request) -> Result<Asked<'a>, Fault>
     ensures { Gives result (asked_of table.now request.now) }
 {
     version_rule(&request.version)?;

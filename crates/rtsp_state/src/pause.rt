@@ -8,17 +8,15 @@ ghost use Rattle.rtsp_state.specs.declared.method.Method.TheVariants as methods;
 ghost use Rattle.rtsp_state.specs.StateTable.{row};
 ghost use Rattle.rtsp_state.specs.Pause.{pause_presentation};
 
-use crate::context::{Context, is_other, streams_of, timing_of};
+use crate::context::{Context, has_streams, is_other, timing_of};
 use crate::fault::{Fault, must};
 use crate::plan::Plan;
 use crate::request::Target;
 use crate::status::Status;
 use crate::step_plan::{Details, StepPlan};
 use rtsp_book::{SessionView, Step};
-use std::alloc::Global;
 
 fn pause_presentation(
-    alloc: Global,
     context: &Context<'_>,
     view: &SessionView,
     presentation: u16,
@@ -26,9 +24,8 @@ fn pause_presentation(
     ensures value { Gives result (pause_presentation (context_value context.now) view.now presentation) }
     ensures conducted { IfOk result IsConducted }
 {
-    let streams = streams_of(alloc, view)?;
-    must(!is_other(presentation, &streams), Status::SessionNotFound)?;
-    must(!streams.is_empty(), Status::MethodNotValid)?;
+    must(!is_other(presentation, view), Status::SessionNotFound)?;
+    must(has_streams(view), Status::MethodNotValid)?;
     let Some(presentation) = context.table.presentation(presentation) else {
         return Err(Fault::Refused(Status::NotFound));
     };
@@ -52,10 +49,9 @@ fn pause_presentation(
 /// where no living session is named.
 #[inline(never)]
 pub fn pause(
-    alloc: Global,
     context: &Context<'_>,
     view: Option<&SessionView>,
-    target: &Target,
+    target: &Target<'_>,
 ) -> Result<Plan, Fault>
     ensures value { Gives result (row (context_value context.now) methods.Pause (option_map (λ v. v.now) view.entry) None target.now) }
     ensures conducted { IfOk result IsConducted }
@@ -65,12 +61,7 @@ pub fn pause(
     };
     match target {
         Target::Track(..) => Err(Fault::Refused(Status::OnlyAggregateAllowed)),
-        Target::Presentation(_, presentation) => pause_presentation(
-            alloc,
-            context,
-            view,
-            *presentation,
-        ),
+        Target::Presentation(_, presentation) => pause_presentation(context, view, *presentation),
         Target::Server | Target::Star => Err(Fault::Refused(Status::BadRequest)),
     }
 }

@@ -102,7 +102,7 @@ fn stream_of(track: usize, streams: &[Stream]) -> Option<Stream>
 
 fn stream_info(
     alloc: Global,
-    base: &MediaBase,
+    base: &MediaBase<'_>,
     track: &Track,
     stream: Stream,
 ) -> Result<StreamInfo, Fault>
@@ -130,7 +130,7 @@ fn stream_info(
 /// What RTP-Info shows, in the order of the tracks.
 pub fn rtp_info(
     alloc: Global,
-    base: &MediaBase,
+    base: &MediaBase<'_>,
     streams: &[Stream],
     tracks: &[Track],
 ) -> Result<RtpInfo, Fault>
@@ -149,14 +149,14 @@ fn play_presentation(
     alloc: Global,
     context: &Context<'_>,
     view: &SessionView,
-    base: &MediaBase,
+    base: &MediaBase<'_>,
     presentation: u16,
 ) -> Result<Plan, Fault>
     ensures value { Gives result (play_presentation (context_value context.now) view.now base.now presentation) }
     ensures conducted { IfOk result IsConducted }
 {
+    must(!is_other(presentation, view), Status::SessionNotFound)?;
     let streams = streams_of(alloc, view)?;
-    must(!is_other(presentation, &streams), Status::SessionNotFound)?;
     must(!streams.is_empty(), Status::MethodNotValid)?;
     let Some(presentation) = context.table.presentation(presentation) else {
         return Err(Fault::Refused(Status::NotFound));
@@ -187,7 +187,7 @@ pub fn play(
     alloc: Global,
     context: &Context<'_>,
     view: Option<&SessionView>,
-    target: &Target,
+    target: &Target<'_>,
 ) -> Result<Plan, Fault>
     ensures value { Gives result (row (context_value context.now) methods.Play (option_map (λ v. v.now) view.entry) None target.now) }
     ensures conducted { IfOk result IsConducted }

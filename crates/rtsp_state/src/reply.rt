@@ -15,7 +15,6 @@ use crate::fault::Fault;
 use crate::headers::{
     put_base, put_done_start, put_end, put_length, put_public_end, put_response_start, put_type,
 };
-use crate::media_base::MediaBase;
 use crate::refusals::{refusal_of, write_plain, write_refused, write_unsupported};
 use crate::response_start::ResponseStart;
 use crate::room::Room;
@@ -35,7 +34,7 @@ enum Kind {
     Options(ResponseStart),
     Plain(ResponseStart),
     // A base and an SDP text.
-    Described(ResponseStart, MediaBase, Text),
+    Described(ResponseStart, Text, Text),
     // Lines of parameters.
     Parameters(ResponseStart, Text),
 }
@@ -108,7 +107,7 @@ impl Reply {
     }
 
     /// 200 to a DESCRIBE (RFC 7826 section 13.2): a base for the URIs of tracks, and an SDP text.
-    pub fn described(start: ResponseStart, base: MediaBase, sdp: Text) -> Reply
+    pub fn described(start: ResponseStart, base: Text, sdp: Text) -> Reply
         ensures { result ≡ described start base sdp }
     {
         Reply {
@@ -154,19 +153,12 @@ impl Reply {
     }
 }
 
-fn base_size(base: &MediaBase) -> usize
-    ensures { result ≡ min (length base.now) (2 ^ 64 - 1) }
-{
-    let (bytes, slash) = base.parts();
-    bytes.len().saturating_add(slash.len())
-}
-
 fn open_size(kind: &Kind) -> usize
     ensures { result ≡ min (open_size kind.now) (2 ^ 64 - 1) }
 {
     match kind {
         Kind::Refused(_, Fault::Unsupported(tags)) => tags.as_bytes().len(),
-        Kind::Described(_, base, sdp) => base_size(base).saturating_add(sdp.as_bytes().len()),
+        Kind::Described(_, base, sdp) => base.as_bytes().len().saturating_add(sdp.as_bytes().len()),
         Kind::Parameters(_, body) => body.as_bytes().len(),
         _ => 0,
     }
@@ -192,7 +184,9 @@ fn write_kind(room: &mut Room, kind: &Kind)
         Kind::Refused(start, fault) => write_fault(room, *start, fault),
         Kind::Options(start) => write_options(room, *start),
         Kind::Plain(start) => write_plain(room, *start, Status::Success),
-        Kind::Described(start, base, sdp) => { write_described(room, *start, base, sdp.as_bytes()) }
+        Kind::Described(start, base, sdp) => {
+            write_described(room, *start, base.as_bytes(), sdp.as_bytes())
+        }
         Kind::Parameters(start, body) => write_parameters(room, *start, body.as_bytes()),
     }
 }
@@ -237,7 +231,7 @@ fn put_body_headers(room: &mut Room, media: Word, body: &[u8])
     put_length(room, body);
 }
 
-fn write_described(room: &mut Room, start: ResponseStart, base: &MediaBase, sdp: &[u8])
+fn write_described(room: &mut Room, start: ResponseStart, base: &[u8], sdp: &[u8])
     requires { length base.now + length sdp.now + 239 ≤ room.old.spare }
     ensures text { room.new.text ≡ room.old.text ++ response_text (described start base.now sdp.now) }
     ensures room { Takes room.old room.new (length base.now + length sdp.now + 239) }

@@ -11,15 +11,15 @@ use std::marker::Model;
 
 /// What the URI of a request names. Media comes with its URI.
 #[derive(Drop)]
-pub enum Target {
+pub enum Target<'a> {
     /// OPTIONS is about the server, whatever its URI.
     Server,
     /// `*`, which GET_PARAMETER and SET_PARAMETER take.
     Star,
     /// A presentation, by its place in the table.
-    Presentation(MediaBase, u16),
+    Presentation(MediaBase<'a>, u16),
     /// A track, by the places of its presentation and of itself.
-    Track(MediaBase, u16, u16),
+    Track(MediaBase<'a>, u16, u16),
 }
 
 /// How a request names a session: by its id, or by a startup number of the connection (RFC 7826
@@ -35,7 +35,7 @@ pub enum Name {
 pub struct ParsedRequest<'a> {
     pub(crate) cseq: u32,
     pub(crate) method: Method,
-    pub(crate) target: Target,
+    pub(crate) target: Target<'a>,
     pub(crate) name: Option<Name>,
     pub(crate) headers: &'a Headers,
     pub(crate) body: &'a [u8],

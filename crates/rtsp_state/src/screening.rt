@@ -13,8 +13,8 @@ use rtsp_grammar::Request;
 use std::alloc::{AllocError, Global};
 
 // What is handed on of a request that is decided.
-fn parsed<'a>(cseq: u32, asked: Asked, request: &'a Request) -> ParsedRequest<'a>
-    ensures { result ≡ parsed cseq asked request.now }
+fn parsed<'a>(cseq: u32, asked: Asked<'a>, request: &'a Request) -> ParsedRequest<'a>
+    ensures { result ≡ parsed cseq asked.entry request.now }
 {
     let Asked {
         method,

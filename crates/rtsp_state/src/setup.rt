@@ -8,7 +8,7 @@ ghost use Rattle.rtsp_state.specs.Context.{context_value};
 ghost use Rattle.rtsp_state.specs.Conduct.{IsConducted};
 ghost use Rattle.rtsp_state.specs.Setup.{may_set_up, delivery_of, delivery_in, session_of, setup_plan, setup_track, setup};
 
-use crate::context::{Context, expiry, is_other, streams_of, timing_of};
+use crate::context::{Context, expiry, is_other, timing_of};
 use crate::fault::{Fault, must};
 use crate::plan::Plan;
 use crate::request::{Name, Target};
@@ -20,19 +20,15 @@ use rtsp_grammar::Headers;
 use rtsp_transport::{Pick, Spec, pick};
 use std::alloc::Global;
 
-fn may_set_up(alloc: Global, presentation: u16, view: Option<&SessionView>) -> Result<(), Fault>
-    ensures { Gives result (may_set_up presentation (option_map (λ v. v.now) view.entry)) }
+fn may_set_up(presentation: u16, view: Option<&SessionView>) -> Result<(), Fault>
+    ensures { result ≡ may_set_up presentation (option_map (λ v. v.now) view.entry) }
 {
     let Some(view) = view else {
         return Ok(());
     };
     let ready = view.phase().is_ready();
     must(ready, Status::MethodNotValid)?;
-    let streams = streams_of(alloc, view)?;
-    must(
-        !is_other(presentation, &streams),
-        Status::AggregateNotAllowed,
-    )
+    must(!is_other(presentation, view), Status::AggregateNotAllowed)
 }
 
 // The transport that a client gets.
@@ -110,7 +106,7 @@ fn setup_track(
     ensures value { Gives result (setup_track (context_value context.now) (option_map (λ v. v.now) view.entry) name presentation track) }
     ensures conducted { IfOk result IsConducted }
 {
-    may_set_up(alloc, presentation, view)?;
+    may_set_up(presentation, view)?;
     let delivery = delivery_asked(alloc, context.peer, context.headers)?;
     let Some(shown) = context.table.presentation(presentation) else {
         return Err(Fault::Refused(Status::NotFound));
@@ -138,7 +134,7 @@ pub fn setup(
     context: &Context<'_>,
     view: Option<&SessionView>,
     name: Option<Name>,
-    target: &Target,
+    target: &Target<'_>,
 ) -> Result<Plan, Fault>
     ensures value { Gives result (setup (context_value context.now) (option_map (λ v. v.now) view.entry) name target.now) }
     ensures conducted { IfOk result IsConducted }

@@ -43,40 +43,43 @@ fn session_found(
 }
 
 // The row of a method. The rows that plan a step or an admission stand apart, so that a request that
-// is answered at once doesn't pay for their room on the stack.
+// is answered at once doesn't pay for their room on the stack. The row itself, the cell and `decide`
+// are inlined, so that a plan is made where it is wanted and not copied from one to the next.
+#[inline(always)]
 fn row(
     alloc: Global,
     context: &Context<'_>,
     method: Method,
     view: Option<&SessionView>,
     name: Option<Name>,
-    target: Target,
+    target: &Target<'_>,
 ) -> Result<Plan, Fault>
-    ensures value { Gives result (row (context_value context.now) method (option_map (λ v. v.now) view.entry) name target) }
+    ensures value { Gives result (row (context_value context.now) method (option_map (λ v. v.now) view.entry) name target.now) }
     ensures conducted { IfOk result IsConducted }
 {
     match method {
         Method::Options => options(context),
         Method::Describe => describe(alloc, context, target),
-        Method::Setup => setup(alloc, context, view, name, &target),
-        Method::Teardown => teardown(alloc, context, view, &target),
-        Method::Play => play(alloc, context, view, &target),
-        Method::Pause => pause(alloc, context, view, &target),
-        Method::GetParameter => get_parameter(alloc, context, view, &target),
+        Method::Setup => setup(alloc, context, view, name, target),
+        Method::Teardown => teardown(alloc, context, view, target),
+        Method::Play => play(alloc, context, view, target),
+        Method::Pause => pause(context, view, target),
+        Method::GetParameter => get_parameter(alloc, context, view, target),
         Method::SetParameter => set_parameter(context),
     }
 }
 
 // The cell of the table.
+#[inline(always)]
 fn cell(
     alloc: Global,
     context: &Context<'_>,
     method: Method,
     view: Option<&SessionView>,
     name: Option<Name>,
-    target: Target,
+    target: &Target<'_>,
 ) -> Result<Plan, Fault>
-    ensures value { Gives result (cell (context_value context.now) method (option_map (λ v. v.now) view.entry) name target) }
+    ensures value { Gives result (cell (context_value context.now) method (option_map (λ v. v.now) view.entry) name target.now) }
     ensures conducted { IfOk result IsConducted }
 {
     session_found(method, name, view)?;
@@ -96,6 +99,7 @@ pub fn shown_id(view: Option<&SessionView>) -> Option<u128>
 /// The plan of a request, from the living session that it names, if it names one: a response, a
 /// step, or an admission, each with what its response shows. The peer is the player's IPv4 address,
 /// and the moment is in milliseconds. The session is as it is after its renewal.
+#[inline(always)]
 #[tactic(auto, unfolding(crate::specs::StateTable::decide))]
 pub fn decide(
     alloc: Global,
@@ -127,7 +131,7 @@ pub fn decide(
         name,
         ..
     } = request;
-    match cell(alloc, &context, method, view, name, target) {
+    match cell(alloc, &context, method, view, name, &target) {
         Ok(plan) => Ok(plan),
         Err(Fault::OutOfMemory) => Err(AllocError),
         Err(fault) => Ok(Plan::Answer(Reply::refused(start, fault))),

@@ -18,7 +18,6 @@ use rtsp_book::{SessionView, Step};
 use std::alloc::Global;
 
 fn teardown_presentation(
-    alloc: Global,
     context: &Context<'_>,
     view: &SessionView,
     presentation: u16,
@@ -26,8 +25,7 @@ fn teardown_presentation(
     ensures value { Gives result (teardown_presentation (context_value context.now) view.now presentation) }
     ensures conducted { IfOk result IsConducted }
 {
-    let streams = streams_of(alloc, view)?;
-    must(!is_other(presentation, &streams), Status::SessionNotFound)?;
+    must(!is_other(presentation, view), Status::SessionNotFound)?;
     Ok(Plan::Step(StepPlan {
         start: context.start,
         done: context.start.without_session(),
@@ -48,8 +46,8 @@ fn teardown_track(
     ensures value { Gives result (teardown_track (context_value context.now) view.now presentation track) }
     ensures conducted { IfOk result IsConducted }
 {
+    must(!is_other(presentation, view), Status::SessionNotFound)?;
     let streams = streams_of(alloc, view)?;
-    must(!is_other(presentation, &streams), Status::SessionNotFound)?;
     must(has_track(track, &streams), Status::MethodNotValid)?;
     let only = streams.len() <= 1;
     let ready = view.phase().is_ready();
@@ -78,7 +76,7 @@ pub fn teardown(
     alloc: Global,
     context: &Context<'_>,
     view: Option<&SessionView>,
-    target: &Target,
+    target: &Target<'_>,
 ) -> Result<Plan, Fault>
     ensures value { Gives result (row (context_value context.now) methods.Teardown (option_map (λ v. v.now) view.entry) None target.now) }
     ensures conducted { IfOk result IsConducted }
@@ -88,7 +86,7 @@ pub fn teardown(
     };
     match target {
         Target::Presentation(_, presentation) => {
-            teardown_presentation(alloc, context, view, *presentation)
+            teardown_presentation(context, view, *presentation)
         }
         Target::Track(_, presentation, track) => {
             teardown_track(alloc, context, view, *presentation, *track)

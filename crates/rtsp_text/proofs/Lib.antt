@@ -7,5 +7,4 @@ pub mod FindsLemmas
 pub mod DecimalLemmas
 pub mod HexLemmas
 pub mod AppendLemmas
-pub mod EachLemmas
 pub mod LineLemmas

@@ -1,5 +1,7 @@
 pub mod SplitLemmas
 pub mod PartsLemmas
+pub mod Cutting
+pub mod EachPart
 pub mod ReadsLemmas
 pub mod TransportLemmas
 pub mod SessionLemmas

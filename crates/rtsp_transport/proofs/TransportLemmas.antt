@@ -1,12 +1,12 @@
 -- What is read of a Transport header is what its grammar has.
-use Rattle.std.proofs.Common.{◌≡◌, ◌≢◌, ℕ, ◌≤◌, Bool, true, false, cond, List, [], ◌∷◌, ◌++◌, length, Option, Some, None, Result, Ok, Err, nat_lt, refl, ap, subst, ◌∙◌}
+use Rattle.std.proofs.Common.{◌≡◌, ◌≢◌, ℕ, ◌≤◌, Bool, true, false, cond, List, [], ◌∷◌, ◌++◌, length, Option, Some, None, Result, Ok, Err, nat_lt, refl, sym, ap, subst, ◌∙◌, inl, inr}
 use Rattle.std.specs.Prelude.{not}
 use Rattle.std.specs.List.{AllByRecursion}
 use Rattle.std.proofs.lemmas.Bool.{ltb-false, le-ltb}
 use Rattle.rtsp_text.specs.Trim.{trimmed, IsPadded}
 use Rattle.rtsp_text.specs.SplitOnce.{split_once, IsSplitAt}
 use Rattle.rtsp_transport.specs.Split.{IsPart, IsSplit, is_closed, split}
-use Rattle.rtsp_text.specs.Results.{◌>>=◌}
+use Rattle.rtsp_text.specs.Results.{◌>>=◌, Gives}
 use Rattle.rtsp_transport.specs.Paired.{Paired}
 use Rattle.rtsp_transport.specs.Reads.{IsSpelled, Reads}
 use Rattle.rtsp_transport.specs.Transport.{SpellsParameter, SpellsProtocol, SpellsSpec, SpellsTransport}
@@ -14,7 +14,7 @@ use Rattle.rtsp_transport.specs.TransportReading.{some_text, named, parameter_of
 use Rattle.rtsp_transport.specs.declared.spec.Parameter.{Parameter}
 use Rattle.rtsp_transport.specs.declared.spec.Spec.{Spec}
 use Rattle.rtsp_transport.specs.declared.fault.TextFault.{TextFault}
-use Rattle.rtsp_transport.specs.declared.fault.TextFault.TheVariants.{Malformed}
+use Rattle.rtsp_transport.specs.declared.fault.TextFault.TheVariants.{Malformed, OutOfMemory}
 use Rattle.rtsp_text.proofs.PaddingLemmas.{padded_only, trimmed_padded}
 use Rattle.rtsp_text.proofs.SplitLemmas.{split_found, split_missed, split_is as split_is_at}
 use Rattle.rtsp_transport.proofs.PartsLemmas.{split_is, split_only, part_closed}
@@ -100,6 +100,18 @@ spec_complete text spec s =
 
 parts_sound : (parts : List (List ℕ)) → AllByRecursion (IsPart 44) parts → IsSpelled (Paired SpellsSpec parts) (specs_of parts)
 parts_sound parts each = each_sound SpellsSpec spec_of (IsPart 44) (λ part e. spec_sound part (part_closed 44 part e)) parts each
+
+-- a fault of a specification is the value's, also where there are too many
+pub fault_read : (text : List ℕ) (f : TextFault) → is_closed false text ≡ true → Gives OutOfMemory (Err f) (specs_of (split false 44 text)) → Gives OutOfMemory (Err f) (transports_of text)
+unfolding transports_of
+fault_read text f closed (inl e) = inl e
+fault_read text f closed (inr e) = inr (rw closed (go (nat_lt 16 (length (split false 44 text))))) where
+  malformed : f ≡ Malformed
+  malformed = subst (λ (r : Result (List Spec) TextFault). IsSpelled (Paired SpellsSpec (split false 44 text)) r) e (parts_sound (split false 44 text) (split_is 44 text closed).each)
+
+  go : (x : Bool) → cond x (Err Malformed) (specs_of (split false 44 text)) ≡ Err f
+  go true = ap Err (sym malformed)
+  go false = e
 
 transports_sound : (text : List ℕ) → IsSpelled (SpellsTransport text) (transports_of text)
 unfolding transports_of

@@ -1,5 +1,5 @@
 -- Parts of a text round a separator that may be in quotes too.
-use Rattle.std.specs.Prelude.{◌≡◌, ◌≢◌, ℕ, Bool, true, false, not, ◌==◌, ◌&&◌, ◌||◌, List, [], ◌∷◌, ◌++◌, if◌then◌else◌}
+use Rattle.std.specs.Prelude.{◌≡◌, ◌≢◌, ℕ, Bool, true, false, not, ◌==◌, ◌&&◌, ◌||◌, List, [], ◌∷◌, ◌++◌, Option, Some, None, if◌then◌else◌}
 use Rattle.std.specs.List.{join_with_byte, AllByRecursion}
 
 -- The quotes of a part are in pairs, and the separator is only between the two of a pair.
@@ -33,3 +33,8 @@ split inside separator [] = [] ∷ []
 split inside separator (b ∷ bytes) =
     if b == 34 then onto_first (b ∷ []) (split (not inside) separator bytes)
     else (if (b == separator) && not inside then [] ∷ split false separator bytes else onto_first (b ∷ []) (split inside separator bytes))
+
+-- the parts of the text after a separator, where there is one
+abbrev pub parts_left : ℕ → Option (List ℕ) → List (List ℕ)
+parts_left separator None = []
+parts_left separator (Some text) = split false separator text

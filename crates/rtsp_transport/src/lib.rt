@@ -26,6 +26,7 @@ pub use picks::Pick;
 pub use rtsp_text::Text;
 pub use session::{read_session, session_id, write_session_id};
 pub use spec::{Parameter, Spec};
+pub use split::first_part;
 pub use tags::{is_known, read_tags};
 pub use transports::{pick, read_transports};
 pub use write::{Granted, write_ssrc, write_transport};

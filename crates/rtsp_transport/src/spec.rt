@@ -1,8 +1,8 @@
 //! Transport specifications: a protocol and its parameters each (RFC 7826 section 18.54).
 
-ghost use Rattle.std.specs.Prelude.{◌≡◌};
-ghost use Rattle.rtsp_text.specs.Results.{Gives, GivesBy};
-ghost use Rattle.rtsp_text.specs.Slices.{texts};
+ghost use Rattle.std.specs.Prelude.{◌≡◌, IfOk};
+ghost use Rattle.rtsp_text.specs.Results.{Gives};
+ghost use Rattle.rtsp_text.specs.Slices.{held};
 ghost use Rattle.rtsp_transport.specs.declared.fault.TextFault.TheVariants.{OutOfMemory};
 
 use crate::address::Address;
@@ -10,9 +10,23 @@ use crate::channels::ChannelPair;
 use crate::fault::TextFault;
 use crate::names::{is_named, is_tcp, is_udp};
 use crate::picks::Pick;
-use crate::split::split;
+use crate::split::first_part;
 use rtsp_text::{List, Text, split_once, trimmed};
-use std::alloc::Global;
+use std::alloc::{AllocError, Global};
+
+// A copy of a text. Those that most players send take no memory.
+fn text_of(alloc: Global, text: &[u8]) -> Result<Text, AllocError>
+    ensures { IfOk result (λ copy. copy ≡ text.now) }
+{
+    match text {
+        b"RTP/AVP" => Ok(Text::fixed(b"RTP/AVP")),
+        b"RTP/AVP/TCP" => Ok(Text::fixed(b"RTP/AVP/TCP")),
+        b"unicast" => Ok(Text::fixed(b"unicast")),
+        b"dest_addr" => Ok(Text::fixed(b"dest_addr")),
+        b"interleaved" => Ok(Text::fixed(b"interleaved")),
+        _ => Text::from_slice(alloc, text),
+    }
+}
 
 /// One parameter of a specification: `name` or `name=value`.
 #[derive(Drop)]
@@ -31,6 +45,7 @@ pub struct Spec {
 impl Parameter {
     ghost use Rattle.rtsp_transport.specs.Names.{is_unserved};
     ghost use Rattle.rtsp_transport.specs.Parameters.{asks_more, is_play, mux_has_value};
+    ghost use Rattle.rtsp_transport.specs.Split.{parts_left};
     ghost use Rattle.rtsp_transport.specs.TransportReading.{parameter_of, parameters_of};
 
     #[tactic(auto, unfolding(crate::specs::TransportReading::parameter_of))]
@@ -43,23 +58,27 @@ impl Parameter {
         }
         match split_once(text, b'=') {
             Some((name, value)) => Ok(Parameter {
-                name: Text::from_slice(alloc, name)?,
+                name: text_of(alloc, name)?,
                 value: Some(Text::from_slice(alloc, value)?),
             }),
             None => Ok(Parameter {
-                name: Text::from_slice(alloc, text)?,
+                name: text_of(alloc, text)?,
                 value: None,
             }),
         }
     }
 
-    #[tactic(auto, using(rtsp_text::proofs::EachLemmas::step_on, rtsp_text::proofs::EachLemmas::step_done))]
-    fn read_each(alloc: Global, parts: &[&[u8]]) -> Result<List<Parameter>, TextFault>
-        ensures { Gives OutOfMemory result (parameters_of (texts parts.now)) }
+    // The parameters that are left of a specification, in order. One malformed part refuses all.
+    #[tactic(auto, using(crate::proofs::EachPart::reads_all, crate::proofs::EachPart::reads_more, crate::proofs::EachPart::reads_done, crate::proofs::EachPart::left_shorter))]
+    fn read_each(alloc: Global, parts: Option<&[u8]>) -> Result<List<Parameter>, TextFault>
+        ensures { Gives OutOfMemory result (parameters_of (parts_left 59 (held parts.entry))) }
     {
         let mut parameters = List::new(alloc);
-        for part in parts {
+        let mut left = parts;
+        'parts: while let Some(text) = left {
+            let (part, rest) = first_part(text, b';');
             parameters.push(Parameter::read(alloc, part)?)?;
+            left = rest;
         }
         Ok(parameters)
     }
@@ -111,10 +130,9 @@ impl Parameter {
 impl Spec {
     ghost use Rattle.std.specs.List.{list_any};
     ghost use Rattle.std.specs.Option.{option_copied};
-    ghost use Rattle.rtsp_text.specs.Slices.{held};
     ghost use Rattle.rtsp_transport.specs.Fitting.{udp_fit, mux_fit, inter_fit, fit_of};
     ghost use Rattle.rtsp_transport.specs.Parameters.{asks_more, first_named, first_value, has_mux};
-    ghost use Rattle.rtsp_transport.specs.TransportReading.{protocol_of, spec_of, specs_of};
+    ghost use Rattle.rtsp_transport.specs.TransportReading.{protocol_of, spec_of};
 
     #[tactic(auto, unfolding(crate::specs::TransportReading::protocol_of))]
     fn read_protocol(alloc: Global, part: &[u8]) -> Result<Text, TextFault>
@@ -124,35 +142,19 @@ impl Spec {
         if protocol.is_empty() {
             return Err(TextFault::Malformed);
         }
-        Ok(Text::from_slice(alloc, protocol)?)
+        Ok(text_of(alloc, protocol)?)
     }
 
+    /// The specification that a text spells.
     #[tactic(auto, unfolding(crate::specs::TransportReading::spec_of))]
-    fn read(alloc: Global, text: &[u8]) -> Result<Spec, TextFault>
+    pub(crate) fn read(alloc: Global, text: &[u8]) -> Result<Spec, TextFault>
         ensures { Gives OutOfMemory result (spec_of text.now) }
     {
-        let parts = split(alloc, text, b';')?;
-        let Some((first, others)) = parts.split_first() else {
-            return Err(TextFault::Malformed);
-        };
-        let protocol = Spec::read_protocol(alloc, first)?;
-        let parameters = Parameter::read_each(alloc, others)?;
+        let (protocol, parameters) = first_part(text, b';');
         Ok(Spec {
-            protocol,
-            parameters,
+            protocol: Spec::read_protocol(alloc, protocol)?,
+            parameters: Parameter::read_each(alloc, parameters)?,
         })
-    }
-
-    /// The specifications that these parts spell, in order. One malformed part refuses all.
-    #[tactic(auto, using(rtsp_text::proofs::EachLemmas::step_on, rtsp_text::proofs::EachLemmas::step_done))]
-    pub fn read_each(alloc: Global, parts: &[&[u8]]) -> Result<Vec<Spec>, TextFault>
-        ensures { GivesBy OutOfMemory (λ v. v.items) result (specs_of (texts parts.now)) }
-    {
-        let mut specs = Vec::new(alloc);
-        for part in parts {
-            specs.push(Spec::read(alloc, part)?)?;
-        }
-        Ok(specs)
     }
 
     // Whether one of the parameters asks for more than this server serves.

@@ -1,10 +1,10 @@
-//! A text split at the separators outside its quotes.
+//! The parts of a text round the separators outside its quotes, one after another.
 
-ghost use Rattle.std.specs.Prelude.{◌≡◌, false, IfOk};
-ghost use Rattle.rtsp_text.specs.Slices.{texts};
-ghost use Rattle.rtsp_transport.specs.Split.{is_closed, split};
+ghost use Rattle.std.specs.Prelude.{◌≡◌, ◌<◌, ◌==◌, ◌∷◌, false, length, IfSome};
+ghost use Rattle.rtsp_text.specs.Slices.{held};
+ghost use Rattle.rtsp_transport.specs.Split.{is_closed, split, parts_left};
 
-use std::alloc::{AllocError, Global};
+use rtsp_text::split_once;
 
 const QUOTE: u8 = b'"';
 
@@ -21,21 +21,35 @@ pub fn is_closed(text: &[u8]) -> bool
     !inside
 }
 
-/// The parts round the separators outside quotes.
-pub fn split(alloc: Global, text: &[u8], separator: u8) -> Result<Vec<&[u8]>, AllocError>
-    ensures { IfOk result (λ parts. texts parts.items ≡ split false separator text.now) }
+// The same as `first_part`, where there is a quote before a separator.
+fn first_quoted_part(text: &[u8], separator: u8) -> (&[u8], Option<&[u8]>)
+    ensures parts { split false separator text.now ≡ result.0.now ∷ parts_left separator (held result.1) }
+    ensures shorter { IfSome result.1 (λ rest. length rest.now < length text.now) }
 {
-    let mut parts = Vec::new(alloc);
     let mut inside = false;
-    let mut start = 0;
     for (i, b) in text.iter().enumerate() {
         if *b == QUOTE {
             inside = !inside;
         } else if *b == separator && !inside {
-            parts.push(&text[start..i])?;
-            start = i + 1;
+            return (&text[..i], Some(&text[i + 1..]));
         }
     }
-    parts.push(&text[start..])?;
-    Ok(parts)
+    (text, None)
+}
+
+/// The text before the first separator outside quotes, and the text after it; all of it where there
+/// is none. Most texts have no quote before their first separator: these are cut where it is found.
+#[tactic(auto, using(crate::proofs::Cutting::uncut, crate::proofs::Cutting::cut_plainly, crate::proofs::Cutting::cut_shorter))]
+pub fn first_part(text: &[u8], separator: u8) -> (&[u8], Option<&[u8]>)
+    requires { (separator == 34) ≡ false }
+    ensures parts { split false separator text.now ≡ result.0.now ∷ parts_left separator (held result.1) }
+    ensures shorter { IfSome result.1 (λ rest. length rest.now < length text.now) }
+{
+    match split_once(text, separator) {
+        None => (text, None),
+        Some((front, rest)) => match split_once(front, QUOTE) {
+            None => (front, Some(rest)),
+            Some(_) => first_quoted_part(text, separator),
+        },
+    }
 }

@@ -2,13 +2,12 @@
 
 ghost use Rattle.std.specs.Prelude.{◌≡◌, ℕ, List, IfOk, IfErr};
 ghost use Rattle.rtsp_text.specs.Results.{Gives, GivesBy};
-ghost use Rattle.rtsp_text.specs.Slices.{texts};
 ghost use Rattle.rtsp_transport.specs.Reads.{Refuses, Answers};
-ghost use Rattle.rtsp_transport.specs.Tags.{SpellsTags, is_known, tag_of, tags_in, tags_of};
+ghost use Rattle.rtsp_transport.specs.Tags.{SpellsTags, is_known, tag_of, tags_of};
 ghost use Rattle.rtsp_transport.specs.declared.fault.TextFault.TheVariants.{OutOfMemory};
 
 use crate::fault::TextFault;
-use crate::split::{is_closed, split};
+use crate::split::{first_part, is_closed};
 use rtsp_text::{Text, is_token, trimmed};
 use std::alloc::Global;
 
@@ -23,18 +22,7 @@ fn tag_of(alloc: Global, part: &[u8]) -> Result<Text, TextFault>
     Ok(Text::from_slice(alloc, tag)?)
 }
 
-#[tactic(auto, using(rtsp_text::proofs::EachLemmas::step_on, rtsp_text::proofs::EachLemmas::step_done))]
-fn tags_in(alloc: Global, parts: &[&[u8]]) -> Result<Vec<Text>, TextFault>
-    ensures { GivesBy OutOfMemory (λ v. v.items) result (tags_in (texts parts.now)) }
-{
-    let mut tags = Vec::new(alloc);
-    for part in parts {
-        tags.push(tag_of(alloc, part)?)?;
-    }
-    Ok(tags)
-}
-
-#[tactic(auto, unfolding(crate::specs::Tags::tags_of))]
+#[tactic(auto, using(crate::proofs::EachPart::reads_all, crate::proofs::EachPart::reads_more, crate::proofs::EachPart::reads_done, crate::proofs::EachPart::left_shorter), unfolding(crate::specs::Tags::tags_of))]
 fn tags_of(alloc: Global, text: &[u8]) -> Result<Vec<Text>, TextFault>
     ensures { GivesBy OutOfMemory (λ v. v.items) result (tags_of text.now) }
 {
@@ -42,8 +30,14 @@ fn tags_of(alloc: Global, text: &[u8]) -> Result<Vec<Text>, TextFault>
     if !is_closed(text) {
         return Err(TextFault::Malformed);
     }
-    let parts = split(alloc, text, b',')?;
-    tags_in(alloc, &parts)
+    let mut tags = Vec::new(alloc);
+    let mut left = Some(text);
+    'parts: while let Some(parts) = left {
+        let (part, rest) = first_part(parts, b',');
+        tags.push(tag_of(alloc, part)?)?;
+        left = rest;
+    }
+    Ok(tags)
 }
 
 /// Reads the option tags of a Require header: tokens with commas between them. Several such headers

@@ -12,24 +12,30 @@ ghost use Rattle.rtsp_transport.specs.declared.spec.Spec.{Spec};
 use crate::fault::TextFault;
 use crate::picks::Pick;
 use crate::spec::Spec;
-use crate::split::{is_closed, split};
+use crate::split::{first_part, is_closed};
 use std::alloc::Global;
 
 // The most specifications of a header.
 const SPEC_LIMIT: usize = 16;
 
-#[tactic(auto, unfolding(crate::specs::TransportReading::transports_of))]
+#[tactic(auto, using(crate::proofs::EachPart::reads_all, crate::proofs::EachPart::reads_more, crate::proofs::EachPart::left_shorter), unfolding(crate::specs::TransportReading::transports_of))]
 fn transports_of(alloc: Global, text: &[u8]) -> Result<Vec<Spec>, TextFault>
     ensures { GivesBy OutOfMemory (λ v. v.items) result (transports_of text.now) }
 {
     if !is_closed(text) {
         return Err(TextFault::Malformed);
     }
-    let parts = split(alloc, text, b',')?;
-    if parts.len() > SPEC_LIMIT {
-        return Err(TextFault::Malformed);
+    let mut specs = Vec::new(alloc);
+    let mut left = Some(text);
+    'parts: while let Some(parts) = left {
+        let (part, rest) = first_part(parts, b',');
+        if specs.len() == SPEC_LIMIT {
+            return Err(TextFault::Malformed);
+        }
+        specs.push(Spec::read(alloc, part)?)?;
+        left = rest;
     }
-    Spec::read_each(alloc, &parts)
+    Ok(specs)
 }
 
 /// Reads the value of a Transport header: 1 to 16 specifications (RFC 7826 section 18.54). Several

@@ -1,5 +1,5 @@
 use Rattle.rtsp_text.specs.Slices.{held}
-use Rattle.rtsp_dialect.specs.PartText.{parts_left}
+use Rattle.rtsp_transport.specs.Split.{parts_left}
 use Rattle.rtsp_dialect.proofs.Alone.{begins}
 use Rattle.rtsp_dialect.proofs.transport.has_ports_alone.Goals as goal
 

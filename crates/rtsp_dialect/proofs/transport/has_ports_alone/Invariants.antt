@@ -1,9 +1,9 @@
 use Rattle.std.proofs.Common.{◌≡◌}
 use Rattle.rtsp_text.specs.Slices.{held}
 use Rattle.rtsp_dialect.specs.ClientPort.{has_ports_alone}
-use Rattle.rtsp_dialect.specs.PartText.{parts_left}
+use Rattle.rtsp_transport.specs.Split.{parts_left}
 use Rattle.rtsp_dialect.proofs.Alone.{params, still}
-use Rattle.rtsp_dialect.proofs.LeftParts.{left_len}
+use Rattle.rtsp_transport.proofs.EachPart.{left_len}
 use Rattle.rtsp_dialect.proofs.transport.has_ports_alone.Given as goal
 
 abbrev pub invariant-parameters : goal.invariant-parameters

@@ -1,8 +1,9 @@
 use Rattle.std.proofs.Common.{◌≡◌, ◌++◌, map}
 use Rattle.rtsp_text.specs.Slices.{held}
 use Rattle.rtsp_dialect.specs.ClientPortText.{repaired_part}
-use Rattle.rtsp_dialect.specs.PartText.{parts_left, behind}
-use Rattle.rtsp_dialect.proofs.LeftParts.{left_len}
+use Rattle.rtsp_transport.specs.Split.{parts_left}
+use Rattle.rtsp_dialect.specs.PartText.{behind}
+use Rattle.rtsp_transport.proofs.EachPart.{left_len}
 use Rattle.rtsp_dialect.proofs.transport.write_parameters.Given as goal
 
 abbrev pub invariant-parameters : goal.invariant-parameters

@@ -50,16 +50,17 @@ pub returns-in-Plain-clause-room : goal.returns-in-Plain-clause-room
 returns-in-Plain-clause-room c = takes_more _ _ _ _ c.write_plain.ensures.room (omega (arith, ap open_size c.in-Plain.is))
 
 pub write_described-requires : goal.write_described-requires
-write_described-requires c = omega (arith, ap open_size c.in-Described.is, ap length c.as_bytes.ensures, c.requires)
+write_described-requires c = omega (arith, ap open_size c.in-Described.is, ap length c.as_bytes.ensures, ap length c.as_bytes-in-Described.ensures, c.requires)
 
 pub returns-in-Described-clause-text : goal.returns-in-Described-clause-text
 returns-in-Described-clause-text c =
     c.write_described.ensures.text
-    ∙ ap (λ (b : List ℕ). c.args.room.now.text ++ response_text (reply_of (kinds.Described c.in-Described.start c.in-Described.base b))) c.as_bytes.ensures
+    ∙ ap (λ (b : List ℕ). c.args.room.now.text ++ response_text (reply_of (kinds.Described c.in-Described.start b c.as_bytes-in-Described.result.now))) c.as_bytes.ensures
+    ∙ ap (λ (b : List ℕ). c.args.room.now.text ++ response_text (reply_of (kinds.Described c.in-Described.start c.in-Described.base b))) c.as_bytes-in-Described.ensures
     ∙ ap (λ (k : Kind). c.args.room.now.text ++ response_text (reply_of k)) (sym c.in-Described.is)
 
 pub returns-in-Described-clause-room : goal.returns-in-Described-clause-room
-returns-in-Described-clause-room c = takes_more _ _ _ _ c.write_described.ensures.room (omega (arith, ap open_size c.in-Described.is, ap length c.as_bytes.ensures))
+returns-in-Described-clause-room c = takes_more _ _ _ _ c.write_described.ensures.room (omega (arith, ap open_size c.in-Described.is, ap length c.as_bytes.ensures, ap length c.as_bytes-in-Described.ensures))
 
 pub write_parameters-requires : goal.write_parameters-requires
 write_parameters-requires c = omega (arith, ap open_size c.in-Parameters.is, ap length c.as_bytes-in-Parameters.ensures, c.requires)

@@ -9,4 +9,4 @@ returns c =
     let len = length c.slice-len.result.now in
     let kept = ap (λ v. take len v.items) c.into_bytes-bytes.ensures.value ∙ ap (take len) c.from.ensures in
     let front = ap (λ (text : List ℕ). take (length text) (serialize c.args.url)) c.slice-len.ensures.value ∙ bare_front c.args.url in
-    ap with_slash (c.from_vec.ensures ∙ (c.truncate.ensures.items ∙ (kept ∙ front)))
+    ap with_slash (c.truncate.ensures.items ∙ (kept ∙ front))

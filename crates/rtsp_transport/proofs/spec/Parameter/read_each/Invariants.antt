@@ -1,6 +1,11 @@
+use Rattle.rtsp_text.specs.Slices.{held}
+use Rattle.rtsp_transport.specs.Split.{parts_left}
 use Rattle.rtsp_transport.specs.TransportReading.{parameter_of}
-use Rattle.rtsp_text.proofs.EachLemmas.{ReadsOn}
+use Rattle.rtsp_transport.proofs.EachPart.{left_len, ReadsOn}
 use Rattle.rtsp_transport.proofs.spec.Parameter.read_each.Given as goal
 
-abbrev pub invariant-loop-part : goal.invariant-loop-part
-invariant-loop-part l = ReadsOn parameter_of l.parts l.part-index l.parameters
+abbrev pub invariant-parts : goal.invariant-parts
+invariant-parts l = ReadsOn parameter_of (parts_left 59 (held l.fn.parts)) (parts_left 59 (held l.left)) l.parameters
+
+abbrev pub decreases-parts : goal.decreases-parts
+decreases-parts l = left_len (held l.left)
