@@ -271,7 +271,7 @@ def folders_that_are_none(checks: Checks) -> None:
     if os.geteuid() or subprocess.run(["setpriv", "--reuid=65534", str(TRIED), "stdio"], input=b"").returncode == 0:
         refused(checks, Elsewhere, lambda path: path.mkdir(0o500), b"Permission denied (os error 13)")
     else:
-        print("the program can't be run as another user here, so another one's folder isn't tried")
+        checks.skip("a folder of another user", "the program can't be run as another one here")
 
 
 @serving_test(limit=60)
@@ -285,7 +285,7 @@ def a_folder_that_becomes_read_only(checks: Checks) -> None:
     server.environment = disk.environment
     if os.geteuid() == 0:
         if subprocess.run(["setpriv", "--reuid=65534", str(TRIED), "stdio"], input=b"").returncode:
-            print("the program can't be run as another user here, so a folder that becomes read-only isn't tried")
+            checks.skip("a folder that becomes read-only", "the program can't be run as another user here")
             server.folder.cleanup()
             return
         os.chown(folder, 65534, 65534)

@@ -1,12 +1,11 @@
 """GStreamer as a distribution has it, by RTSP 2.0, where the configuration's players are such.
 
-Where its tools, or its element rtspsrc, aren't installed, the tests say that they are left out, and pass.
+Where its tools, or its element rtspsrc, aren't installed, the tests are left out, which ./test counts.
 """
 import os
 import pathlib
 import pty
 import re
-import shutil
 import subprocess
 import time
 from typing import Any, List, NamedTuple, Sequence, Tuple
@@ -30,14 +29,13 @@ END = 'Got EOS from element "pipeline0".'
 STARTS_AND_ENDS = 6.0
 
 
-def is_here(*tools: str) -> bool:
-    """Whether the tools, and rtspsrc, are installed; where they aren't, says so."""
-    for tool in ("gst-inspect-1.0", *tools):
-        if not shutil.which(tool):
-            print(f"{tool} isn't installed: it is left out")
-            return False
+def is_here(checks: Checks, tool: str) -> bool:
+    """Whether a tool, and rtspsrc, are installed; where one isn't, what it would do is left out."""
+    what = f"what {tool} does"
+    if not checks.has(what, "gst-inspect-1.0", tool):
+        return False
     if subprocess.run(["gst-inspect-1.0", "--exists", "rtspsrc"]).returncode:
-        print("GStreamer has no rtspsrc: it is left out")
+        checks.skip(what, "rtspsrc isn't installed: tests/install")
         return False
     return True
 
@@ -107,7 +105,7 @@ def whole_plays(server: Server, way: str) -> int:
 
 
 def plays_of(checks: Checks, way: str) -> None:
-    if not is_here("gst-launch-1.0"):
+    if not is_here(checks, "gst-launch-1.0"):
         return
     with Server(checks, SHORT, pairs=4 * AT_ONCE, uplink=10**9, players=PLAYERS) as server:
         checks.same(f"plays over {way} of {PLAYS}", PLAYS, whole_plays(server, way))
@@ -131,7 +129,7 @@ PATIENT, LONG = 10, Presentation(units=1_550)
 @serving_test(limit=60, is_timed=True)
 def gstreamer_plays_longer_than_the_timeout(checks: Checks) -> None:
     """Over the connection, where it sends nothing but RTCP while it plays."""
-    if is_here("gst-launch-1.0"):
+    if is_here(checks, "gst-launch-1.0"):
         with Server(checks, LONG, timeout=PATIENT, players=PLAYERS) as server:
             checks.that(f"{seconds_of(LONG)} s with a timeout of {PATIENT} s", begun(server, "tcp", 0).ends_whole())
 
@@ -232,21 +230,21 @@ def watched(checks: Checks, where: str, keys: Sequence[Tuple[float, bytes]], mor
 
 @serving_test(limit=40, is_timed=True)
 def gstreamer_player_plays_to_its_end(checks: Checks) -> None:
-    if is_here("gst-play-1.0"):
+    if is_here(checks, "gst-play-1.0"):
         it = watched(checks, "gst-play-1.0", [], 0.0)
         checks.that("gst-play-1.0: what it showed last", max(it.positions(), default=0.0) >= 5.5, it.positions()[-5:])
 
 
 @serving_test(limit=40, is_timed=True)
 def gstreamer_player_pauses(checks: Checks) -> None:
-    if is_here("gst-play-1.0"):
+    if is_here(checks, "gst-play-1.0"):
         it = watched(checks, "a pause", [(3.5, SPACE), (6.5, SPACE)], 3.0)
         checks.that("a pause: it takes its three seconds", it.seconds >= seconds_of(MIDDLE) + 3.0, it.seconds)
 
 
 @serving_test(limit=40, is_timed=True)
 def gstreamer_player_seeks(checks: Checks) -> None:
-    if is_here("gst-play-1.0"):
+    if is_here(checks, "gst-play-1.0"):
         it = watched(checks, "a seek", [(3.5, RIGHT)], LATENCY_OF_TOOLS)
         shown = it.positions()
         leaps = [after - before for before, after in zip(shown, shown[1:])]
@@ -255,7 +253,7 @@ def gstreamer_player_seeks(checks: Checks) -> None:
 
 @serving_test(limit=40, is_timed=True)
 def gstreamer_discovers(checks: Checks) -> None:
-    if not is_here("gst-discoverer-1.0"):
+    if not is_here(checks, "gst-discoverer-1.0"):
         return
     with Server(checks, TONE, players=PLAYERS) as server:
         done = subprocess.run(["gst-discoverer-1.0", server.uri], capture_output=True, text=True, timeout=30)

@@ -178,7 +178,7 @@ def a_full_disk(checks: Checks) -> None:
     server = chronicled(checks, holds_signals=True)
     folder = server.path / FOLDER
     if subprocess.run(["mount", "-t", "tmpfs", "-o", "size=64k", "tmpfs", folder], capture_output=True).returncode:
-        print("no file system can be mounted here, so none is filled")
+        checks.skip("a full disk", "no file system can be mounted here")
         server.folder.cleanup()
         return
     with server:

@@ -119,6 +119,9 @@ def tell(checks: Checks, outcome: Outcome) -> None:
     print(f"{how} after {outcome.seconds:4.1f} s{tries}: {outcome.test.name}", flush=True)
     if not checks.that(outcome.test.name, outcome.has_passed) or outcome.tries > 1:
         print("".join(f"  {line}\n" for line in outcome.said.splitlines()), end="", flush=True)
+    # Each try says it.
+    for what in dict.fromkeys(re.findall(r"(?m)^skipped: (.*)$", outcome.said)):
+        print(f"skipped: {outcome.test.name}: {what}", flush=True)
 
 
 def run_beside(script: pathlib.Path, checks: Checks, chosen: List[Test], side_by_side: int) -> None:

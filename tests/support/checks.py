@@ -5,10 +5,11 @@ A test makes `Checks`, calls `same` and `that`, and ends by `run`, which prints 
 import difflib
 import os
 import pathlib
+import shutil
 import subprocess
 import sys
 import traceback
-from typing import Any, Callable, List, NoReturn
+from typing import Any, Callable, List, NoReturn, Set
 
 TOP = pathlib.Path(__file__).resolve().parent.parent.parent
 EXAMPLES = TOP / "examples"
@@ -42,6 +43,7 @@ class Checks:
         self.what = what
         self.made = 0
         self.faults = 0
+        self.left_out: Set[str] = set()
 
     def same(self, where: str, wanted: Any, came: Any) -> bool:
         self.made += 1
@@ -63,6 +65,21 @@ class Checks:
             self.faults += 1
             print(f"not so: {where}{'' if came is None else f'; what came is {came!r}'}")
         return holds
+
+
+    def skip(self, what: str, why: str) -> None:
+        """Says, once, that something isn't tried here: a line that ./test counts."""
+        if what not in self.left_out:
+            self.left_out.add(what)
+            print(f"skipped: {what}, since {why}")
+
+    def has(self, what: str, *tools: str) -> bool:
+        """Whether the commands that something takes are here; where one isn't, it is left out."""
+        for tool in tools:
+            if not shutil.which(tool):
+                self.skip(what, f"{tool} isn't installed: tests/install")
+                return False
+        return True
 
 
 def run(checks: Checks, test: Callable[[], None]) -> NoReturn:

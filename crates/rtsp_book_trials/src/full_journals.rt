@@ -23,8 +23,7 @@ const SHORT: Whole = Whole {
 };
 
 // A shared seat makes room for its step.
-// Each renewal but the first finds the journal full; a seat is made for it, and that draws a number, as
-// each checkpoint does.
+// Each renewal but the first finds the journal full, and each checkpoint spends a number.
 const ROOM_MADE: &str = "> open 2 1 1 60000
 open 2 00000000000000000000000000000001 1 60000
 > rate 2 3
@@ -38,13 +37,13 @@ add 2 3 0 0 00000003 0 0 7f000001 8000 8001
 renewed 3
 > finish
 > journal
-6 open 2 00000000000000000000000000000001 1 60002
-6 hold 2 3 rate 80000
-6 hold 2 3 pair 5000
-6 add 2 3 0 0 00000003 0 0 7f000001 8000 8001
+4 open 2 00000000000000000000000000000001 1 60002
+4 hold 2 3 rate 80000
+4 hold 2 3 pair 5000
+4 add 2 3 0 0 00000003 0 0 7f000001 8000 8001
 0 touch 2 60002 60003
 > numbers
-entries 5 owed 4 rounds 3 next 7
+entries 5 owed 4 rounds 3 next 5
 ";
 
 // A session with a SETUP under way keeps its entries in a full journal.
@@ -64,7 +63,7 @@ renewed 5
 0 touch 2 60003 60004
 0 touch 2 60004 60005
 > numbers
-entries 7 owed 2 rounds 1 next 4
+entries 7 owed 2 rounds 1 next 3
 ";
 
 // Room for a session with a stream, and what it is owed.

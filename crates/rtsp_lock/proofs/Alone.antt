@@ -6,7 +6,7 @@ use Rattle.rtsp_record.specs.declared.changes.Entry.{Entry}
 use Rattle.rtsp_record.specs.declared.holdings.Whole.{Whole}
 use Rattle.rtsp_lock.specs.declared.view.View.{View}
 use Rattle.rtsp_lock.specs.Rule.{OnlySeat, EachAlone, first_view}
-use Rattle.rtsp_lock.specs.Steps.{settled, parent, child}
+use Rattle.rtsp_lock.specs.Steps.{settled_with, parent, child}
 use Rattle.rtsp_lock.proofs.Views.{each_set, each_snoc}
 
 -- where there is one view, it is at one place
@@ -29,10 +29,10 @@ alone_set j views id v u all at same holds k x e =
     (λ _ there a. let o = all k x there a in record { one = length-set views id u ∙ o.one; seen = o.seen })
 
 -- the holder gives the book back, and has seen what it left
-pub alone_gives : (j : List Entry) (views : List View) (id : ℕ) (v : View) → EachAlone j views → get_elem? views id ≡ some v → EachAlone v.left (set views id (settled v))
-alone_gives j views id v all at k x e =
-    each_set (λ (y : View). y.alone ≡ true → OnlySeat v.left (set views id (settled v)) y) views id k (settled v) x e
-    (λ _ a. record { one = length-set views id (settled v) ∙ (all id v at a).one; seen = λ _. refl })
+pub alone_gives : (d : List ℕ) (j : List Entry) (views : List View) (id : ℕ) (v : View) → EachAlone j views → get_elem? views id ≡ some v → EachAlone v.left (set views id (settled_with d v))
+alone_gives d j views id v all at k x e =
+    each_set (λ (y : View). y.alone ≡ true → OnlySeat v.left (set views id (settled_with d v)) y) views id k (settled_with d v) x e
+    (λ _ a. record { one = length-set views id (settled_with d v) ∙ (all id v at a).one; seen = λ _. refl })
     (λ apart there a. absurd (apart (one_place views k id x v (all k x there a).one there at)))
 
 -- where another seat is made, none is alone

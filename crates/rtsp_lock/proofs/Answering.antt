@@ -65,6 +65,7 @@ pub record After (v v' : View) (s : List Entry) (k k' : History) (es : List Entr
   pub history : v'.history ≡ s ++ es
   pub drawn : IsPrefix v.drawn v'.drawn
   pub alone : v'.alone ≡ v.alone
+  pub cut : v'.cut ≡ v.cut
 
 pub after : (v v' v1 v2 : View) (s : List Entry) (k k' : History) (es : List Entry) → v1 ≡ held_as v s k → v2 ≡ noted_as v1 k' → v' ≡ settled v2 → drop (length k.journal) k'.journal ≡ es
     → After v v' s k k' es × (v'.drawn ≡ v.drawn ++ numbers k.next (k'.next - k.next))
@@ -80,13 +81,14 @@ after v v' v1 v2 s k k' es held noted put more =
         history = ap (λ (x : View). x.history) e ∙ ap (λ (l : List Entry). s ++ l) more;
         drawn = (numbers k.next (k'.next - k.next), sym (ap (λ (x : View). x.drawn) e));
         alone = ap (λ (x : View). x.alone) e;
+        cut = ap (λ (x : View). x.cut) e;
       },
       ap (λ (x : View). x.drawn) e,
     )
 
 -- the same, told of the seat as it was before
-pub after_alone : {v v' : View} {s : List Entry} {k k' : History} {es : List Entry} → After v v' s k k' es → After v (record v' { alone = v.alone }) s k k' es
-after_alone a = record { whole = a.whole; actor = a.actor; seen = a.seen; rounds = a.rounds; mine = a.mine; next = a.next; history = a.history; drawn = a.drawn; alone = refl }
+pub after_alone : {v v' : View} {s : List Entry} {k k' : History} {es : List Entry} → After v v' s k k' es → After v (record v' { alone = v.alone; cut = v.cut }) s k k' es
+after_alone a = record { whole = a.whole; actor = a.actor; seen = a.seen; rounds = a.rounds; mine = a.mine; next = a.next; history = a.history; drawn = a.drawn; alone = refl; cut = refl }
 
 -- what stands behind what was found, where entries were added
 pub added_is : (j j' es : List Entry) → j' ≡ j ++ es → drop (length j) j' ≡ es
@@ -105,7 +107,7 @@ pub unnoted : (v v1 : View) (s : List Entry) (k : History) → v1 ≡ held_as v 
 unnoted v v1 s k held = held ∙ sym (ap (λ (x : View). noted_as x k) held)
 
 -- the same where a seat was made
-pub after_cut : (v v' v1 v2 v3 : View) (s : List Entry) (k k' : History) → v1 ≡ held_as v s k → v2 ≡ noted_as v1 k' → v3 ≡ parent v2 → v' ≡ settled v3 → k'.journal ≡ k.journal → After v (record v' { alone = v.alone }) s k k' []
+pub after_cut : (v v' v1 v2 v3 : View) (s : List Entry) (k k' : History) → v1 ≡ held_as v s k → v2 ≡ noted_as v1 k' → v3 ≡ parent v2 → v' ≡ settled v3 → k'.journal ≡ k.journal → After v (record v' { alone = v.alone; cut = v.cut }) s k k' []
 after_cut v v' v1 v2 v3 s k k' held noted cut put same =
     let e : v' ≡ settled (parent (noted_as (held_as v s k) k')) = put ∙ ap settled (cut ∙ ap parent (noted ∙ ap (λ (x : View). noted_as x k') held)) in
     record {
@@ -118,6 +120,7 @@ after_cut v v' v1 v2 v3 s k k' held noted cut put same =
       history = ap (λ (x : View). x.history) e ∙ ap (λ (l : List Entry). s ++ l) (same_is k.journal k'.journal same);
       drawn = (numbers k'.next (k'.next - k'.next), sym (ap (λ (x : View). x.drawn) e));
       alone = refl;
+      cut = refl;
     }
 
 -- what a seat has follows once its own entries stand behind the history
@@ -147,6 +150,7 @@ stays v v' s k k' es a follows told own whole lawful fits left up abreast =
       actor = a.actor;
       next = omega (arith, le, up, next);
       drawn = a.drawn;
+      cut = a.cut;
       stands = subst (λ (j : List Entry). Found v' j v'.seen_rounds) (sym a.seen) (subst (λ (q : ℕ). Found v' k'.journal q) (sym a.rounds) (record { legal = l.0; limit = l.1; later = later; mine = mine }));
       follows = follows_now v v' s k k' es a follows told own;
       abreast = subst (λ (j : List Entry). Abreast v v'.seen_rounds j v'.history) (sym a.seen)
@@ -336,6 +340,8 @@ makes v v' v1 v2 v3 u s k k' n most held noted cut put made whole lawful fits fr
       };
       mine = mine;
       drawn = ap (λ (x : View). x.drawn) f;
+      cut = ap (λ (x : View). x.cut) p ∙ ap (λ (a : ℕ). v.cut ++ a ∷ []) (sym is);
+      uncut = ap (λ (x : View). x.cut) f;
       alone = (ap (λ (x : View). x.alone) p, ap (λ (x : View). x.alone) f);
       stands = subst (λ (j : List Entry). Found u j u.seen_rounds) (sym seen) (record {
         legal = l.0;

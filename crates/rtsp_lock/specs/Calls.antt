@@ -54,13 +54,14 @@ pub record Found (v : View) (j : List Entry) (r : ℕ) : Type 0 where
   pub later : Later v.seen_rounds v.seen r j
   pub mine : LeftOf v.mine (entries_of v.actor j)
 
--- the seat is the same actor's, of the same whole, and its next number is no lower; no number that it drew is lost; what it has now seen is
--- such a journal, with its history, and in the same round both have grown alike
+-- the seat is the same actor's, of the same whole, and its next number is no lower; no number that it drew is lost; no seat was split off from
+-- it; what it has now seen is such a journal, with its history, and in the same round both have grown alike
 pub record Stays (v v' : View) : Type 0 where
   pub whole : v'.whole ≡ v.whole
   pub actor : v'.actor ≡ v.actor
   pub next : v.next ≤ v'.next
   pub drawn : IsPrefix v.drawn v'.drawn
+  pub cut : v'.cut ≡ v.cut
   pub stands : Found v' v'.seen v'.seen_rounds
   pub follows : Follows v' v'.history v'.seen
   pub abreast : Abreast v v'.seen_rounds v'.seen v'.history
@@ -94,9 +95,9 @@ pub record Looked (v v' : View) : Type 0 where
   pub alone : StaysAlone v v' journal
   pub stays : Stays v v'
 
--- a seat's view as after a look at the journal found, but that another seat was made, so that it is alone no more
+-- a seat's view as after a look at the journal found, but that another seat was split off from it, so that it is alone no more
 abbrev pub LookedAndMade : View → View → Type 0
-LookedAndMade v v' = Looked v (record v' { alone = v.alone })
+LookedAndMade v v' = Looked v (record v' { alone = v.alone; cut = v.cut })
 
 -- a number was drawn: the next one found, none of those that the seat had drawn
 pub record Drew (v v' : View) (n : ℕ) : Type 0 where
@@ -105,7 +106,7 @@ pub record Drew (v v' : View) (n : ℕ) : Type 0 where
   pub drawn : v'.drawn ≡ v.drawn ++ n ∷ []
   pub next : v'.next ≡ n + 1
 
--- a seat was made, with the next number found as its actor and nothing of its own yet
+-- a seat was made, and no other, with the next number found as its actor and nothing of its own yet
 pub record Made (v v' u : View) : Type 0 where
   pub whole : u.whole ≡ v.whole
   pub other : u.actor ≢ v.actor
@@ -118,6 +119,8 @@ pub record Made (v v' u : View) : Type 0 where
   pub history : u.history ≡ v'.history
   pub mine : u.mine ≡ []
   pub drawn : u.drawn ≡ []
+  pub cut : v'.cut ≡ v.cut ++ u.actor ∷ []
+  pub uncut : u.cut ≡ []
   pub alone : (v'.alone ≡ false) × (u.alone ≡ false)
   pub stands : Found u u.seen u.seen_rounds
   pub follows : Follows u u.history u.seen

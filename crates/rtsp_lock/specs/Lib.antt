@@ -5,4 +5,5 @@ pub mod Named
 pub mod Calls
 pub mod Handing
 pub mod Tallies
+pub mod Room
 pub mod Laws

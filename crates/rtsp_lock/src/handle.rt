@@ -2,7 +2,8 @@
 
 ghost use Rattle.std.specs.Prelude.{◌≡◌, ◌⊎◌, IfSome, IfNone};
 ghost use Rattle.std.specs.Arc.{arc_value};
-ghost use Rattle.rtsp_lock.specs.Calls.{IsSeatOf, SameSeat, Looked, LookedAndMade, Drew, Forgot, Checked, Relieved, Made, seat_view};
+ghost use Rattle.rtsp_lock.specs.Calls.{IsSeatOf, SameSeat, KnowsSame, KeepsEntries, IsSharedAs};
+ghost use Rattle.rtsp_lock.specs.Calls.{Looked, LookedAndMade, Drew, Forgot, Checked, Relieved, Made, seat_view};
 ghost use Rattle.rtsp_lock.specs.Tallies.{IsTallyOf};
 
 use crate::lock::BookLock;
@@ -35,8 +36,11 @@ impl BookHandle {
         ensures same { SameSeat self.old.seat self.new.seat }
         ensures lock { arc_value self.new.lock ≡ arc_value self.old.lock }
         ensures other { IfSome result (λ h. arc_value h.lock ≡ arc_value self.old.lock) }
+        ensures shared { IfSome result (λ h. IsSharedAs self.old.seat self.new.seat × IsSharedAs self.old.seat h.seat) }
+        ensures knows { IfNone result (KnowsSame self.old.seat self.new.seat) }
         ensures looked { IfSome result (λ h. LookedAndMade (seat_view self.old.seat) (seat_view self.new.seat)) }
         ensures made { IfSome result (λ h. Made (seat_view self.old.seat) (seat_view self.new.seat) (seat_view h.seat)) }
+        ensures uncut { IfNone result ((seat_view self.new.seat).cut ≡ (seat_view self.old.seat).cut) }
         ensures none { IfNone result ((seat_view self.new.seat ≡ seat_view self.old.seat) ⊎ LookedAndMade (seat_view self.old.seat) (seat_view self.new.seat)) }
     {
         let lock = Arc::try_clone(&self.lock).ok()?;
@@ -47,6 +51,7 @@ impl BookHandle {
     /// A number that no seat has drawn, if one is left.
     pub fn draw<R: Wait>(&mut self, rt: &R) -> Option<u64>
         ensures same { SameSeat self.old.seat self.new.seat }
+        ensures knows { KnowsSame self.old.seat self.new.seat }
         ensures lock { arc_value self.new.lock ≡ arc_value self.old.lock }
         ensures looked { Looked (seat_view self.old.seat) (seat_view self.new.seat) }
         ensures drawn { IfSome result (λ n. Drew (seat_view self.old.seat) (seat_view self.new.seat) n) }
@@ -60,6 +65,7 @@ impl BookHandle {
     /// their next packet.
     pub fn forget<R: Wait>(&mut self, rt: &R)
         ensures same { SameSeat self.old.seat self.new.seat }
+        ensures knows { KnowsSame self.old.seat self.new.seat }
         ensures lock { arc_value self.new.lock ≡ arc_value self.old.lock }
         ensures forgot { Forgot (seat_view self.old.seat) (seat_view self.new.seat) }
     {
@@ -70,6 +76,7 @@ impl BookHandle {
     /// by what makes it as it is, in place of all that it did.
     pub fn checkpoint<R: Wait>(&mut self, rt: &R)
         ensures same { SameSeat self.old.seat self.new.seat }
+        ensures knows { KnowsSame self.old.seat self.new.seat }
         ensures lock { arc_value self.new.lock ≡ arc_value self.old.lock }
         ensures checked { Checked (seat_view self.old.seat) (seat_view self.new.seat) }
     {
@@ -80,6 +87,7 @@ impl BookHandle {
     /// due. Where none is, the lock is held for a moment only.
     pub fn relieve<R: Wait>(&mut self, rt: &R, above: usize) -> bool
         ensures same { SameSeat self.old.seat self.new.seat }
+        ensures knows { KnowsSame self.old.seat self.new.seat }
         ensures lock { arc_value self.new.lock ≡ arc_value self.old.lock }
         ensures relieved { Relieved above result (seat_view self.old.seat) (seat_view self.new.seat) }
     {
@@ -89,6 +97,7 @@ impl BookHandle {
     /// The book's figures, all of one moment. The lock is held for a moment only.
     pub fn tally<R: Wait>(&mut self, rt: &R) -> Tally
         ensures same { SameSeat self.old.seat self.new.seat }
+        ensures knows { KnowsSame self.old.seat self.new.seat }
         ensures lock { arc_value self.new.lock ≡ arc_value self.old.lock }
         ensures looked { Looked (seat_view self.old.seat) (seat_view self.new.seat) }
         ensures shown { IsTallyOf (seat_view self.new.seat).whole (seat_view self.new.seat).seen result }
@@ -100,6 +109,7 @@ impl BookHandle {
     /// calls that are for that. See `BookSeat::keep_entries`.
     pub fn keep_entries(&mut self)
         ensures same { SameSeat self.old.seat self.new.seat }
+        ensures kept { KeepsEntries self.old.seat self.new.seat }
         ensures lock { self.new.lock ≡ self.old.lock }
         ensures view { seat_view self.new.seat ≡ seat_view self.old.seat }
     {

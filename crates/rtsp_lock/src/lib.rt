@@ -13,7 +13,7 @@
 //!
 //! The definitions of `specs/` read in this order: Entries (whose they are, and what a history is),
 //! Rule (what the lock keeps over all seats), Steps (what a step of the lock tells its seat), Named,
-//! Calls (what the calls promise), Handing (what is handed out of the history), Tallies, Laws (what
+//! Calls (what the calls promise), Handing (what is handed out of the history), Tallies, Room, Laws (what
 //! holds over many calls).
 
 #![tactic(auto)]

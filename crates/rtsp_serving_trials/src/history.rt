@@ -5,7 +5,9 @@ ghost use Rattle.rtsp_lock.specs.Calls.{IsSeatOf, SameSeat};
 
 use crate::steps::{self, Scene, Step};
 use rtsp_book::{Life, PlainBook, Receipt};
-use rtsp_chronicle::{Chronicler, JournalSink, MemorySink, Pause, Plan, Turned, run_scribe};
+use rtsp_chronicle::{
+    Chronicler, JournalSink, MemorySink, Pause, Plan, Turned, last_turn, run_scribe,
+};
 use rtsp_journal_text::read_journal;
 use rtsp_lock::{BookLock, BookSeat, Then, open};
 use rtsp_record::{Entry, Id, Whole};
@@ -112,10 +114,17 @@ impl History {
             .turn(rt, &mut self.own, &self.lock, Then::Forget, sink)
     }
 
-    /// Writes what is new to other files.
+    /// Writes what is new to other files, as at an end.
     pub fn write_to<R: Wait, S: JournalSink>(&mut self, rt: &R, sink: &mut S) -> Turned {
-        self.chronicler
-            .turn(rt, &mut self.own, &self.lock, Then::Forget, sink)
+        last_turn(
+            rt,
+            &mut self.own,
+            &self.lock,
+            &mut self.chronicler,
+            sink,
+            Then::Forget,
+            true,
+        )
     }
 
     /// Writes by a scribe, until that is told to stop.

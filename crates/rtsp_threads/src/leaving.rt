@@ -1,8 +1,15 @@
 //! Ends sessions whose connection has ended, or whose time is over, or that are left at the end.
 
-ghost use Rattle.std.specs.Prelude.{◌≡◌, IfSome};
+ghost use Rattle.std.specs.Prelude.{◌≡◌, ℕ, false, IfSome};
 ghost use Rattle.std.specs.FinMap.{empty};
+ghost use Rattle.std.specs.Arc.{arc_value};
 ghost use Rattle.rtsp_record.specs.Books.{book_of};
+ghost use Rattle.rtsp_book.specs.declared.steps.Step.TheVariants.{Expire, Hangup};
+ghost use Rattle.rtsp_lock.specs.Calls.{seat_view, SameSeat};
+ghost use Rattle.rtsp_admit.specs.Runs.{state_of};
+ghost use Rattle.rtsp_expiry.specs.Sweeps.{Sweeps};
+ghost use Rattle.rtsp_expiry.specs.Endings.{NoneExpired, NoneOn};
+ghost use Rattle.rtsp_threads.specs.Leaving.{EndsNext, SweepsAll};
 
 use crate::limits::SWEEP_SESSIONS;
 use rtsp_book::Kept;
@@ -17,7 +24,12 @@ fn hang_up_some<R: Wait, B: Binder>(
     handle: &mut BookHandle,
     binder: &mut B,
     conn: u64,
-) -> Swept {
+) -> Swept
+    ensures same { SameSeat handle.old.seat handle.new.seat }
+    ensures lock { arc_value handle.new.lock ≡ arc_value handle.old.lock }
+    ensures run { (limit : ℕ) × Sweeps B.calls (Hangup conn) limit result (state_of handle.old.seat binder.old) (state_of handle.new.seat binder.new) }
+    ensures none { result.more ≡ false → NoneOn conn (seat_view handle.new.seat) }
+{
     hang_up(
         rt,
         &mut handle.seat,
@@ -34,7 +46,12 @@ fn sweep_some<R: Wait, B: Binder>(
     handle: &mut BookHandle,
     binder: &mut B,
     now: u64,
-) -> Swept {
+) -> Swept
+    ensures same { SameSeat handle.old.seat handle.new.seat }
+    ensures lock { arc_value handle.new.lock ≡ arc_value handle.old.lock }
+    ensures run { (limit : ℕ) × Sweeps B.calls (Expire now) limit result (state_of handle.old.seat binder.old) (state_of handle.new.seat binder.new) }
+    ensures none { result.more ≡ false → NoneExpired now (seat_view handle.new.seat) }
+{
     sweep(
         rt,
         &mut handle.seat,
@@ -52,16 +69,21 @@ pub fn take_leave<R: Wait, B: Binder>(
     handle: &mut BookHandle,
     binder: &mut B,
     conn: u64,
-) -> bool {
+) -> bool
+    ensures same { SameSeat handle.old.seat handle.new.seat }
+    ensures lock { arc_value handle.new.lock ≡ arc_value handle.old.lock }
+    ensures run { SweepsAll B.calls (Hangup conn) (state_of handle.old.seat binder.old) (state_of handle.new.seat binder.new) }
+    ensures none { NoneOn conn (seat_view handle.new.seat) }
+{
     let mut has_ended = false;
     for _ in rt.forever() {
         let swept = hang_up_some(rt, handle, binder, conn);
         has_ended = has_ended || swept.ended > 0;
         if !swept.more {
-            break;
+            return has_ended;
         }
     }
-    has_ended
+    unreachable!()
 }
 
 /// Ends the session of the least number of those that have expired at this moment, in milliseconds, and
@@ -71,7 +93,11 @@ pub fn end_next_expired<R: Wait, B: Binder>(
     handle: &mut BookHandle,
     binder: &mut B,
     now: u64,
-) -> Option<u64> {
+) -> Option<u64>
+    ensures same { SameSeat handle.old.seat handle.new.seat }
+    ensures lock { arc_value handle.new.lock ≡ arc_value handle.old.lock }
+    ensures ends { EndsNext B.calls now result (state_of handle.old.seat binder.old) (state_of handle.new.seat binder.new) }
+{
     sweep(rt, &mut handle.seat, &handle.lock, binder, now, 1).last
 }
 
@@ -82,16 +108,21 @@ pub fn end_expired<R: Wait, B: Binder>(
     handle: &mut BookHandle,
     binder: &mut B,
     now: u64,
-) -> u64 {
+) -> u64
+    ensures same { SameSeat handle.old.seat handle.new.seat }
+    ensures lock { arc_value handle.new.lock ≡ arc_value handle.old.lock }
+    ensures run { SweepsAll B.calls (Expire now) (state_of handle.old.seat binder.old) (state_of handle.new.seat binder.new) }
+    ensures none { NoneExpired now (seat_view handle.new.seat) }
+{
     let mut ended = 0u64;
     for _ in rt.forever() {
         let swept = sweep_some(rt, handle, binder, now);
         ended = ended.saturating_add(u64::from(swept.ended));
         if !swept.more {
-            break;
+            return ended;
         }
     }
-    ended
+    unreachable!()
 }
 
 /// Ends the sessions that are left, once no thread serves them any more, and gives the book up. `None`
