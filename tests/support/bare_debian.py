@@ -16,7 +16,7 @@ install -d -m 700 -o nobody /var/lib/rtspd
 keys='access_log = true\nstatus = "127.0.0.1:29554"\njournal_files = "/var/lib/rtspd"\njournal_period = 50'
 sed "s|^\[server\]|&\n$keys|" /etc/rtspd.toml > /tmp/seen.toml
 grep -q journal_period /tmp/seen.toml
-run="setpriv --reuid=nobody --regid=nogroup --clear-groups env --block-signal=TERM,INT"
+run="setpriv --reuid=nobody --regid=nogroup --clear-groups env --block-signal=TERM,INT,HUP"
 $run rtspd serve --config /tmp/seen.toml --listen 127.0.0.1:28554 > /tmp/out 2> /tmp/errors &
 for _ in $(seq 50); do grep -q listening /tmp/out && break; sleep 0.1; done
 exec 3<> /dev/tcp/127.0.0.1/28554

@@ -1,7 +1,8 @@
 """What three texts say of each key of the configuration: docs/REFERENCE.md, the manual's rtspd.toml(5), and the
-comments of examples/commented.toml."""
+comments of examples/commented.toml; and which keys the program and explain-configuration know."""
+import ast
 import re
-from typing import Dict, Iterator, List, NamedTuple, Optional, Tuple
+from typing import Dict, Iterator, List, NamedTuple, Optional, Set, Tuple
 
 # Its table, without brackets, and its name.
 Key = Tuple[str, str]
@@ -64,6 +65,23 @@ def of_manual(text: str) -> Dict[Key, str]:
         for item in re.findall(r"(?ms)^\.It Ic (\w+)\n(.*?)(?=^\.)", part) if head else []:
             found[head[1], item[0]] = " ".join(item[1].split())
     return found
+
+
+def of_explanations(script: str) -> List[Key]:
+    """The keys of explain-configuration, by its tables."""
+    tables = {"SERVER": "server", "PRESENTATION": "presentation", "TRACK": "presentation.track"}
+    found: List[Key] = []
+    for part in ast.parse(script).body:
+        name = getattr(part.targets[0], "id", "") if isinstance(part, ast.Assign) else ""
+        if name in tables:
+            found += [(tables[name], ast.literal_eval(key)) for key in part.value.keys]
+    return found
+
+
+def of_program(code: str) -> Set[str]:
+    """The keys that the program's code reads, without the tables that have them."""
+    read = re.findall(r'\b(\w+)_at(?:_or)?\(\s*(?:alloc,\s*)?\w+,\s*"(\w+)"', code)
+    return {key for form, key in read if form not in ("table", "list")}
 
 
 def blocks(text: str) -> Iterator[Tuple[str, str, List[str]]]:

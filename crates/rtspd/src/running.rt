@@ -17,7 +17,7 @@ use rtsp_server::whole_of;
 use rtsp_undo::{AuditFault, replay, rewind, without_admission, without_ended, without_session};
 use std::alloc::Global;
 use std::fs::File;
-use std::io::{self, Eprint, ErrorKind, Read, Write};
+use std::io::{self, ErrorKind, Read, Write};
 use std::net::{Net, TcpListener, TcpStream};
 use std::random::RandomSource;
 use std::rt::Files;
@@ -54,7 +54,6 @@ pub fn run_program<
         + Wait
         + Net<Listener = TcpListener, Stream = TcpStream>
         + rt::Clock
-        + Eprint
         + RandomSource
         + Sync,
     I: Read + Drop,
