@@ -9,13 +9,14 @@ import tempfile
 import tomllib
 from typing import Any, Dict, List, NamedTuple
 
+from command import called, is_installed
+
 EXPLAIN = pathlib.Path(__file__).resolve().parent.parent.parent / "explain-configuration"
 NAME = re.compile(r"[a-z0-9_-]{1,64}")
 MOST_PRESENTATIONS = 256
 # IP, UDP and RTP, as the server counts them into a stream's rate.
 HEADERS = 40
 NEW_CONFIGURATION = """\
-# Made by examples/import. docs/REFERENCE.md says what the keys mean.
 [server]
 first_port = 5000
 pairs = 1024
@@ -25,6 +26,11 @@ media = "media"
 # Other players are answered as without it.
 players = "gstreamer"
 """
+
+
+def new_configuration() -> str:
+    keys = "rtspd.toml(5)" if is_installed() else "docs/REFERENCE.md"
+    return f"# Made by {called('examples/import')}. {keys} says what the keys mean.\n{NEW_CONFIGURATION}"
 
 
 class Refused(Exception):
@@ -71,7 +77,7 @@ class Configuration:
         if not path.parent.is_dir():
             raise Refused(f"{path.parent} is no folder, so {path} can't be there")
         self.is_new = not path.exists()
-        self.text = NEW_CONFIGURATION if self.is_new else path.read_text()
+        self.text = new_configuration() if self.is_new else path.read_text()
         try:
             self.document: Dict[str, Any] = tomllib.loads(self.text)
         except tomllib.TOMLDecodeError as why:

@@ -1,5 +1,5 @@
-"""A server that is asked to end, by SIGTERM or SIGINT that it holds back: what is in hand is answered, everything is hung
-up, and it ends with status 0 within 3 s, whatever players do."""
+"""A server that is asked to end, by SIGTERM, SIGINT or SIGHUP that it holds back: what is in hand is answered, everything
+is hung up, and it ends with status 0 within 3 s, whatever players do."""
 import os
 import shutil
 import signal
@@ -13,6 +13,7 @@ from rtsp_client.connection import Refused
 from rtsp_client.messages import written
 from rtsp_client.player import Player, Way
 
+from .histories import audited, chronicled, files, sessions_in, set_up
 from .plays import set_up_all
 from .runner import serving_test
 from .server import Presentation, Server, is_free
@@ -107,6 +108,41 @@ def stops_at_sigint(checks: Checks) -> None:
     stops(checks, signal.SIGINT)
 
 
+@serving_test(limit=30, is_timed=True)
+def stops_at_sighup(checks: Checks) -> None:
+    """The same by SIGHUP, as where a terminal is closed."""
+    stops(checks, signal.SIGHUP)
+
+
+@serving_test(limit=30)
+def a_hangup_writes_the_journal(checks: Checks) -> None:
+    """The last book is in the file after SIGHUP too, and has no session."""
+    with chronicled(checks, holds_signals=True) as server:
+        set_up(server.connect(), server)
+        server.process.send_signal(signal.SIGHUP)
+        ends_cleanly(checks, server)
+        status, book, complaint = audited(server, files(server)[-1])
+        checks.same("the audit", (0, "", []), (status, complaint, sessions_in(book)))
+
+
+class Immune(Server):
+    """A server that was started as `nohup` starts one."""
+
+    def command(self) -> List[str]:
+        return ["env", "--ignore-signal=HUP", *super().command()]
+
+
+@serving_test(limit=30, is_timed=True)
+def a_hangup_that_is_ignored(checks: Checks) -> None:
+    """Where it was ignored before it was held back, as under nohup, it is no stop; SIGTERM is one still."""
+    with Immune(checks, holds_signals=True) as server:
+        server.process.send_signal(signal.SIGHUP)
+        time.sleep(0.5)
+        server.answers("after a hangup")
+        server.process.send_signal(signal.SIGTERM)
+        ends_cleanly(checks, server)
+
+
 def deaf_readers(server: Server) -> List[socket.socket]:
     """Players that ask for much and read nothing."""
     talks = []
@@ -139,7 +175,7 @@ def stops_beside_deaf_readers(checks: Checks) -> None:
 
 @serving_test(limit=30, is_timed=True)
 def stops_at_once(checks: Checks) -> None:
-    """Another signal of the two behind the first ends it at once, beside players that read nothing."""
+    """Another of the signals behind the first ends it at once, beside players that read nothing."""
     with Server(checks, holds_signals=True) as server:
         talks = deaf_readers(server)
         time.sleep(0.5)
@@ -167,10 +203,11 @@ def stops_without_descriptors(checks: Checks) -> None:
 @serving_test(limit=30)
 def ends_where_signals_are_not_held(checks: Checks) -> None:
     """Where nobody holds the signals back the system ends the server at once, as it does any program."""
-    with Server(checks) as server:
-        server.answers("before")
-        server.process.send_signal(signal.SIGTERM)
-        checks.same("the status", -signal.SIGTERM, server.ends(WITHIN))
+    for number in signal.SIGTERM, signal.SIGHUP:
+        with Server(checks) as server:
+            server.answers("before")
+            server.process.send_signal(number)
+            checks.same("the status", -number, server.ends(WITHIN))
 
 
 @serving_test(limit=30)
@@ -184,7 +221,8 @@ def stops_as_process_1(checks: Checks) -> None:
         # The one that the harness has started is done with; its configuration and ports are used again.
         server.process.send_signal(signal.SIGTERM)
         server.ends(WITHIN + 5)
-        command = ["unshare", "--pid", "--fork", "--kill-child", "--mount-proc", "env", "--block-signal=TERM,INT,XFSZ"]
+        alone = ["unshare", "--pid", "--fork", "--kill-child", "--mount-proc"]
+        command = [*alone, "env", "--block-signal=TERM,INT,HUP,XFSZ"]
         with subprocess.Popen(
             [*command, *server.command()], cwd=server.path, stdout=subprocess.PIPE, stdin=subprocess.DEVNULL
         ) as outer:

@@ -177,7 +177,7 @@ def more_pairs_than_connections(checks: Checks) -> None:
     with Server(checks, descriptors=140, pairs=40) as server:
         ready, _, _ = select.select([server.process.stderr], [], [], 1.0)
         told = server.process.stderr.readline() if ready else b""
-        said = re.fullmatch(rb"rtspd: beside the pairs there are descriptors for (\d+) connections\n", told)
+        said = re.fullmatch(rb"\S+Z warning beside the pairs there are descriptors for (\d+) connections\n", told)
         room = int(said[1]) if said else None
         checks.that("it says for how many connections there is room", room is not None and 20 <= room < 40, told)
         left = answered_among(many(server, 60), 3.0)
@@ -186,12 +186,17 @@ def more_pairs_than_connections(checks: Checks) -> None:
 
 @serving_test(limit=30)
 def no_room_for_a_connection(checks: Checks) -> None:
-    """A server whose pairs may take all descriptors doesn't start."""
-    server = Server(checks, descriptors=64, pairs=40)
-    server.write_media()
-    with server.start() as starting:
-        said, complaint = starting.communicate(timeout=10)
-    server.folder.cleanup()
-    why = b"rtspd: files and address are right; a thread, a descriptor or the output failed\n"
-    failed = b"rtspd: read or write failed\n"
-    checks.same("how it ends", (4, b"", failed + why), (starting.returncode, said, complaint))
+    """A server whose pairs may take all descriptors doesn't start, and says how many it wants of what; also where it
+    can't open all that it needs."""
+    wanted = rb"rtspd: (\d+) descriptors are wanted at least, 80 for pairs of ports, "
+    wanted += rb"(\d+) for files, lanes and listeners, and 1 for a connection; the limit is (\d+)\n"
+    for limit in 64, 24:
+        server = Server(checks, descriptors=limit, pairs=40)
+        server.write_media()
+        with server.start() as starting:
+            said, complaint = starting.communicate(timeout=10)
+        server.folder.cleanup()
+        checks.same(f"how it ends with {limit}", (4, b""), (starting.returncode, said))
+        figures = re.fullmatch(wanted, complaint)
+        whole, others, given = map(int, figures.groups()) if figures else (0, 0, 0)
+        checks.that(f"its line with {limit}", whole == 80 + others + 1 and given == limit, complaint)

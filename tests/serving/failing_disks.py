@@ -21,9 +21,10 @@ from .runner import serving_test
 from .server import TONE, TRIED, Presentation, Server
 
 ERRORS = errno.ENOSPC, errno.EDQUOT, errno.EIO, errno.EROFS, errno.EFBIG
-STUCK = b"rtspd: the journal's file takes no more; entries wait\n"
-AGAIN = b"rtspd: the journal is written again\n"
-LOST = b"rtspd: entries of the journal are in no file; a new one begins\n"
+STUCK = b"warning the journal's file takes no more; entries wait"
+AGAIN = b"info the journal is written again"
+LOST = b"warning entries of the journal are in no file; a new one begins"
+STOP_WAITS = b"warning the stop waits for a write to the journal's file"
 # So long a test waits at most for what has to happen within a period.
 PATIENCE = 5.0
 # Where nothing can be written this many entries fit.
@@ -53,13 +54,14 @@ def until(holds: Callable[[], bool]) -> bool:
 
 
 def stops(checks: Checks, server: Server, within: float = 3.0) -> List[bytes]:
-    """Stops the server. The lines that it said of its journal."""
+    """Stops the server. What the lines tell that it said of its journal."""
     server.process.send_signal(signal.SIGTERM)
     began = time.monotonic()
     checks.same("the status", 0, server.ends(within + 10))
     took = time.monotonic() - began
     checks.that(f"it stops within {within} s", took <= within, took)
-    return [it for it in server.process.stderr.read().splitlines(keepends=True) if b"journal" in it or b"entries" in it]
+    told = [it.partition(b" ")[2] for it in server.process.stderr.read().splitlines()]
+    return [it for it in told if b"journal" in it or b"entries" in it]
 
 
 def ends_empty(checks: Checks, server: Server, where: str) -> None:
@@ -346,13 +348,13 @@ def two_servers_over_a_folder(checks: Checks) -> None:
 
 @serving_test(limit=40)
 def a_stop_while_the_disk_blocks(checks: Checks) -> None:
-    """It waits for the write that is under way, and then all is written."""
+    """It waits for the write that is under way, a line says so after its time and a second, and then all is written."""
     with on_a_disk(checks) as (server, disk):
         talk = server.connect()
         session = set_up(talk, server)
         time.sleep(LATE)
-        disk.meet("write", 1, 1, late=4000)
+        disk.meet("write", 1, 1, late=6000)
         talk.ask("PLAY", server.uri, [("Session", session)])
         until(lambda: disk.asked("write") > 0)
-        checks.same("what it tells", [], stops(checks, server, 3.0 + 4.0))
+        checks.same("what it tells", [STOP_WAITS], stops(checks, server, 3.0 + 6.0))
         ends_empty(checks, server, "after a disk that blocked")

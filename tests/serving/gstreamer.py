@@ -140,22 +140,27 @@ def report_on(channel: int) -> bytes:
 
 
 class Reporting(NamedTuple):
-    """A session over a connection that plays, and sends nothing more but frames of a channel."""
+    """A session over a connection that plays, and is sent nothing more but these writes, over and over."""
 
     where: str
     players: str
-    channel: int
+    writes: Tuple[bytes, ...]
     lives: bool
 
 
+REPORT = report_on(1)
 REPORTING = (
-    Reporting("reports of GStreamer", PLAYERS, 1, True),
-    Reporting("frames on the channel of RTP", PLAYERS, 0, False),
-    Reporting("frames on a channel of nobody", PLAYERS, 9, False),
-    Reporting("reports of another player", '"strict"', 1, False),
+    Reporting("reports of GStreamer", PLAYERS, (REPORT,), True),
+    Reporting("reports in two writes", PLAYERS, (REPORT[:7], REPORT[7:]), True),
+    Reporting("reports behind an empty line", PLAYERS, (b"\r\n" + REPORT,), True),
+    Reporting("reports behind frames of RTP", PLAYERS, (report_on(0) + REPORT,), True),
+    Reporting("reports and frames of RTP by turns", PLAYERS, (report_on(0), REPORT), True),
+    Reporting("frames on the channel of RTP", PLAYERS, (report_on(0),), False),
+    Reporting("frames on a channel of nobody", PLAYERS, (report_on(9),), False),
+    Reporting("reports of another player", '"strict"', (REPORT,), False),
 )
-# In seconds; a report comes so often.
-IMPATIENT, EVERY = 2, 0.3
+# In seconds; a write comes so often.
+IMPATIENT, EVERY = 2, 0.15
 
 
 def keeps_reporting(checks: Checks, it: Reporting) -> None:
@@ -166,8 +171,9 @@ def keeps_reporting(checks: Checks, it: Reporting) -> None:
         player.play(0.0)
         until = time.monotonic() + 3 * IMPATIENT
         while time.monotonic() < until:
-            player.connection.send_bytes(report_on(it.channel))
-            player.connection.wait(EVERY)
+            for write in it.writes:
+                player.connection.send_bytes(write)
+                player.connection.wait(EVERY)
         talk = server.connect()
         checks.same(f"{it.where}: the session lives", it.lives, is_alive(talk, server.uri, player.session or ""))
         talk.close()

@@ -207,5 +207,5 @@ def filled(checks: Checks, server: Server, folder: pathlib.Path) -> None:
     server.process.send_signal(signal.SIGTERM)
     checks.same("the status", 0, server.ends(8))
     told = server.process.stderr.read()
-    checks.that("it was told", b"rtspd: the journal's file takes no more; entries wait\n" in told, told)
-    checks.that("and that it is over", b"rtspd: the journal is written again\n" in told, told)
+    checks.that("it was told", b"Z warning the journal's file takes no more; entries wait\n" in told, told)
+    checks.that("and that it is over", b"Z info the journal is written again\n" in told, told)

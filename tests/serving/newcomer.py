@@ -26,6 +26,8 @@ class FirstServer(Server):
         for name in "make-media", "play", "tone.toml":
             shutil.copy(EXAMPLES / name, folder)
         shutil.copytree(EXAMPLES / "rtsp_client", folder / "rtsp_client")
+        (self.path / "tools").mkdir()
+        shutil.copy(TOP / "tools/command.py", self.path / "tools")
         text = (folder / "tone.toml").read_text()
         (folder / "tone.toml").write_text(re.sub("first_port = .*", f"first_port = {self.first_port}", text))
         (self.path / "rtspd").symlink_to(TOP / "rtspd" if IS_LAUNCHED else TRIED)

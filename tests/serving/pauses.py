@@ -1,8 +1,4 @@
-"""What is counted as sent is sent: at each PAUSE and at each seek, also where the server is late.
-
-A request counts by a moment that is read before its lane has the book. Where a busy machine keeps the lane from running in
-between, a packet may have gone that isn't counted, and comes again (docs/OPERATING.md): so each of these is tried again.
-"""
+"""What is counted as sent is sent: at each PAUSE and at each seek, also where the server is late."""
 import multiprocessing
 import os
 import random
@@ -31,6 +27,8 @@ PLAYED = 0.02, 0.08
 SHORT_STOP, LONG_STOP = 0.04, 0.2
 # How often it is stopped.
 STOPS = 20
+# For how long a busy machine keeps a pacer from running at most, in seconds.
+KEPT_FOR = 1.0
 # Players that ask for plays and a PAUSE at once, and how often each does.
 ASKERS, AT_ONCE = 6, 30
 
@@ -95,7 +93,10 @@ class Watched:
         """Holds what came against the point that the answer to a PAUSE tells of, once what was late has come."""
         self.player.connection.wait(made_up_in + UNDER_WAY)
         began = self.plays[-1]
-        self.all_came(began.place + self.first_unit(answer) - began.unit, "the point")
+        count = began.place + self.first_unit(answer) - began.unit
+        # A pacer that is kept from running sends them late; what is lost is missed in each round from then on.
+        self.player.connection.wait(KEPT_FOR, lambda: len(self.stream.reception.places) >= count)
+        self.all_came(count, "the point")
 
     def all_came(self, count: int, where: str) -> None:
         """That so many packets came, each of them once, and none beyond."""

@@ -145,7 +145,10 @@ class Server:
     def start(self) -> "subprocess.Popen[bytes]":
         (self.path / "server.toml").write_text(self.text)
         limit = self.descriptors_allowed or "$(ulimit -Hn)"
-        held = ["--block-signal=TERM,INT,XFSZ"] if self.holds_signals else []
+        # Whoever runs the tests may ignore a hangup.
+        held = ["--default-signal=HUP"]
+        if self.holds_signals:
+            held.append("--block-signal=TERM,INT,HUP,XFSZ")
         given = [*held, *(f"{name}={value}" for name, value in self.environment.items())]
         shell = ["bash", "-c", f'ulimit -n {limit} && exec "$0" "$@"', "env", *given, *self.command()]
         pipes = {"stdout": subprocess.PIPE, "stderr": subprocess.PIPE, "stdin": subprocess.DEVNULL}

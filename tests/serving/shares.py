@@ -1,14 +1,18 @@
 """What one address may have: its share of the sessions and of the connections, and nothing of another's."""
+import collections
 import contextlib
+import select
 import socket
+import statistics
 import threading
 import time
-from typing import Iterator, List, Optional, Tuple
+from typing import Deque, Iterator, List, Optional, Tuple
 
 from checks import Checks, Failed
 from rtsp_client.messages import Message, Reader, written
 
 from .crowds import is_closed_by_server
+from .floods import flooded, seconds_to
 from .runner import serving_test
 from .server import HERE, Presentation, Server, is_alive, lease, leases
 
@@ -37,6 +41,7 @@ class Talk:
     def __init__(self, server: Server, address: str) -> None:
         self.socket = socket_from(server, address)
         self.reader = Reader()
+        self.answers: Deque[Message] = collections.deque()
         self.cseq = 0
 
     def send(self, method: str, uri: str, headers: List[Tuple[str, str]]) -> None:
@@ -44,13 +49,13 @@ class Talk:
         self.socket.sendall(written(f"{method} {uri} RTSP/2.0", [("CSeq", str(self.cseq)), *headers]))
 
     def answer(self) -> Message:
-        while True:
+        while not self.answers:
             piece = self.socket.recv(65536)
             if not piece:
                 raise Failed("the server closed a connection")
-            for item in self.reader.take(piece):
-                if isinstance(item, Message) and item.status is not None:
-                    return item
+            came = self.reader.take(piece)
+            self.answers += [it for it in came if isinstance(it, Message) and it.status is not None]
+        return self.answers.popleft()
 
     def ask(self, method: str, uri: str, headers: List[Tuple[str, str]] = []) -> Message:
         self.send(method, uri, headers)
@@ -228,3 +233,71 @@ def an_address_has_its_share_of_connections(checks: Checks) -> None:
             # The server reads the ends of connections after they have gone.
             server.descriptors_fall_to(before, 5.0)
         checks.same(f"rounds of {ROUNDS} in which its share wasn't to be had", 0, fell_short)
+
+
+# The sessions of an address that has as many as a carrier's, over so many connections, and what it floods.
+MANY, CARRIERS, FLOODS = 2_000, 16, 8
+INTERLEAVED = [("Transport", "RTP/AVP/TCP;unicast;interleaved=0-1")]
+SETTLED = 1.5
+
+
+def sessions_over(talk: Talk, uri: str, count: int) -> int:
+    """How many of so many sessions over a connection are opened, all asked for at once."""
+    talk.socket.sendall(written(f"SETUP {uri} RTSP/2.0", [("CSeq", "1"), *INTERLEAVED]) * count)
+    return sum(talk.answer().status == 200 for _ in range(count))
+
+
+def flood(port: int, uri: str, address: str) -> None:
+    """Asks for one session after another, and reads what comes, until it is ended."""
+    talk = socket.create_connection((HERE, port), timeout=60, source_address=(address, 0))
+    request = written(f"SETUP {uri} RTSP/2.0", [("CSeq", "1"), *INTERLEAVED]) * 100
+    talk.setblocking(False)
+    poll = select.poll()
+    poll.register(talk, select.POLLIN | select.POLLOUT)
+    left = b""
+    while True:
+        for _, events in poll.poll():
+            with contextlib.suppress(BlockingIOError):
+                if events & select.POLLIN and not talk.recv(1 << 20):
+                    return
+                left = left or request
+                left = left[talk.send(left) :]
+
+
+@serving_test(limit=120, is_alone=True)
+def a_spent_share_holds_up_its_own_address(checks: Checks) -> None:
+    """An address that has its 2,000 sessions asks for more on eight connections without end; another one's new sessions
+    and requests are answered within 100 ms, most of them, and all within 300 ms."""
+    most = {"sessions": MANY + 40, "sessions_per_address": MANY, "uplink": 2 * MANY * ONE_TRACK.whole_rate * 2}
+    with Server(checks, ONE_TRACK, **most) as server, talks_from(server, *[ONE] * CARRIERS) as carriers:
+        track = f"{server.uri}/a"
+        held = [sessions_over(talk, track, MANY // CARRIERS) for talk in carriers]
+        checks.same("sessions of its share", MANY, sum(held))
+        with flooded(server, FLOODS, ONE, flood):
+            opened, answered, refused = [], [], 0
+            for _ in range(40):
+                with talks_from(server, OTHER) as (talk,):
+                    answered.append(seconds_to(lambda: talk.ask("OPTIONS", "*")))
+                    statuses: List[Optional[int]] = []
+                    opened.append(seconds_to(lambda: statuses.append(talk.ask("SETUP", track, INTERLEAVED).status)))
+                    refused += statuses != [200]
+        checks.same("the other address's sessions that were refused", 0, refused)
+        for what, took in ("a session", opened), ("an answer", answered):
+            checks.that(f"{what}: most within 100 ms", statistics.median(took) <= 0.1, sorted(took))
+            checks.that(f"{what}: all within 300 ms", max(took) <= 0.3, sorted(took))
+
+
+@serving_test(limit=30)
+def a_large_share_is_given_back(checks: Checks) -> None:
+    """Whichever of its many sessions ends, the address may open one in its place soon, at the first try."""
+    share = 100
+    wide = {"sessions": share + 8, "sessions_per_address": share, "uplink": 2 * share * ONE_TRACK.whole_rate * 2}
+    with Server(checks, ONE_TRACK, **wide) as server, talks_from(server, ONE) as (one,):
+        made = [one.ask("SETUP", f"{server.uri}/a", INTERLEAVED) for _ in range(share)]
+        sessions = [(it.header("Session") or "").partition(";")[0] for it in made if it.status == 200]
+        checks.same("its sessions", share, len(sessions))
+        for number in (0, share // 2, share - 1):
+            checks.same("beyond them", 503, one.ask("SETUP", f"{server.uri}/a", INTERLEAVED).status)
+            checks.same(f"session {number} is ended", 200, tear_down(one, server, sessions[number]))
+            time.sleep(SETTLED)
+            checks.same("one in its place", 200, one.ask("SETUP", f"{server.uri}/a", INTERLEAVED).status)

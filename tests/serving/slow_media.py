@@ -1,5 +1,6 @@
 """Films that aren't held in memory, of which one is on a disk that holds each read up: it is late alone, and comes whole."""
 import re
+import signal
 import time
 from typing import Tuple
 
@@ -31,6 +32,9 @@ LEFT_AT, LEFT_AFTER = 100.0, 0.4
 STOPPED_AT = 200.0
 # Of all streams no more than so many seconds may be under way.
 SOME = 0.1
+# A stop's time and a second are over before such a read comes back.
+LONG_HELD = 5.0
+STOP_WAITS = b"warning the stop waits for a read of a track's file"
 FAILURES = "rtspd_media_failures_total"
 
 
@@ -134,3 +138,20 @@ def a_slow_disk_holds_up_its_own_film(checks: Checks) -> None:
         stops(checks, server, HELD + 3.0)
         for player in cut, slow:
             player.close()
+
+
+@serving_test(limit=60)
+def a_stop_tells_that_media_is_waited_for(checks: Checks) -> None:
+    """Once, a second after its time, where a read of a film is under way that its disk holds up."""
+    server, disk, _ = on_a_slow_disk(checks)
+    with server:
+        disk.meet("read", late=int(LONG_HELD * SECOND))
+        slow = player_of(server, SLOW)
+        slow.play(STOPPED_AT)
+        checks.that("a read is under way", until(lambda: disk.asked("read") > 0))
+        server.process.send_signal(signal.SIGTERM)
+        checks.same("the status", 0, server.ends(LONG_HELD + 5.0))
+        slow.close()
+        told = [it.partition(b" ")[2] for it in server.process.stderr.read().splitlines()]
+        checks.same("the last lines", [STOP_WAITS, b"info stopped"], told[-2:])
+        checks.same("how often", 1, told.count(STOP_WAITS))

@@ -21,9 +21,9 @@ ENOUGH, SOON = 5, 5.0
 ROUNDS = 3
 
 
-def without_threads(checks: Checks, first: int, last: int) -> Tuple[int, Tuple[bool, int, bytes]]:
+def without_threads(checks: Checks, first: int, last: int) -> Tuple[int, Tuple[bool, bool, int, bytes]]:
     """How many threads a server asked for where those from the first to the last were refused, and how it ended:
-    whether it served a connection, its status, and what it wrote on standard error."""
+    whether it said that it listens, and served a connection, its status, and what it wrote on standard error."""
     server = Server(checks, words=("--connections", "1"), workers=LANES)
     faults = Faults(server.path)
     server.environment = faults.environment
@@ -37,19 +37,19 @@ def without_threads(checks: Checks, first: int, last: int) -> Tuple[int, Tuple[b
                 is_served = talk.ask("OPTIONS", "*").status == 200
                 talk.close()
             time.sleep(0.01)
-        _, complaint = running.communicate(timeout=10)
+        said, complaint = running.communicate(timeout=10)
     checks.that("its port is free", is_free(socket.SOCK_STREAM, server.port))
     server.folder.cleanup()
-    return faults.asked("thread"), (is_served, running.returncode, LOGGED.sub(b"", complaint))
+    return faults.asked("thread"), (b"listening" in said, is_served, running.returncode, LOGGED.sub(b"", complaint))
 
 
 @serving_test(limit=60)
 def every_thread_refused_in_turn(checks: Checks) -> None:
     """Without a pacer, the sweeper, the watcher, those of the log, of the figures and of the pool, or all lanes the program
-    ends; it serves where only some lane has no thread."""
+    ends, and never says that it listens; it serves where only some lane has no thread."""
     others = max(len(os.sched_getaffinity(0)) // 2, 1) + 5
     why = b"rtspd: files and address are right; a thread, a descriptor or the output failed\n"
-    ends, serves = (False, 4, b"rtspd: read or write failed\n" + why), (True, 0, b"")
+    ends, serves = (False, False, 4, b"rtspd: read or write failed\n" + why), (True, True, 0, b"")
     for number in range(1, others + LANES + 1):
         for last, needed in (number, others), (FOR_EVER, others + 1):
             asked, came = without_threads(checks, number, last)

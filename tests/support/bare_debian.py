@@ -4,11 +4,13 @@ import pathlib
 import shutil
 import subprocess
 
+import installed_tools
 from checks import Checks, Failed
 
 SUITE = "bookworm"
-# What reads the unit and the manual.
-READERS = "systemd,man-db,mandoc"
+# What the package needs and recommends, and what reads the unit and the manual.
+THERE = "python3,ffmpeg,systemd,man-db,mandoc"
+PAGES = ["rtspd.1", "rtspd.toml.5", *(f"rtspd-{it}.1" for it in installed_tools.NAMES)]
 # What whoever runs the server may want: to be seen at its work by the keys that are for that, and stopped.
 SEEN = r'''
 set -eu
@@ -16,7 +18,7 @@ install -d -m 700 -o nobody /var/lib/rtspd
 keys='access_log = true\nstatus = "127.0.0.1:29554"\njournal_files = "/var/lib/rtspd"\njournal_period = 50'
 sed "s|^\[server\]|&\n$keys|" /etc/rtspd.toml > /tmp/seen.toml
 grep -q journal_period /tmp/seen.toml
-run="setpriv --reuid=nobody --regid=nogroup --clear-groups env --block-signal=TERM,INT"
+run="setpriv --reuid=nobody --regid=nogroup --clear-groups env --block-signal=TERM,INT,HUP"
 $run rtspd serve --config /tmp/seen.toml --listen 127.0.0.1:28554 > /tmp/out 2> /tmp/errors &
 for _ in $(seq 50); do grep -q listening /tmp/out && break; sleep 0.1; done
 exec 3<> /dev/tcp/127.0.0.1/28554
@@ -61,7 +63,7 @@ class Debian:
         if os.geteuid() or not shutil.which("debootstrap"):
             raise Failed("a bare Debian takes root and debootstrap")
         self.root = root
-        words = ["debootstrap", "--variant=minbase", f"--include={READERS}", SUITE, root]
+        words = ["debootstrap", "--variant=minbase", f"--include={THERE}", SUITE, root]
         made = subprocess.run(words, stdin=subprocess.DEVNULL, capture_output=True, text=True, timeout=1800)
         if made.returncode:
             raise Failed(f"debootstrap ended with status {made.returncode}: {made.stdout[-300:]}")
@@ -69,6 +71,11 @@ class Debian:
     def call(self, *words: str) -> subprocess.CompletedProcess:
         entered = ["unshare", "--mount", "--pid", "--fork", "sh", "-c", ENTER, self.root, *words]
         return subprocess.run(entered, stdin=subprocess.DEVNULL, capture_output=True, text=True, timeout=300)
+
+    def run(self, script: str) -> subprocess.CompletedProcess:
+        """Runs one of the scripts that try the tools."""
+        given = installed_tools.given("/etc/rtspd.toml", True, 28555)
+        return self.call("env", *(f"{name}={value}" for name, value in given.items()), "bash", "-c", script)
 
     def named(self) -> set:
         """What is in it under the program's name, outside of what dpkg and man keep for themselves."""
@@ -86,14 +93,15 @@ def test(checks: Checks, deb: pathlib.Path, work: pathlib.Path, is_proved: bool)
         ["rtspd", "audit", "--journal", "/dev/null"],
         ["systemd-analyze", "verify", "rtspd.service"],
         ["sh", "-c", WITH_STATE],
-        ["sh", "-c", "zcat /usr/share/man/man1/rtspd.1.gz | mandoc -Tlint -Wwarning"],
-        ["sh", "-c", "zcat /usr/share/man/man5/rtspd.toml.5.gz | mandoc -Tlint -Wwarning"],
-        ["man", "--warnings", "1", "rtspd"],
-        ["man", "--warnings", "5", "rtspd.toml"],
+        *(["sh", "-c", f"zcat /usr/share/man/man{it[-1]}/{it}.gz | mandoc -Tlint -Wwarning"] for it in PAGES),
+        *(["man", "--warnings", it[-1], it[:-2]] for it in PAGES),
         ["dpkg", "--verify", "rtspd"],
     ):
         done = debian.call(*words)
         checks.same(f"in a bare Debian: {' '.join(words)}", (0, ""), (done.returncode, done.stderr))
+    done = debian.run(installed_tools.ALONE)
+    came = done.returncode, done.stdout, done.stderr
+    checks.same("in a bare Debian: the tools", (0, installed_tools.told(True), ""), came)
     if is_proved:
         served = ["rtspd", "serve", "--config", "/etc/rtspd.toml", "--listen", "127.0.0.1:28554"]
         done = debian.call("runuser", "-u", "nobody", "--", "timeout", "2", *served)
@@ -102,6 +110,9 @@ def test(checks: Checks, deb: pathlib.Path, work: pathlib.Path, is_proved: bool)
         done = debian.call("bash", "-c", SEEN)
         came = done.returncode, done.stdout.splitlines(), done.stderr
         checks.same("in a bare Debian: serve, with its log, figures and journal", (0, SHOWN, ""), came)
+        done = debian.run(installed_tools.SERVED)
+        came = done.returncode, done.stdout, done.stderr
+        checks.same("in a bare Debian: the tools beside the server", (0, installed_tools.served(True), ""), came)
     done = debian.call("dpkg", "--remove", "rtspd")
     checks.same("dpkg removes the package", (0, ""), (done.returncode, done.stderr))
     checks.same("what is left: the configuration", {"etc/rtspd.toml"}, debian.named())

@@ -27,6 +27,15 @@ pub enum Exit {
     /// The journal has more lines than are read, or more entries than its limit allows.
     #[error("rtspd: journal too long")]
     JournalTooLong,
+    /// The limit of descriptors is below what is wanted at least, which is so many for pairs of ports,
+    /// so many for files, lanes and listeners, and one for a connection.
+    #[error("rtspd: {wanted} descriptors are wanted at least, {ports} for pairs of ports, {others} for files, lanes and listeners, and 1 for a connection; the limit is {limit}")]
+    FewDescriptors {
+        wanted: u64,
+        ports: u64,
+        others: u64,
+        limit: u64,
+    },
     /// A file, a socket or a standard stream couldn't be read or written.
     #[error("rtspd: read or write failed")]
     DeviceFailed,
@@ -48,7 +57,7 @@ impl Exit {
             Exit::BadCommandLine | Exit::BadConfiguration => 1,
             Exit::NotARecord(_) => 2,
             Exit::NotAllowed(_) | Exit::JournalTooLong => 3,
-            Exit::DeviceFailed => 4,
+            Exit::FewDescriptors { .. } | Exit::DeviceFailed => 4,
             Exit::BadMessage => 5,
             Exit::OutOfMemory => 6,
         }

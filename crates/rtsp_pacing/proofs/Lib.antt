@@ -4,3 +4,4 @@ pub mod Measure
 pub mod Listing
 pub mod Units
 pub mod Leaving
+pub mod Crediting

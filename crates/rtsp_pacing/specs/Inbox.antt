@@ -1,5 +1,6 @@
 -- The plays that a pacer has to hear of: what is heard is what was put, in order.
-use Rattle.std.specs.Prelude.{◌≡◌, Bool, true, false, List, [], ◌∷◌, ◌++◌}
+use Rattle.std.specs.Prelude.{◌≡◌, ◌≤◌, Bool, true, false, List, [], ◌∷◌, ◌++◌}
+use Rattle.std.specs.VecDeque.{deque_len, deque_capacity}
 use Rattle.rtsp_pacing.specs.declared.inbox.Heard.{Heard}
 use Rattle.rtsp_pacing.specs.declared.inbox.Heard.TheVariants as heard
 use Rattle.rtsp_pacing.specs.declared.inbox.Inbox.{Inbox}
@@ -9,7 +10,7 @@ use Rattle.rtsp_pacing.specs.declared.noted.NewPlay.{NewPlay}
 abbrev pub plays_in : Inbox → List NewPlay
 plays_in i = i.plays.items
 
--- a play was put behind those that wait, or there was no memory for it
+-- a play was put behind those that wait, or there was no room for it
 abbrev pub after_put : List NewPlay → NewPlay → Bool → List NewPlay
 after_put waiting play true = waiting ++ play ∷ []
 after_put waiting play false = waiting
@@ -21,6 +22,10 @@ pub record Puts (old : Inbox) (play : NewPlay) (new : Inbox) (is_kept : Bool) : 
 -- no play waits, and there is no end yet
 abbrev pub HearsNothing : Inbox → Type 0
 HearsNothing i = (plays_in i ≡ []) × (i.is_stopped ≡ false)
+
+-- as many plays wait as there is room for, and there is no end yet
+abbrev pub IsFull : Inbox → Type 0
+IsFull i = (deque_capacity i.plays ≤ deque_len i.plays) × (i.is_stopped ≡ false)
 
 -- the first play that waits is taken out of the others
 pub record Takes (old : Inbox) (play : NewPlay) (new : Inbox) : Type 0 where

@@ -8,3 +8,4 @@ pub mod Catching
 pub mod Refusals
 pub mod Reports
 pub mod Beginning
+pub mod Credits

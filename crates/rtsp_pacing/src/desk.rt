@@ -1,5 +1,6 @@
 //! What a pacer works with.
 
+ghost use Rattle.std.specs.Prelude.{◌≤◌};
 ghost use Rattle.rtsp_lock.specs.Calls.{IsSeatOf};
 
 use crate::bell::Bell;
@@ -10,10 +11,10 @@ use rtsp_metrics::Counters;
 use rtsp_npt::UnitLength;
 use rtsp_record::Phase;
 use rtsp_rtp::Packet;
-use rtsp_sockets::{Media, Outlets, PortTable, RunningClock};
+use rtsp_sockets::{Decisions, Media, Outlets, PortTable, RunningClock};
 use std::rt::Clock;
 use std::sync::Wait;
-use std::time::Instant;
+use std::time::{Duration, Instant};
 
 // For how many turns one reading of the clock does: they take a fraction of a millisecond.
 const TURNS_A_READING: u32 = 64;
@@ -27,6 +28,8 @@ pub struct PacerParts<'a> {
     pub outlets: &'a Outlets,
     pub media: &'a Media,
     pub bell: &'a Bell,
+    /// What lanes are deciding on.
+    pub decisions: &'a Decisions,
     /// What is told of packets is counted there.
     pub counters: &'a Counters,
     /// When the server began. Its moments count from there.
@@ -60,6 +63,8 @@ pub(crate) struct PacerDesk<'a, R> {
     // The moment that was read last, and for how many turns more it does.
     moment: u64,
     turns_left: u32,
+    // Whether that one is before the present, since a lane is deciding.
+    is_held: bool,
     seat: BookSeat,
     ghost ours: { IsSeatOf seat parts.lock.now },
 }
@@ -87,6 +92,7 @@ impl<'a, R> PacerDesk<'a, R> {
             packet: Packet::new(),
             moment: 0,
             turns_left: 0,
+            is_held: false,
             seat,
         }
     }
@@ -111,11 +117,25 @@ impl<R> PacerDesk<'_, R> {
 }
 
 impl<R: Clock> PacerDesk<'_, R> {
-    // The present moment.
+    // The present moment, or the latest before it by which no lane is deciding on a PLAY or a PAUSE. What
+    // was told once stays: a lane that began to decide since reads its moment after that.
     pub(crate) fn now(&mut self) -> u64 {
-        self.moment = rtsp_traits::Clock::now(&mut self.clock);
+        let now = rtsp_traits::Clock::now(&mut self.clock);
+        let latest = self.parts.decisions.latest(now);
+        self.is_held = latest < now;
+        self.moment = self.moment.max(latest);
         self.turns_left = TURNS_A_READING;
         self.moment
+    }
+
+    // How long it is until a moment, a millisecond at least while a lane holds it up. `None` where the
+    // system can't tell the time.
+    pub(crate) fn until(&self, moment: u64) -> Option<Duration> {
+        let until = self.clock.until(moment)?;
+        if self.is_held {
+            return Some(until.max(Duration::from_millis(1)));
+        }
+        Some(until)
     }
 
     // The moment of a turn, which isn't after the present one.
@@ -131,6 +151,22 @@ impl<R: Clock> PacerDesk<'_, R> {
 }
 
 impl<R: Wait> PacerDesk<'_, R> {
+    // How many milliseconds of media, of so many at most, a play of this rate may send beyond its
+    // pace: what is free of the uplink is for all that are late. It is looked at once a second.
+    pub(crate) fn take_credit(&mut self, most: u64, rate: u64, moment: u64) -> u64
+        ensures { result ≤ most }
+    {
+        let credit = self.parts.bell.credit();
+        if credit.lock(self.rt).is_old(moment) {
+            let held = self.seat.tally(self.rt, self.parts.lock).rate;
+            let uplink = self.parts.table.server().uplink;
+            credit
+                .lock(self.rt)
+                .learn(uplink.saturating_sub(held), moment);
+        }
+        credit.lock(self.rt).take(most, rate, moment)
+    }
+
     // The session of this number as it is now.
     pub(crate) fn look(&mut self, session: u64) -> Option<SessionView> {
         self.seat

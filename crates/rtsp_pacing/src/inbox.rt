@@ -2,13 +2,13 @@
 
 ghost use Rattle.std.specs.Prelude.{◌≡◌, ◌<◌, ◌↔◌, [], true, false, IfOk, IsTrue};
 ghost use Rattle.std.specs.VecDeque.{deque_len, deque_capacity};
-ghost use Rattle.rtsp_pacing.specs.Inbox.{Puts, Hears, HearsNothing};
+ghost use Rattle.rtsp_pacing.specs.Inbox.{Puts, Hears, HearsNothing, IsFull};
 
 use crate::noted::NewPlay;
 use std::alloc::{AllocError, Global};
 use std::collections::VecDeque;
 
-// What a pacer has to hear.
+// What a pacer has to hear. No more plays wait than there was memory for from the beginning.
 #[derive(Drop)]
 pub(crate) struct Inbox {
     plays: VecDeque<NewPlay>,
@@ -24,7 +24,7 @@ pub(crate) enum Heard {
 }
 
 impl Inbox {
-    // Nothing to hear. So many plays need no more memory.
+    // Nothing to hear, and room for so many plays.
     pub(crate) fn new(alloc: Global, room: usize) -> Result<Inbox, AllocError>
         ensures plays { IfOk result (λ i. i.plays.items ≡ []) }
         ensures stopped { IfOk result (λ i. i.is_stopped ≡ false) }
@@ -36,12 +36,29 @@ impl Inbox {
         })
     }
 
-    // Puts a play behind those that wait. Whether there was memory for it.
+    // Puts a play behind those that wait. Whether there was room for it.
     pub(crate) fn put(&mut self, play: NewPlay) -> bool
         ensures puts { Puts self.old play self.new result }
-        ensures room { deque_len self.old.plays < deque_capacity self.old.plays → IsTrue result }
+        ensures room { IsTrue result ↔ (deque_len self.old.plays < deque_capacity self.old.plays) }
     {
+        if self.plays.len() >= self.plays.capacity() {
+            return false;
+        }
         self.plays.push_back(play).is_ok()
+    }
+
+    // How many plays wait.
+    pub(crate) fn len(&self) -> usize
+        ensures { result ≡ deque_len self.now.plays }
+    {
+        self.plays.len()
+    }
+
+    // Whether no more plays may wait until one is heard. After the end none is, and nobody waits for it.
+    pub(crate) fn is_full(&self) -> bool
+        ensures { IsTrue result ↔ IsFull self.now }
+    {
+        self.plays.len() >= self.plays.capacity() && !self.is_stopped
     }
 
     // The next that there is to hear: the end before all plays.

@@ -9,6 +9,7 @@
 #![tactic(auto)]
 
 mod bell;
+mod credit;
 mod desk;
 mod inbox;
 mod left_early;

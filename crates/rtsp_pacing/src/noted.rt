@@ -73,12 +73,14 @@ impl NotedPlays {
     }
 
     /// Hands the plays that were begun over to the pacers of their sessions. It is called once the answers
-    /// to their PLAYs are put into the outlet of the connection, whose number is `conn`. A play that finds
-    /// no room with its pacer is dropped: it is begun, and nothing of it is sent.
-    pub fn hand_over<R: Wait>(&mut self, rt: &R, bells: &Bells, conn: u64)
+    /// to their PLAYs are put into the outlet of the connection, whose number is `conn`. Whether none of
+    /// these pacers has a crowd of plays to hear of: else the connection isn't to be read on now. Where
+    /// no more plays may wait for a pacer, it waits here until that has heard of one.
+    pub fn hand_over<R: Wait>(&mut self, rt: &R, bells: &Bells, conn: u64) -> bool
         ensures begun { self.new.begun.items ≡ [] }
         ensures noted { self.new.noted ≡ self.old.noted }
     {
+        let mut is_heard = true;
         // The play that was begun first is handed over first.
         self.begun.reverse();
         while let Some(begun) = self.begun.pop() {
@@ -86,8 +88,10 @@ impl NotedPlays {
             self.last = Some(session);
             if let Some(bell) = bells.of(session) {
                 bell.ring(rt, NewPlay { begun, conn });
+                is_heard = is_heard && !bell.is_crowded();
             }
         }
+        is_heard
     }
 
     /// The session of the play that was handed over last, if one was since this was asked.

@@ -48,7 +48,7 @@ impl<R: Wait + Clock> Pacing<'_, R> {
             Some(moment) => moment,
             None => self.desk.now().saturating_add(IDLE),
         };
-        self.desk.clock.until(moment)
+        self.desk.until(moment)
     }
 
     // Takes a play over, as its PLAY began it: where the session has left it, what was counted of

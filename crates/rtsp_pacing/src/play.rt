@@ -2,15 +2,15 @@
 
 mod ending;
 
-ghost use Rattle.std.specs.Prelude.{◌≡◌, ◌<◌, ◌↔◌, IsTrue, IfSome, Some, unwrap_or, if◌then◌else◌};
+ghost use Rattle.std.specs.Prelude.{◌≡◌, ◌<◌, ◌≤◌, ◌↔◌, IsTrue, IfSome, Some, unwrap_or, if◌then◌else◌};
 ghost use Rattle.rtsp_pacing.specs.Beginning.{Begins, IsApart};
 
 use crate::desk::PacerDesk;
 use crate::noted::NewPlay;
 use crate::renewal::Renewal;
 use crate::sink::{PacketSink, failures_in};
-use crate::ways::Ways;
-use crate::when::{is_given_up, look_again, measured, next_unit};
+use crate::ways::{Ways, rate_of};
+use crate::when::{at_pace, is_given_up, look_again, measured, next_unit};
 use rtsp_book::SessionView;
 use rtsp_content::Presentation;
 use rtsp_record::Phase;
@@ -21,6 +21,10 @@ use std::sync::Wait;
 
 // Within how many milliseconds a pacer hears of a play, unless a thread is kept from running.
 const HEARD_WITHIN: u64 = 250;
+
+// For how many milliseconds a play waits to hear of the next where its session's phase tells that there
+// was one: that one is on its way, however long its lane is kept from running.
+const AWAITED_FOR: u64 = 10_000;
 
 // How far a play is.
 #[derive(Clone, Copy, PartialEq, Eq)]
@@ -50,6 +54,11 @@ pub(crate) struct PacedPlay {
     // that one.
     last: u64,
     next: u64,
+    // Up to which moment it might be sent at its last turn: earlier than that where it is late, and when
+    // the next unit is due where the media of that wasn't at hand.
+    reached: u64,
+    // What its session holds of the uplink, in bits per second.
+    rate: u64,
 }
 
 // What came of sending: a turn, with when the next packet is due; or, where the unit that is due isn't
@@ -120,6 +129,8 @@ impl PacedPlay {
             renewal: Renewal::unseen(),
             last: due,
             next: due,
+            reached: due,
+            rate: rate_of(view),
         };
         Some((play, due))
     }
@@ -233,6 +244,29 @@ impl PacedPlay {
         }
     }
 
+    // The moment up to which it sends in a turn, where its next unit is due at `due`. It keeps its pace,
+    // and catches up with measure as far as the uplink is free. What isn't at hand has no use for that.
+    fn sends_until<R: Wait>(
+        &mut self,
+        desk: &mut PacerDesk<'_, R>,
+        due: u64,
+        unit_ms: u32,
+        moment: u64,
+    ) -> u64
+        requires { 0 < unit_ms }
+        ensures { result ≤ moment }
+    {
+        let passed = moment.saturating_sub(self.last);
+        let most = measured(due, unit_ms, passed, moment);
+        let paced = at_pace(self.reached, unit_ms, passed);
+        let is_late = paced < most && self.reached != due;
+        self.reached = paced;
+        if is_late {
+            self.reached = paced + desk.take_credit(most - paced, self.rate, moment);
+        }
+        most.min(self.reached)
+    }
+
     // Sends with measure what is due while the session is in this phase. A play that was left waits
     // for its media, too, but not for ever.
     fn send<R: Wait>(
@@ -245,6 +279,8 @@ impl PacedPlay {
         requires { 0 < unit_ms }
     {
         let session = self.session();
+        let due = self.pacer.next_due().unwrap_or(moment);
+        let until = self.sends_until(desk, due, unit_ms, moment);
         let mut sink = PacketSink {
             rt: desk.rt,
             media: desk.parts.media,
@@ -257,8 +293,6 @@ impl PacedPlay {
             failed: 0,
             waits: false,
         };
-        let due = self.pacer.next_due().unwrap_or(moment);
-        let until = measured(due, unit_ms, moment.saturating_sub(self.last), moment);
         let packet = &mut desk.packet;
         let turn = self.pacer.turn(session, phase, until, packet, &mut sink);
         let left = self.left.unwrap_or(phase);
@@ -271,22 +305,31 @@ impl PacedPlay {
         let (packets, lost, waits) = (sink.packets, sink.lost, sink.waits);
         let failed = failures_in(sink.failed, waits);
         desk.count(packets, lost, failed, moment.saturating_sub(due));
+        let next = self.pacer.next_due();
         self.last = moment;
-        match self.pacer.next_due() {
+        if waits {
+            self.reached = next.unwrap_or(until);
+        }
+        match next {
             Some(due) if waits && !(last.is_some() && is_given_up(due, moment)) => {
                 self.left = last.map(|_| left).or(self.left);
                 Sending::Waits(look_again(due, moment))
             }
-            next => Sending::Turned(self.after(turn, last, left), next),
+            next => Sending::Turned(self.after(turn, last, left, moment), next),
         }
     }
 
     // What came of a turn. `last` is what came of the last one of a play that the session has left, for
-    // the phase `left`. Media of such a play that can't be read is lost.
-    fn after(&mut self, turn: Turn, last: Option<LastTurn>, left: Phase) -> Turn {
+    // the phase `left`. Media of such a play that can't be read is lost. Where no phase of that play leads
+    // to it, there was another play between, of which the pacer hears.
+    fn after(&mut self, turn: Turn, last: Option<LastTurn>, left: Phase, moment: u64) -> Turn {
         match last {
             None => turn,
-            Some(LastTurn::NotLeft) => Turn::OtherPlay,
+            Some(LastTurn::NotLeft) => {
+                self.waits_until
+                    .get_or_insert(moment.saturating_add(AWAITED_FOR));
+                Turn::OtherPlay
+            }
             Some(LastTurn::SinkFailed) => {
                 self.waits_until = Some(0);
                 Turn::OtherPlay

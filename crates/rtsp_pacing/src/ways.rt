@@ -105,6 +105,16 @@ fn room_of(view: &SessionView) -> FrameRoom {
     FrameRoom::of_rate(rate)
 }
 
+// What a session's streams hold of the uplink, in bits per second.
+pub(crate) fn rate_of(view: &SessionView) -> u64 {
+    let admissions = view.admissions();
+    let mut rate = 0u64;
+    for place in 0..admissions.len() {
+        rate = rate.saturating_add(admissions.at(place).1.rate.unwrap_or(0));
+    }
+    rate
+}
+
 // Connects the socket of RTP to the player's.
 fn connect(sockets: &Arc<PortSockets>, stream: &Stream) -> bool {
     let player = SocketAddrV4::new(Ipv4Addr::from_bits(stream.peer), stream.rtp_port);

@@ -24,6 +24,18 @@ pub(crate) fn measured(due: u64, unit_ms: u32, passed: u64, moment: u64) -> u64
     moment.min(due.saturating_add(ahead))
 }
 
+// How much of a pause, in milliseconds, a play makes up for that keeps its pace.
+const MADE_UP: u64 = 100;
+
+// The moment up to which a play may send that keeps its pace, where that was `reached` at its last turn
+// and so much time has passed since: a turn that comes late by more than `MADE_UP` makes it late.
+pub(crate) fn at_pace(reached: u64, unit_ms: u32, passed: u64) -> u64
+    ensures pace { result ≤ reached + passed }
+    ensures kept { reached + passed < 2 ^ 64 → result ≡ reached + min passed (unit_ms + MADE_UP) }
+{
+    reached.saturating_add(passed.min(u64::from(unit_ms) + MADE_UP))
+}
+
 // The first moment after this one at which a unit is due, where one was due at `due`.
 #[tactic(auto, using(crate::proofs::Units::whole_units))]
 pub(crate) fn next_unit(due: u64, unit_ms: u32, moment: u64) -> u64

@@ -88,4 +88,10 @@ impl AllLanes {
             by => Some(by),
         }
     }
+
+    /// Up to when a lane may answer that has time until this moment: no longer than connections are waited
+    /// for.
+    pub(crate) fn time_until(&self, until: u64) -> u64 {
+        until.min(self.stop_by.load(Ordering::SeqCst))
+    }
 }

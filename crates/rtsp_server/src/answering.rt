@@ -6,6 +6,7 @@ ghost use Rattle.rtsp_traits.specs.Devices.{devices};
 ghost use Rattle.rtsp_engine.specs.Serving.{serving_of};
 ghost use Rattle.rtsp_watch.specs.Understanding.{AnswersUnderstood, GivesUpUnderstood, TakesPiece, FaultsPiece, gathered};
 
+use crate::channels::Channels;
 use crate::figures::AnswerCounter;
 use crate::service::Service;
 use rtsp_book::Receipt;
@@ -19,6 +20,7 @@ use rtsp_state::Room;
 use rtsp_threads::{ANSWERS, Activity, LaneShares, PAUSE};
 use rtsp_watch::push_lent;
 use std::alloc::Global;
+use std::cell::Cell;
 use std::net::{Ipv4Addr, Net};
 use std::rt;
 use std::sync::{Arc, Wait};
@@ -37,6 +39,7 @@ pub(crate) struct Front<'a, R> {
     pub(crate) made: &'a mut Receipt,
     pub(crate) words: &'a mut RandomWords,
     pub(crate) plays: &'a mut NotedPlays,
+    pub(crate) heard: &'a Cell<Channels>,
     pub(crate) activity: &'a mut Activity,
 }
 
@@ -72,7 +75,7 @@ fn answer_piece<R: Wait + Net + rt::Clock, W: Words, P: Plays>(
     let rt = service.rt;
     let shared = service.shared;
     let mut binder = PortBinder::new(rt, &shared.ports, host);
-    let mut clock = PieceClock::new(rt, shared.begun);
+    let mut clock = PieceClock::new(rt, shared.begun, service.decisions());
     let mut shares = LaneShares::new(rt, shared.session_shares.as_ref(), lane);
     let pushed = push_lent(
         rt,
@@ -126,7 +129,7 @@ impl<R: Wait + Net + rt::Clock> PieceAnswerer for Front<'_, R> {
             ..
         } = self.service;
         let all = input.len().saturating_add(piece.len());
-        let witness = AnswerCounter::new(&self.service, self.asker);
+        let witness = AnswerCounter::new(&self.service, self.asker, self.heard);
         let pushed = answer_piece(
             &self.service,
             self.handle,
@@ -146,6 +149,7 @@ impl<R: Wait + Net + rt::Clock> PieceAnswerer for Front<'_, R> {
         // A request for whose answer there was no memory may have done something all the same.
         if pushed.is_err() {
             recorded.note();
+            witness.end_decision();
         }
         // A session that was opened for a track that was then refused has ended.
         if has_setup {
@@ -162,10 +166,11 @@ impl<R: Wait + Net + rt::Clock> PieceAnswerer for Front<'_, R> {
         !self.plays.is_empty() || gathered >= ANSWERS
     }
 
-    // A play is handed over after its answer is written, so that no packet comes before it.
+    // A play is handed over after its answer is written, so that no packet comes before it. No more is
+    // read while too many plays wait for its pacer.
     fn has_written(&mut self) -> bool {
         let Service { rt, shared, .. } = self.service;
-        self.plays.hand_over(rt, &shared.bells, self.asker.conn);
-        self.outlet.waiting(rt) <= PAUSE
+        let is_heard = self.plays.hand_over(rt, &shared.bells, self.asker.conn);
+        is_heard && self.outlet.waiting(rt) <= PAUSE
     }
 }

@@ -1,6 +1,7 @@
 //! A connection of a lane.
 
 use crate::answering::Front;
+use crate::channels::Channels;
 use crate::hearing::Hearing;
 use crate::service::Service;
 use crate::shared::{Lent, Shared};
@@ -60,8 +61,6 @@ pub(crate) struct Client {
     is_readable: bool,
     is_writable: bool,
     is_ending: bool,
-    // Whether it is in its lane's queue.
-    is_queued: bool,
     // Whether it has been silent, or has owed the rest of a message, for too long.
     is_over: bool,
     activity: Activity,
@@ -119,7 +118,6 @@ impl Client {
             is_readable: false,
             is_writable: false,
             is_ending: false,
-            is_queued: false,
             is_over: false,
             activity: Activity::new(service.now),
             hearing: Hearing::new(),
@@ -140,31 +138,23 @@ impl Client {
         Arc::try_clone(&self.outlet).ok()
     }
 
-    /// Notes what the system tells of the connection. Whether it has to be put into the queue.
-    pub(crate) fn note(&mut self, event: &Event) -> bool {
+    /// Notes what the system tells of the connection.
+    pub(crate) fn note(&mut self, event: &Event) {
         let is_ending = event.is_read_closed() || event.is_error();
         self.is_ending = self.is_ending || is_ending;
         self.is_readable = self.is_readable || is_ending || event.is_readable();
         self.is_writable = self.is_writable || is_ending || event.is_writable();
-        self.queue()
     }
 
-    /// Whether the connection has to be put into the queue, since it isn't there.
-    pub(crate) fn queue(&mut self) -> bool {
-        let was_queued = self.is_queued;
-        self.is_queued = true;
-        !was_queued
-    }
-
-    /// Writes what waits, and reads and answers what has come. The lane's handle is for the room of
-    /// the journal.
+    /// Writes what waits, and reads and answers what has come, until a moment. The lane's handle is for
+    /// the room of the journal.
     pub(crate) fn visit<R: Wait + Net + rt::Clock>(
         &mut self,
         service: &Service<'_, R>,
         tools: &mut Tools,
         lane: &mut BookHandle,
+        until: u64,
     ) -> Visit {
-        self.is_queued = false;
         if self.is_over {
             return Visit::Ended;
         }
@@ -174,8 +164,11 @@ impl Client {
         if !self.is_readable || self.stage != Stage::Open {
             return Visit::Done;
         }
-        let read = self.read(service, tools, lane);
-        self.hear(service, tools, read.heard);
+        if self.hearing.is_held_up(&service.shared.bells) {
+            return Visit::More;
+        }
+        let read = self.read(service, tools, lane, until);
+        self.hear(service, tools);
         self.end_visit(service, tools, read)
     }
 
@@ -203,12 +196,14 @@ impl Client {
         service: &Service<'_, R>,
         tools: &mut Tools,
         lane: &mut BookHandle,
+        until: u64,
     ) -> Read {
         let Tools {
             made,
             words,
             plays,
             room,
+            heard,
             piece,
         } = tools;
         let Client {
@@ -231,24 +226,26 @@ impl Client {
             made,
             words,
             plays,
+            heard,
             activity,
         };
-        front.visit(input, room, piece.as_mut_slice(), *is_ending)
+        front.visit(input, room, piece.as_mut_slice(), *is_ending, until)
     }
 
     // Where the players are GStreamer, RTCP keeps the session alive that plays over the connection.
-    fn hear<R: Wait>(&mut self, service: &Service<'_, R>, tools: &mut Tools, heard: Option<u8>) {
+    fn hear<R: Wait>(&mut self, service: &Service<'_, R>, tools: &mut Tools) {
         if let Some(session) = tools.plays.take_last() {
             self.hearing.expect(session);
         }
-        let Some(channel) = heard else {
+        let heard = tools.heard.replace(Channels::none());
+        if heard.is_empty() {
             return;
-        };
+        }
         match service.table.server().players {
             Players::Strict => {}
             Players::Gstreamer => {
                 self.hearing
-                    .hear(service, &mut self.handle, self.asker.conn, channel);
+                    .hear(service, &mut self.handle, self.asker.conn, heard);
             }
         }
     }
@@ -323,25 +320,26 @@ impl Client {
         service: &Service<'_, R>,
         tools: &mut Tools,
         lane: &mut BookHandle,
+        until: u64,
     ) -> Visit {
         self.is_writable = true;
         self.is_readable = true;
-        match self.visit(service, tools, lane) {
+        match self.visit(service, tools, lane, until) {
             Visit::Done => self.drain(service.rt),
             goes_on => goes_on,
         }
     }
 
-    /// Closes the connection where up to a moment the player took nothing of what waits for it; then
-    /// the system tells of its end. Whether it has to be put into the queue: it is over, or what
-    /// waits is to be offered to the system, which tells late that it takes some. The timeout is in
+    /// Closes the connection where up to a moment the player took nothing of what waits for it, or too
+    /// little; then the system tells of its end. Whether it is to be visited: it is over, or what waits
+    /// is to be offered to the system, which tells late that it takes some. The timeout is in
     /// milliseconds.
     pub(crate) fn sweep<R: Wait>(&mut self, rt: &R, timeout: u64, moment: u64) -> bool {
         self.outlet.close_stalled(rt, moment);
         self.is_over = self.is_overdue(moment, timeout);
         let waits = self.outlet.waiting(rt) > 0;
         self.is_writable = self.is_writable || waits;
-        (self.is_over || waits) && self.queue()
+        self.is_over || waits
     }
 
     // Whether the player has been silent for too long, or has owed the rest of a message for too
@@ -380,7 +378,6 @@ impl Drop for Client {
             is_readable: _,
             is_writable: _,
             is_ending: _,
-            is_queued: _,
             is_over: _,
             activity: _,
             hearing: _,

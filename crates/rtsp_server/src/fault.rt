@@ -17,6 +17,10 @@ pub enum ServerFault {
     /// else that the server needs.
     #[error("the system refuses what the server needs")]
     DeviceFailed,
+    /// The limit of descriptors is below what is wanted at least: so many for pairs of ports, so many
+    /// for files, lanes and listeners, and one for a connection.
+    #[error("{ports} and {others} descriptors are more than the limit of {limit} gives")]
+    FewDescriptors { ports: u64, others: u64, limit: u64 },
     /// There is no thread for a lane, for a pacer or for the sweeper.
     #[error("no thread can be made")]
     NoThread,

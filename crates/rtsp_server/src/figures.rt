@@ -1,5 +1,6 @@
 //! What is counted and shown of a server, for whoever runs it.
 
+use crate::channels::Channels;
 use crate::service::Service;
 use crate::shared::Shared;
 use rtsp_content::Table;
@@ -8,6 +9,7 @@ use rtsp_lock::{BookHandle, HandOutFault, Mark, Then};
 use rtsp_log::{Access, Event, moment};
 use rtsp_metrics::{BookFigures, Counts, Held, Method, Snapshot};
 use rtsp_record::Entry;
+use rtsp_sockets::RunningClock;
 use rtsp_status::Source;
 use rtsp_watch::{Told, Witness};
 use std::cell::Cell;
@@ -33,11 +35,17 @@ fn may_have_opened(status: u16) -> bool {
     matches!(status, 200 | 453 | OUT_OF_MEMORY | UNAVAILABLE)
 }
 
+// Whether a request counts what has been sent of a play.
+fn is_counting(method: Method) -> bool {
+    matches!(method, Method::Play | Method::Pause)
+}
+
 /// Who is told of the answers to a piece of a player's input, and notes what they came to.
 #[derive(Drop)]
 pub(crate) struct AnswerCounter<'a, R> {
     service: Service<'a, R>,
     asker: Asker,
+    heard: &'a Cell<Channels>,
     // The moment of the log's lines, in milliseconds since 1970: the clock is read once for the
     // requests of a piece, which are answered within some milliseconds.
     moment: u64,
@@ -47,7 +55,11 @@ pub(crate) struct AnswerCounter<'a, R> {
 }
 
 impl<'a, R: rt::Clock> AnswerCounter<'a, R> {
-    pub(crate) fn new(service: &Service<'a, R>, asker: Asker) -> AnswerCounter<'a, R> {
+    pub(crate) fn new(
+        service: &Service<'a, R>,
+        asker: Asker,
+        heard: &'a Cell<Channels>,
+    ) -> AnswerCounter<'a, R> {
         let moment = if service.shared.log.logs_access() {
             moment(service.rt)
         } else {
@@ -56,10 +68,16 @@ impl<'a, R: rt::Clock> AnswerCounter<'a, R> {
         AnswerCounter {
             service: *service,
             asker,
+            heard,
             moment,
             setups: Cell::new(0),
             is_unavailable: Cell::new(false),
         }
+    }
+
+    /// A request for whose answer there was no memory is decided.
+    pub(crate) fn end_decision(&self) {
+        self.service.decisions().end();
     }
 
     /// So many SETUPs were refused 503 before anything was drawn: their address has no place left.
@@ -79,6 +97,18 @@ impl<'a, R: rt::Clock> AnswerCounter<'a, R> {
 }
 
 impl<R: Wait + rt::Clock> Witness for AnswerCounter<'_, R> {
+    fn asked(&self, method: &[u8]) {
+        if is_counting(Method::of(method)) {
+            let Service { rt, shared, .. } = self.service;
+            let mut clock = RunningClock::new(rt, shared.begun);
+            self.service.decisions().begin(&mut clock);
+        }
+    }
+
+    fn heard(&self, channel: u8) {
+        self.heard.set(self.heard.get().with(channel));
+    }
+
     fn answered(&self, told: &Told<'_>) {
         let method = Method::of(told.method);
         let Service {
@@ -90,6 +120,9 @@ impl<R: Wait + rt::Clock> Witness for AnswerCounter<'_, R> {
             ..
         } = self.service;
         answers.answered(method, told.status);
+        if is_counting(method) {
+            self.end_decision();
+        }
         if !matches!(method, Method::Options | Method::Describe) || told.session().is_some() {
             recorded.note();
         }

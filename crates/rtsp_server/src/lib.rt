@@ -3,27 +3,30 @@
 //!
 //! `server` starts all of them and joins them, with what `opening` gives; `threads` is what each does,
 //! and `shared` what all share, `all_lanes` and `end_note` among it. `socket_lane` is a lane of sockets,
-//! `roster` has its connections, `client` is one of them, and `visiting` reads it. `answering` is what is
-//! done with its input over its handle of the book, `writing` and `hearing` what is done with its output
-//! and its RTCP; `unread` is what it holds of a message that isn't whole. Of a lane, `service` and `tools`
-//! are what it answers with, `lane_lines` what it holds of the log, and `recorded` whether it has to look
-//! at the journal's room. `sweeper` and `stopping` are the threads that end sessions and the server, and
-//! `figures` is what is counted and shown.
-//! What they go by is in rtsp_threads, and how one player is kept from harming the others in rtsp_shares.
+//! `clients` its connections and its turns, and `letting_in` lets them in; `client` is one of them, and
+//! `visiting` reads it. `answering` is what is done with its input over its handle of the book, `writing`
+//! and `hearing` what is done with its output and its RTCP; `unread` is what it holds of a message that
+//! isn't whole. Of a lane, `service` and `tools` are what it answers with, `lane_lines` what it holds of
+//! the log, and `recorded` whether it has to look at the journal's room. `sweeper` and `stopping` are the
+//! threads that end sessions and the server, and `figures` is what is counted and shown.
+//! What they go by is in rtsp_threads, who is to be visited in rtsp_roster, and how one player is kept
+//! from harming the others in rtsp_shares.
 
 #![tactic(auto)]
 
 mod all_lanes;
 mod answering;
+mod channels;
 mod client;
+mod clients;
 mod end_note;
 mod fault;
 mod figures;
 mod hearing;
 mod lane_lines;
+mod letting_in;
 mod opening;
 mod recorded;
-mod roster;
 mod server;
 mod service;
 mod shared;

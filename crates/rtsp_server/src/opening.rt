@@ -21,6 +21,13 @@ use std::sync::{Arc, Wait};
 use std::thread::Threads;
 use std::{io, net, rt, thread};
 
+// The descriptors of the standard streams.
+const STANDARD_STREAMS: u64 = 3;
+
+// The descriptors of a lane: what it waits with and is woken by, two of the listener, its random words,
+// and a connection that is turned away.
+const LANE: u64 = 6;
+
 // What sends the packets of plays, and reads their media ahead.
 #[derive(Drop)]
 pub(crate) struct Sending {
@@ -70,8 +77,22 @@ pub(crate) struct Opened {
 
 impl Opened {
     // All of a server of this configuration, which listens on this address for so many connections, or
-    // any number.
+    // any number. What the system refuses may be for want of descriptors.
     pub(crate) fn open<R: Threads + Wait + Net + rt::Clock + RandomSource + Files<File = File>>(
+        rt: &R,
+        alloc: Global,
+        table: &Table,
+        operation: &Operation,
+        address: SocketAddr,
+        connections: Option<u64>,
+    ) -> Result<Opened, ServerFault> {
+        match Opened::open_all(rt, alloc, table, operation, address, connections) {
+            Err(ServerFault::DeviceFailed) => Err(refusal(table, operation)),
+            opened => opened,
+        }
+    }
+
+    fn open_all<R: Threads + Wait + Net + rt::Clock + RandomSource + Files<File = File>>(
         rt: &R,
         alloc: Global,
         table: &Table,
@@ -162,9 +183,6 @@ impl Opening<'_> {
         let workers = usize::from(self.table.server().workers);
         let lanes = open_lanes(rt, alloc, &shared, listener, workers)?;
         let connections = connections_of(self.table, self.operation, listener)?;
-        if connections == 0 {
-            return Err(ServerFault::DeviceFailed);
-        }
         shared.gate.allow(connections);
         Ok(Listening {
             shared,
@@ -294,15 +312,40 @@ fn kept_for(operation: &Operation) -> u64 {
     1 + shown + written
 }
 
-// How many connections there is room for, once all is open but what the threads open: the rest of
-// the descriptors is kept for all pairs, for a connection of each lane that is turned away, for the
-// watcher's account, and for whoever runs the server. The system gives the least number that is
+// The fault of a limit that gives none for a connection beside the pairs and so many others.
+fn few_descriptors(table: &Table, others: u64, limit: u64) -> ServerFault {
+    ServerFault::FewDescriptors {
+        ports: u64::from(table.server().pairs).saturating_mul(2),
+        others,
+        limit,
+    }
+}
+
+// Why the system refuses what a server of this configuration opens: for want of descriptors, where there
+// are fewer than it needs at least, however much of its media it holds in memory.
+fn refusal(table: &Table, operation: &Operation) -> ServerFault {
+    let Some(limit) = descriptor_limit() else {
+        return ServerFault::DeviceFailed;
+    };
+    let numbers = table.server();
+    let others = STANDARD_STREAMS
+        .saturating_add(u64::from(numbers.workers).saturating_mul(LANE))
+        .saturating_add(kept_for(operation));
+    match connections_for(limit, others, numbers.pairs) {
+        0 => few_descriptors(table, others, limit),
+        _ => ServerFault::DeviceFailed,
+    }
+}
+
+// How many connections there is room for, at least one, once all is open but what the threads open: the
+// rest of the descriptors is kept for all pairs, for a connection of each lane that is turned away, for
+// the watcher's account, and for whoever runs the server. The system gives the least number that is
 // free, so all below are in use.
 fn connections_of(
     table: &Table,
     operation: &Operation,
     listener: &net::TcpListener,
-) -> io::Result<u64> {
+) -> Result<u64, ServerFault> {
     let Some(limit) = descriptor_limit() else {
         return Ok(CONNECTIONS);
     };
@@ -311,5 +354,8 @@ fn connections_of(
     let kept = open
         .saturating_add(u64::from(numbers.workers) + 1)
         .saturating_add(kept_for(operation));
-    Ok(connections_for(limit, kept, numbers.pairs))
+    match connections_for(limit, kept, numbers.pairs) {
+        0 => Err(few_descriptors(table, kept, limit)),
+        connections => Ok(connections),
+    }
 }

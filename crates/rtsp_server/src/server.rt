@@ -10,8 +10,9 @@ use crate::threads::{Beside, Parts, Start};
 use rtsp_book::Kept;
 use rtsp_content::{Operation, Table};
 use rtsp_lock::{BookHandle, LockBook};
+use rtsp_log::Event;
 use rtsp_status::StatusServer;
-use rtsp_threads::{OwnStatus, PoolEnd, Scribe, close_book, end_expired};
+use rtsp_threads::{OwnStatus, PoolEnd, Scribe, StopBell, close_book};
 use std::alloc::Global;
 use std::fs::File;
 use std::io::{Eprint, Write};
@@ -19,6 +20,7 @@ use std::net::{Net, SocketAddr};
 use std::random::RandomSource;
 use std::rt::Files;
 use std::sync::Wait;
+use std::sync::atomic::AtomicU64;
 use std::thread::Threads;
 use std::{net, rt};
 
@@ -30,7 +32,7 @@ pub struct ServerEnd {
     pub book: Option<Kept<LockBook>>,
 }
 
-/// Is told where a server listens, once all its threads stand.
+/// Is told where a server listens, once all its threads stand but lanes that got none.
 pub trait Announce: Drop {
     /// Whether it could pass the address on. Where it couldn't, the server ends.
     fn announce(&mut self, address: SocketAddr) -> bool;
@@ -49,21 +51,11 @@ fn open_scribe<R: Files<File = File>>(
 }
 
 impl Parts {
-    // Ends all sessions once all threads but this are joined, and writes the rest of the journal. Returns
-    // the book, where the others have let go of it.
-    fn close<R: Wait + Net + Files<File = File> + Eprint>(
-        &self,
-        rt: &R,
-        mut last: BookHandle,
-        mut scribe: Option<Scribe>,
-    ) -> Option<Kept<LockBook>>
+    // Gives up the book once all threads but this are joined, where the others have let go of it.
+    fn close<R: Wait + Net>(&self, rt: &R, last: BookHandle) -> Option<Kept<LockBook>>
         ensures { IfSome result (λ k. book_of k.journal ≡ empty) }
     {
         let mut binder = self.shared.unbinder(rt);
-        end_expired(rt, &mut last, &mut binder, u64::MAX);
-        if let Some(scribe) = &mut scribe {
-            scribe.end(rt, &mut last);
-        }
         close_book(rt, last, &mut binder)
     }
 }
@@ -104,7 +96,7 @@ impl Server {
     /// wanted of it. There are as many lanes as the configuration has workers, and half as many pacers
     /// as the machine has cores, but at least one; where the media isn't held in memory, some threads
     /// read it ahead. With a number of connections it ends after so many. Where the limit of descriptors
-    /// leaves none for connections, it is `DeviceFailed`.
+    /// leaves none for connections, it is `FewDescriptors`.
     pub fn open<R: Threads + Wait + Net + rt::Clock + RandomSource + Files<File = File>>(
         rt: &R,
         alloc: Global,
@@ -142,6 +134,8 @@ impl Server {
                 table,
                 media,
                 shared,
+                over: StopBell::new(),
+                readings: AtomicU64::new(0),
             },
             start: Start {
                 handle,
@@ -174,9 +168,13 @@ impl Server {
         self.connections
     }
 
-    /// Whether there are more pairs of ports than connections that can have them.
-    pub fn lacks_descriptors(&self) -> bool {
-        self.connections < u64::from(self.parts.table.server().pairs)
+    // Tells where there are more pairs of ports than connections that can have them.
+    fn tell_of_descriptors<R: Wait + rt::Clock>(&self, rt: &R) {
+        let connections = self.connections;
+        if connections < u64::from(self.parts.table.server().pairs) {
+            let log = &self.parts.shared.log;
+            log.event(rt, Event::FewConnections { connections });
+        }
     }
 
     /// Runs the server until it has served as many connections as it was opened for, or the process is
@@ -197,6 +195,7 @@ impl Server {
         ensures { IfOk result (λ end. IfSome end.book (λ k. book_of k.journal ≡ empty)) }
     {
         let scribe = open_scribe(rt, self.alloc, &self.operation)?;
+        self.tell_of_descriptors(rt);
         let Self {
             alloc,
             parts,
@@ -210,17 +209,14 @@ impl Server {
         } = self;
         let beside = Beside {
             signals: OwnStatus::open(rt).ok(),
-            errors,
             status,
             handle: shown,
+            last,
         };
-        let (scribe, ended) = parts.run(rt, alloc, start, beside, announcer, address, scribe);
-        match ended {
-            Ok(pool) => Ok(ServerEnd {
-                pool,
-                book: parts.close(rt, last, scribe),
-            }),
-            Err(fault) => Err(fault),
-        }
+        let (pool, last) = parts.run(rt, alloc, errors, start, beside, announcer, address, scribe)?;
+        Ok(ServerEnd {
+            pool,
+            book: parts.close(rt, last),
+        })
     }
 }

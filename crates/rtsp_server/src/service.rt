@@ -8,6 +8,7 @@ use crate::shared::Shared;
 use rtsp_content::Table;
 use rtsp_lock::BookHandle;
 use rtsp_metrics::AnswerCounters;
+use rtsp_sockets::LaneDecisions;
 use std::alloc::{AllocError, Global};
 use std::rt;
 use std::sync::Wait;
@@ -22,6 +23,8 @@ pub(crate) struct Service<'a, R> {
     pub(crate) answers: &'a AnswerCounters,
     pub(crate) lines: &'a LaneLines,
     pub(crate) recorded: &'a Recorded,
+    /// The number of the lane.
+    pub(crate) lane: usize,
     pub(crate) now: u64,
 }
 
@@ -37,6 +40,13 @@ impl<R> Clone for Service<'_, R> {
 
 // Not derived, since that would ask it of R.
 impl<R> Copy for Service<'_, R> {}
+
+impl<'a, R> Service<'a, R> {
+    /// What the lane is deciding on.
+    pub(crate) fn decisions(&self) -> LaneDecisions<'a> {
+        self.shared.decisions.of(self.lane)
+    }
+}
 
 impl<R: Wait + rt::Clock> Service<'_, R> {
     /// Keeps the journal from filling, where the lane may have made entries since it did so last: the

@@ -11,7 +11,7 @@ use rtsp_log::{BATCH_LINES, Event, Log};
 use rtsp_metrics::Counters;
 use rtsp_pacing::Bells;
 use rtsp_shares::{ShareTable, Watermark};
-use rtsp_sockets::{LENT_IN_ALL, Outlets, PortBinder, PortTable, SharedRoom};
+use rtsp_sockets::{Decisions, LENT_IN_ALL, Outlets, PortBinder, PortTable, SharedRoom};
 use rtsp_status::Halt;
 use rtsp_threads::{
     FEW_LINES, Gate, LAST_ROOM, LOG_LINES, Refused, ScribeBell, StopBell, ask_for_room, make_room,
@@ -67,6 +67,7 @@ pub(crate) struct Shared {
     pub(crate) watermark: Mutex<Watermark>,
     pub(crate) ends: EndNote,
     pub(crate) lanes: AllLanes,
+    pub(crate) decisions: Decisions,
 }
 
 // Written out, so that whoever lets go of it makes one call, and not one for each of its parts.
@@ -89,6 +90,7 @@ impl Drop for Shared {
             watermark: _watermark,
             ends: _ends,
             lanes: _lanes,
+            decisions: _decisions,
         } = self;
     }
 }
@@ -160,6 +162,7 @@ impl Shared {
             watermark: Mutex::new(watermark),
             ends: EndNote::new(),
             lanes: AllLanes::new(alloc),
+            decisions: Decisions::open(alloc, usize::from(numbers.workers))?,
         })
     }
 

@@ -7,7 +7,7 @@ use rtsp_log::{Event, Log};
 use rtsp_metrics::Counters;
 use rtsp_shares::Watermark;
 use rtsp_sockets::PortBinder;
-use rtsp_threads::{HELD_TOLD_AFTER, SWEEP_EVERY, end_next_expired};
+use rtsp_threads::{HELD_TOLD_AFTER, SWEEP_EVERY, end_next_expired, give_back_ended};
 use std::net::Net;
 use std::rt;
 use std::sync::{Mutex, Wait};
@@ -79,10 +79,11 @@ fn begin_sweep<R: Wait>(rt: &R, watermark: &Mutex<Watermark>, now: u64) -> u64 {
 }
 
 /// Ends from time to time the sessions that had expired when all lanes had read what had come, until
-/// it is told to stop. After each sweep it forgets all sessions that have ended by then, however they
-/// ended, and has those that live restated where they have done much. So the journal is as long as
-/// what lives and what was done since. Where the journal is written to files, the thread that does
-/// that shortens it, and this one doesn't.
+/// it is told to stop. After each sweep the places of all sessions that have ended by then, however they
+/// ended, are given back to their addresses. Then it forgets these sessions, and has those that live
+/// restated where they have done much. So the journal is as long as what lives and what was done since.
+/// Where the journal is written to files, the thread that does that shortens it, and this one doesn't.
+/// Ports that others were found to have are tried again from each sweep on.
 pub(crate) fn run_sweeper<R: Wait + Net + rt::Clock>(
     rt: &R,
     mut handle: BookHandle,
@@ -101,15 +102,20 @@ pub(crate) fn run_sweeper<R: Wait + Net + rt::Clock>(
         let moment = begin_sweep(rt, &shared.watermark, now);
         tell_media_failure(rt, &shared.counters, &shared.log);
         held.tell(rt, shared);
+        shared.ports.forget_taken(rt);
         let ended = end_expired(rt, &mut handle, &mut binder, &shared.log, moment);
         if ended > 0 {
             shared.ends.note();
             shared.counters.expired(ended);
         }
+        let has_ended = shared.ends.take();
+        if has_ended && let Some(places) = &shared.session_shares {
+            give_back_ended(rt, places, &mut handle);
+        }
         if shared.scribe.is_some() {
             continue;
         }
-        if shared.ends.take() {
+        if has_ended {
             handle.forget(rt);
         }
         handle.relieve(rt, 0);

@@ -13,12 +13,15 @@ use rtsp_log::{Event, LogWriter, SleepPause, StderrSink};
 use rtsp_pacing::{PacerParts, PacerPlays, pace};
 use rtsp_sockets::{Media, Reader};
 use rtsp_status::StatusServer;
-use rtsp_threads::{OwnStatus, PoolEnd, STANDING_LIMIT, Scribe, run_pool};
+use rtsp_threads::{
+    OwnStatus, PoolEnd, STANDING_LIMIT, STOP_TOLD_AFTER, Scribe, StopBell, end_expired, run_pool,
+};
 use std::alloc::Global;
 use std::fs::File;
 use std::io::{Eprint, Write};
 use std::net::{Net, SocketAddr};
 use std::rt::Files;
+use std::sync::atomic::{AtomicU64, Ordering};
 use std::sync::{Arc, Wait};
 use std::thread::Threads;
 use std::time::Duration;
@@ -29,6 +32,10 @@ pub(crate) struct Parts {
     pub(crate) table: Table,
     pub(crate) media: Media,
     pub(crate) shared: Arc<Shared>,
+    // The bell of the thread that looks for signals, rung once nothing is waited for any more.
+    pub(crate) over: StopBell,
+    // How many threads run that may wait for the disk of a track's file.
+    pub(crate) readings: AtomicU64,
 }
 
 // Written out, as that of `Shared` is.
@@ -38,6 +45,8 @@ impl Drop for Parts {
             table: _table,
             media: _media,
             shared: _shared,
+            over: _over,
+            readings: _readings,
         } = self;
     }
 }
@@ -67,14 +76,15 @@ impl Drop for Start {
     }
 }
 
-// What the threads for whoever runs the server begin with: where signals are seen, where the log is
-// written, and where the figures are shown, with a handle of the book for these.
+// What the threads for whoever runs the server begin with: where signals are seen, and where the figures
+// are shown, with a handle of the book for these; and what is left once the threads that serve are over.
 #[derive(Drop)]
-pub(crate) struct Beside<E> {
+pub(crate) struct Beside {
     pub(crate) signals: Option<OwnStatus>,
-    pub(crate) errors: E,
     pub(crate) status: Option<StatusServer>,
     pub(crate) handle: BookHandle,
+    // The handle of the book that is left at the end.
+    pub(crate) last: BookHandle,
 }
 
 // A pacer: which of them it is, its plays, of which there are none yet, and its handle of the book.
@@ -85,7 +95,35 @@ pub(crate) struct OnePacer {
     pub(crate) handle: BookHandle,
 }
 
+// The body of the thread that shows the figures, where that is wanted. It is lent no more than it needs.
+fn show<R: Wait + rt::Clock>(
+    rt: &R,
+    alloc: Global,
+    table: &Table,
+    shared: &Shared,
+    status: Option<StatusServer>,
+    handle: BookHandle,
+) {
+    if let Some(mut status) = status {
+        let mut figures = Figures {
+            rt,
+            shared,
+            table,
+            handle,
+            nothing: Vec::new(alloc),
+        };
+        status.run(rt, &mut figures, &shared.halt);
+    }
+}
+
 impl Parts {
+    // The body of the thread that writes the log.
+    fn log<R: Wait + Net + rt::Clock, E: Write + Drop>(&self, rt: &R, alloc: Global, errors: E) {
+        if let Ok(sink) = StderrSink::new(rt, alloc, errors) {
+            LogWriter::new(alloc, sink, SleepPause::new(rt)).run(rt, &self.shared.log);
+        }
+    }
+
     // The body of a pacer's thread.
     fn pace<R: Wait + rt::Clock>(&self, rt: &R, alloc: Global, pacer: OnePacer) {
         let OnePacer {
@@ -98,6 +136,8 @@ impl Parts {
             table,
             media,
             shared,
+            over: _,
+            readings,
         } = self;
         if let Some(bell) = shared.bells.as_slice().get(number) {
             let parts = PacerParts {
@@ -107,16 +147,21 @@ impl Parts {
                 outlets: &shared.outlets,
                 media,
                 bell,
+                decisions: &shared.decisions,
                 counters: &shared.counters,
                 begun: shared.begun,
             };
+            readings.fetch_add(1, Ordering::Relaxed);
             pace(rt, alloc, parts, seat, plays);
+            readings.fetch_sub(1, Ordering::Relaxed);
         }
     }
 
     // The body of a thread that reads ahead.
     fn read_ahead<R: Wait + rt::Clock>(&self, rt: &R, reader: Reader) {
+        self.readings.fetch_add(1, Ordering::Relaxed);
         reader.run(rt, &self.media, self.shared.begun);
+        self.readings.fetch_sub(1, Ordering::Relaxed);
     }
 
     // The body of the sweeper's thread.
@@ -127,47 +172,48 @@ impl Parts {
     // The body of the thread that looks for signals. Where the system doesn't tell of them, it is said.
     fn watch<R: Wait + rt::Clock>(&self, rt: &R, status: Option<OwnStatus>) {
         match status {
-            Some(status) => watch_signals(rt, &status, &self.shared),
+            Some(status) => watch_signals(rt, &status, self),
             None => self.shared.log.event(rt, Event::NoSignals),
         }
     }
 
-    // The body of the thread that writes the log.
-    fn log<R: Wait + Net + rt::Clock, E: Write + Drop>(&self, rt: &R, alloc: Global, errors: E) {
-        if let Ok(sink) = StderrSink::new(rt, alloc, errors) {
-            LogWriter::new(alloc, sink, SleepPause::new(rt)).run(rt, &self.shared.log);
-        }
-    }
-
-    // The body of the thread that shows the figures, where that is wanted.
-    fn show<R: Wait + rt::Clock>(
-        &self,
-        rt: &R,
-        alloc: Global,
-        status: Option<StatusServer>,
-        handle: BookHandle,
-    ) {
-        if let Some(mut status) = status {
-            let mut figures = Figures {
-                rt,
-                shared: &self.shared,
-                table: &self.table,
-                handle,
-                nothing: Vec::new(alloc),
-            };
-            status.run(rt, &mut figures, &self.shared.halt);
-        }
-    }
-
-    // Waits until all lanes have begun, but no longer than they should take: then some have no thread.
-    fn wait_for_lanes<R: Wait + rt::Clock>(&self, rt: &R, lanes: u64) {
+    // Waits until all lanes have begun. Where some haven't when they should have, these have no thread;
+    // then it waits for one that has, or until all threads end. Whether any has begun.
+    fn wait_for_lanes<R: Wait + rt::Clock>(&self, rt: &R, lanes: u64) -> bool {
+        let shared = &self.shared;
         for _ in 0..STANDING_LIMIT {
-            if self.shared.lanes.standing() >= lanes {
-                return;
+            if shared.lanes.standing() >= lanes {
+                return true;
             }
-            thread::sleep(rt, Duration::from_millis(1));
+            if shared.stop_bell.wait(rt, Duration::from_millis(1)) {
+                break;
+            }
         }
-        self.shared.log.event(rt, Event::NoThread);
+        if shared.lanes.standing() >= lanes {
+            return true;
+        }
+        shared.log.event(rt, Event::NoThread);
+        for _ in rt.forever() {
+            if shared.lanes.standing() > 0 || shared.stop_bell.wait(rt, Duration::from_millis(1)) {
+                break;
+            }
+        }
+        shared.lanes.standing() > 0
+    }
+
+    // Which disk a stop waits for, if for one: the journal's, or a film's once the lanes are over.
+    pub(crate) fn waits_for<R: Wait + rt::Clock>(&self, rt: &R) -> Option<Event> {
+        let shared = &self.shared;
+        if let Some(bell) = &shared.scribe
+            && bell.is_held_for(rt, STOP_TOLD_AFTER)
+        {
+            return Some(Event::StopWaitsForJournal);
+        }
+        let are_lanes_over = shared.stop_bell.wait(rt, Duration::ZERO);
+        if are_lanes_over && self.readings.load(Ordering::Relaxed) > 0 {
+            return Some(Event::StopWaitsForMedia);
+        }
+        None
     }
 
     // Ends the threads beside the lanes, but for that of the log.
@@ -182,32 +228,104 @@ impl Parts {
         self.stop(rt);
     }
 
-    // What the thread that starts the others does while the lanes run: it tells that all stand, and
-    // writes the journal where that is wanted. Returns what writes the journal, and whether it could tell
-    // that all stand.
-    fn attend<A: Announce, R: Wait + Net + rt::Clock + Files<File = File> + Eprint>(
+    // Tells where the server listens, once a lane stands. Where none comes to, the pool knows why.
+    fn announce<A: Announce, R: Wait + Net + rt::Clock>(
         &self,
         rt: &R,
         mut announcer: A,
         address: SocketAddr,
-        mut scribe: Option<Scribe>,
-        mut handle: BookHandle,
-    ) -> (Option<Scribe>, bool) {
-        self.wait_for_lanes(rt, u64::from(self.table.server().workers));
-        let has_told = announcer.announce(address);
-        if has_told {
-            let presentations = self.table.presentations().len() as u64;
-            self.shared.log.event(rt, Event::Started { presentations });
-        } else {
+    ) -> Result<(), ServerFault> {
+        if !self.wait_for_lanes(rt, u64::from(self.table.server().workers)) {
+            return Ok(());
+        }
+        if !announcer.announce(address) {
             self.shared.begin_stop(rt, 0);
+            return Err(ServerFault::DeviceFailed);
         }
-        if let (Some(scribe), Some(bell)) = (&mut scribe, &self.shared.scribe) {
-            scribe.run(rt, &mut handle, bell);
-        }
-        (scribe, has_told)
+        let presentations = self.table.presentations().len() as u64;
+        self.shared.log.event(rt, Event::Started { presentations });
+        Ok(())
     }
 
-    // Runs all threads, until the lanes are over. What writes the journal is given back.
+    // What the thread that starts the others does while the lanes run: it writes the journal where that is
+    // wanted.
+    fn attend<R: Wait + rt::Clock + Files<File = File>>(
+        &self,
+        rt: &R,
+        scribe: &mut Option<Scribe>,
+        mut handle: BookHandle,
+    ) {
+        if let (Some(scribe), Some(bell)) = (scribe, &self.shared.scribe) {
+            scribe.run(rt, &mut handle, bell, &self.shared.log);
+        }
+    }
+
+    // Ends all sessions once no thread serves any more, and writes the rest of the journal.
+    fn finish<R: Wait + Net + rt::Clock + Files<File = File>>(
+        &self,
+        rt: &R,
+        last: &mut BookHandle,
+        mut scribe: Option<Scribe>,
+    ) {
+        let mut binder = self.shared.unbinder(rt);
+        end_expired(rt, last, &mut binder, u64::MAX);
+        if let (Some(scribe), Some(bell)) = (&mut scribe, &self.shared.scribe) {
+            scribe.end(rt, last, bell);
+        }
+    }
+
+    // Runs all threads beside that of the log, until the lanes are over, and then ends all sessions and
+    // writes the rest of the journal by the last handle of the book, which is given back.
+    fn run_logged<
+        A: Announce,
+        R: Threads
+            + Wait
+            + Net<Listener = net::TcpListener, Stream = net::TcpStream>
+            + rt::Clock
+            + Files<File = File>
+            + Sync,
+    >(
+        &self,
+        rt: &R,
+        alloc: Global,
+        start: Start,
+        beside: Beside,
+        announcer: A,
+        address: SocketAddr,
+        scribe: Option<Scribe>,
+    ) -> Result<(PoolEnd, BookHandle), ServerFault> {
+        thread::scope(thread::scope_env(), rt, move |scope| {
+            let Beside {
+                signals,
+                status,
+                handle,
+                mut last,
+            } = beside;
+            let (table, shared) = (&self.table, &*self.shared);
+            let watches = scope.spawn(move || self.watch(rt, signals)).is_ok();
+            let shows = scope
+                .spawn(move || show(rt, alloc, table, shared, status, handle))
+                .is_ok();
+            if !(watches && shows) {
+                self.stop_for_want_of_threads(rt);
+                self.over.ring(rt);
+                return Err(ServerFault::NoThread);
+            }
+            let (scribe, served) = start.serve(self, rt, alloc, announcer, address, scribe);
+            let ended = match served {
+                Ok(pool) => {
+                    self.finish(rt, &mut last, scribe);
+                    Ok((pool, last))
+                }
+                Err(fault) => Err(fault),
+            };
+            self.shared.log.event(rt, Event::Stopped);
+            self.over.ring(rt);
+            ended
+        })
+    }
+
+    // Runs all threads, that of the log until all others are over.
     pub(crate) fn run<
         A: Announce,
         E: Write + Drop + Send,
@@ -222,33 +340,22 @@ impl Parts {
         &self,
         rt: &R,
         alloc: Global,
+        errors: E,
         start: Start,
-        beside: Beside<E>,
+        beside: Beside,
         announcer: A,
         address: SocketAddr,
         scribe: Option<Scribe>,
-    ) -> (Option<Scribe>, Result<PoolEnd, ServerFault>) {
+    ) -> Result<(PoolEnd, BookHandle), ServerFault> {
         thread::scope(thread::scope_env(), rt, move |scope| {
-            let Beside {
-                signals,
-                errors,
-                status,
-                handle,
-            } = beside;
-            let watches = scope.spawn(move || self.watch(rt, signals)).is_ok();
             let logs = scope.spawn(move || self.log(rt, alloc, errors)).is_ok();
-            let shows = scope
-                .spawn(move || self.show(rt, alloc, status, handle))
-                .is_ok();
-            if !(watches && logs && shows) {
+            if !logs {
                 self.stop_for_want_of_threads(rt);
-                self.shared.log.close();
-                return (scribe, Err(ServerFault::NoThread));
+                return Err(ServerFault::NoThread);
             }
-            let served = start.serve(self, rt, alloc, announcer, address, scribe);
-            self.shared.log.event(rt, Event::Stopped);
+            let ended = self.run_logged(rt, alloc, start, beside, announcer, address, scribe);
             self.shared.log.close();
-            served
+            ended
         })
     }
 
@@ -287,7 +394,6 @@ impl Start {
             + Net<Listener = net::TcpListener, Stream = net::TcpStream>
             + rt::Clock
             + Files<File = File>
-            + Eprint
             + Sync,
     >(
         self,
@@ -296,7 +402,7 @@ impl Start {
         alloc: Global,
         announcer: A,
         address: SocketAddr,
-        scribe: Option<Scribe>,
+        mut scribe: Option<Scribe>,
     ) -> (Option<Scribe>, Result<PoolEnd, ServerFault>) {
         let Self {
             handle,
@@ -329,12 +435,12 @@ impl Start {
                 parts.stop_for_want_of_threads(rt);
                 return (scribe, Err(ServerFault::NoThread));
             };
-            let (scribe, has_told) = parts.attend(rt, announcer, address, scribe, own);
+            let told = parts.announce(rt, announcer, address);
+            parts.attend(rt, &mut scribe, own);
             let ended = pool.join(rt);
-            if has_told {
-                (scribe, ended)
-            } else {
-                (scribe, Err(ServerFault::DeviceFailed))
+            match told {
+                Ok(()) => (scribe, ended),
+                Err(fault) => (scribe, Err(fault)),
             }
         })
     }

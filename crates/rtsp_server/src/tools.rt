@@ -1,11 +1,13 @@
 //! What a lane answers with.
 
+use crate::channels::Channels;
 use rtsp_book::Receipt;
 use rtsp_pacing::NotedPlays;
 use rtsp_sockets::RandomWords;
 use rtsp_state::Room;
 use rtsp_threads::PIECE;
 use std::alloc::Global;
+use std::cell::Cell;
 use std::fs::File;
 use std::io;
 use std::rt::Files;
@@ -19,6 +21,8 @@ pub(crate) struct Tools {
     pub(crate) plays: NotedPlays,
     /// The answers that aren't written yet.
     pub(crate) room: Room,
+    /// The channels of the frames that came in a visit.
+    pub(crate) heard: Cell<Channels>,
     /// What was read last.
     pub(crate) piece: Vec<u8>,
 }
@@ -31,6 +35,7 @@ impl Drop for Tools {
             words: _words,
             plays: _plays,
             room: _room,
+            heard: _heard,
             piece: _piece,
         } = self;
     }
@@ -45,6 +50,7 @@ impl Tools {
             words,
             plays: NotedPlays::new(alloc),
             room: Room::new(alloc),
+            heard: Cell::new(Channels::none()),
             piece,
         })
     }

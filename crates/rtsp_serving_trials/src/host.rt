@@ -1,8 +1,9 @@
 //! Words and moments of this host.
 
 use rtsp_engine::{Clock, Words};
-use rtsp_sockets::{PieceClock, RandomWords, RunningClock, SourceWords};
+use rtsp_sockets::{Decisions, PieceClock, RandomWords, RunningClock, SourceWords};
 use std::test::Fail;
+use std::thread;
 use std::time::{Duration, Instant};
 
 // Whether a source has words, and of three ids no two are the same.
@@ -35,8 +36,31 @@ fn moments_go_on_and_a_piece_has_one(rt: HostRuntime) -> Result<(), Fail> {
     let early = clock.now();
     assert!(rt; clock.now() >= early && clock.until(early) == Some(Duration::ZERO));
     assert!(rt; clock.until(60_000) > Some(Duration::from_secs(50)));
-    let mut once = PieceClock::new(&rt, Instant::now(&rt)?);
+    let decisions = Decisions::open(rt.alloc(), 1)?;
+    let mut once = PieceClock::new(&rt, Instant::now(&rt)?, decisions.of(0));
     let moment = once.now();
+    thread::sleep(&rt, Duration::from_millis(2));
     assert!(rt; moment < 1_000 && once.now() == moment);
+    Ok(())
+}
+
+// While a lane decides, units are sent up to its moment alone, and its requests have no earlier one.
+#[test]
+fn a_decision_holds_pacers_to_its_moment(rt: HostRuntime) -> Result<(), Fail> {
+    let begun = Instant::now(&rt)?;
+    let decisions = Decisions::open(rt.alloc(), 2)?;
+    let lane = decisions.of(1);
+    let mut once = PieceClock::new(&rt, begun, lane);
+    let early = once.now();
+    assert!(rt; decisions.latest(90_000) == 90_000 && !lane.is_after(early));
+    thread::sleep(&rt, Duration::from_millis(2));
+    lane.begin(&mut RunningClock::new(&rt, begun));
+    let latest = decisions.latest(90_000);
+    assert!(rt; early < latest && latest < 90_000 && lane.is_after(early));
+    assert!(rt; latest <= once.now() && decisions.latest(1) == 1 && !decisions.of(0).is_after(0));
+    lane.end();
+    assert!(rt; decisions.latest(90_000) == 90_000 && !lane.is_after(0));
+    decisions.of(2).begin(&mut once);
+    assert!(rt; decisions.latest(90_000) == 90_000 && !decisions.of(2).is_after(0));
     Ok(())
 }

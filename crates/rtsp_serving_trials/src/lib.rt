@@ -8,6 +8,8 @@
 #[cfg(test)]
 mod conversations;
 #[cfg(test)]
+mod crowds;
+#[cfg(test)]
 mod devices;
 #[cfg(test)]
 mod end_of_stream;

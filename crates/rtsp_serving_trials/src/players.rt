@@ -173,7 +173,15 @@ Session: 00000000000000000000000000000001
 #[test]
 fn a_session_is_told_of(rt: HostRuntime) {
     let seen = converse(&rt, SERVER, IN_SESSION).map(|talk| talk.seen);
-    assert!(rt; seen == Some((2, 200, Some(0), 7 + 1)));
+    assert!(rt; seen == Some((2, 200, Some(0), 7 + 1, None)));
+}
+
+// A frame before the last request, which comes in two pieces.
+#[test]
+fn frames_are_told_of(rt: HostRuntime) {
+    let asked = "OPTIONS * RTSP/2.0\nCSeq: 1\n\n$\x07\0\x04RTCPOPTIONS * RTSP/2.0\nCSeq: 2\n\n";
+    let seen = converse(&rt, SERVER, asked).map(|talk| talk.seen);
+    assert!(rt; seen == Some((2, 200, None, 7 + 1, Some(7))));
 }
 
 // The session's first eight digits are zeros.
@@ -182,8 +190,8 @@ fn each_request_is_told_of(rt: HostRuntime) {
     let seen = [seen_of(&rt, STRICT), seen_of(&rt, GSTREAMER)];
     assert!(rt;
         seen == [
-            Some((3, 400, None, 5 + 15)),
-            Some((3, 200, Some(0), 5 + 15))
+            Some((3, 400, None, 5 + 15, None)),
+            Some((3, 200, Some(0), 5 + 15, None))
         ]
     );
 }

@@ -5,6 +5,7 @@ ghost use Rattle.std.specs.Prelude.{◌≡◌, ◌<◌};
 ghost use Rattle.rtsp_book.specs.Replies.{IsAskable};
 ghost use Rattle.rtsp_lock.specs.Calls.{IsSeatOf, SameSeat};
 
+use crate::devices::Ticking;
 use crate::ports::free_port;
 use crate::session::{PAUSE, act, begin, resume, seek};
 use crate::sockets::Connected;
@@ -16,7 +17,7 @@ use rtsp_lock::{BookLock, BookSeat, open};
 use rtsp_metrics::Counters;
 use rtsp_pacing::{Bells, NotedPlays, Paced, PacerParts, PacerPlays, pace};
 use rtsp_record::{Phase, Whole};
-use rtsp_sockets::{Media, Outlet, Outlets, PortBinder, PortTable};
+use rtsp_sockets::{Decisions, Media, Outlet, Outlets, PortBinder, PortTable};
 use std::alloc::{AllocError, Global};
 use std::fs::File;
 use std::io::{self, Read};
@@ -41,8 +42,13 @@ enum Leaving {
     Sought,
     // It seeks and pauses while the play is sent, and the pacer hears of the other play later.
     Unheard,
+    // The same, and the pacer hears of the other play when it would have given up a play that a pause
+    // left.
+    UnheardForLong,
     // It plays on where it is, and pauses, and the pacer hears of that play later.
     Resumed,
+    // It pauses while the play is sent, by a moment long before it has the book.
+    Decided,
 }
 
 // The bytes of the units that came, by the packets' numbers from 250 on, and how many packets.
@@ -133,6 +139,7 @@ fn bound<R: Net + Wait + AllocGlobal>(rt: &R, pair: u16) -> Option<PortTable> {
 struct Stage {
     ports: PortTable,
     bells: Bells,
+    decisions: Decisions,
     player: Player,
 }
 
@@ -145,6 +152,7 @@ impl Stage {
         Some(Stage {
             ports: bound(rt, pair)?,
             bells: Bells::new(rt.alloc(), 1, 4).ok()?,
+            decisions: Decisions::open(rt.alloc(), 1).ok()?,
             player: Player::open(rt)?,
         })
     }
@@ -185,13 +193,15 @@ fn prepare<R: Wait + AllocGlobal>(
     Ok(())
 }
 
-// Begins another play and pauses. The pacer hears of that play once a unit was due.
+// Begins another play and pauses. The pacer hears of that play once a unit was due, so many milliseconds
+// later.
 fn leave_unheard<R: Wait + Clock + AllocGlobal>(
     rt: &R,
     lock: &BookLock,
     seat: &mut BookSeat,
     bells: &Bells,
     play: &Step,
+    later: u64,
 ) -> bool
     requires own { IsSeatOf seat.old lock.now }
     requires step { IsAskable play.now }
@@ -199,8 +209,25 @@ fn leave_unheard<R: Wait + Clock + AllocGlobal>(
     act(rt, lock, seat, play);
     let begun = seat.phase(rt, lock, 2);
     act(rt, lock, seat, &PAUSE);
-    thread::sleep(rt, Duration::from_millis(300));
+    thread::sleep(rt, Duration::from_millis(later));
     hand_over(rt, bells, begun).is_ok()
+}
+
+// Pauses by a moment after which more units are due before the session is paused.
+fn pause_late<R: Wait + Clock>(
+    rt: &R,
+    lock: &BookLock,
+    seat: &mut BookSeat,
+    decisions: &Decisions,
+) -> bool
+    requires { IsSeatOf seat.old lock.now }
+{
+    let lane = decisions.of(0);
+    lane.begin(&mut Ticking { moment: 0 });
+    thread::sleep(rt, Duration::from_millis(300));
+    let is_done = act(rt, lock, seat, &PAUSE);
+    lane.end();
+    is_done
 }
 
 // Does what is done once the first packet has come.
@@ -208,16 +235,19 @@ fn leave<R: Wait + Clock + AllocGlobal>(
     rt: &R,
     lock: &BookLock,
     seat: &mut BookSeat,
-    bells: &Bells,
+    stage: &Stage,
     leaving: Leaving,
 ) -> bool
     requires { IsSeatOf seat.old lock.now }
 {
+    let bells = &stage.bells;
     match leaving {
         Leaving::Never | Leaving::Early | Leaving::Sought => true,
         Leaving::Late => act(rt, lock, seat, &PAUSE),
-        Leaving::Unheard => leave_unheard(rt, lock, seat, bells, &seek()),
-        Leaving::Resumed => leave_unheard(rt, lock, seat, bells, &resume()),
+        Leaving::Unheard => leave_unheard(rt, lock, seat, bells, &seek(), 300),
+        Leaving::UnheardForLong => leave_unheard(rt, lock, seat, bells, &seek(), 900),
+        Leaving::Resumed => leave_unheard(rt, lock, seat, bells, &resume(), 300),
+        Leaving::Decided => pause_late(rt, lock, seat, &stage.decisions),
     }
 }
 
@@ -238,7 +268,7 @@ fn receive<R: Wait + Clock + AllocGlobal>(
         is_in_order: true,
         is_told: false,
     };
-    if came.take(&stage.player.media) && leave(rt, lock, seat, &stage.bells, leaving) {
+    if came.take(&stage.player.media) && leave(rt, lock, seat, stage, leaving) {
         for _ in 0..7 {
             if !came.take(&stage.player.media) {
                 break;
@@ -323,6 +353,7 @@ fn paced<R: Threads + Wait + Clock + AllocGlobal + Sync>(
         outlets: &stage.player.outlets,
         media,
         bell: stage.bells.of(2)?,
+        decisions: &stage.decisions,
         counters: &counters,
         begun,
     };
@@ -359,7 +390,9 @@ late: abc
 early: abc
 sought: abfg
 unheard: abfg
+unheard for long: abfg
 resumed: abcd
+decided: abc
 ";
 
 fn leaving_of(word: &str) -> Leaving {
@@ -368,7 +401,9 @@ fn leaving_of(word: &str) -> Leaving {
         "early" => Leaving::Early,
         "sought" => Leaving::Sought,
         "unheard" => Leaving::Unheard,
+        "unheard for long" => Leaving::UnheardForLong,
         "resumed" => Leaving::Resumed,
+        "decided" => Leaving::Decided,
         _ => Leaving::Never,
     }
 }

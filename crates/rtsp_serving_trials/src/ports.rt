@@ -7,7 +7,7 @@ use rtsp_engine::Binder;
 use rtsp_sockets::{PortBinder, PortSockets, PortTable};
 use std::fs::File;
 use std::io::{self, ErrorKind};
-use std::net::{Ipv4Addr, Net, TcpListener, TcpStream, UdpSocket};
+use std::net::{Ipv4Addr, Net, SocketAddrV4, TcpListener, TcpStream, UdpSocket};
 use std::process::Abort;
 use std::rt::{Clock, Files};
 use std::sync::{Arc, Wait};
@@ -124,4 +124,31 @@ fn a_port_is_bound_alone(rt: HostRuntime) -> io::Result<()> {
         pair 7 0 = no, unbind-port 8 1, unbind 7 0, bind-port 8 0, port 7 1, \
         unbind-port 8 0, unbind-port 7 1, port 7 1 = no, bind 8 0, bind-port 9 2 = no",
     )
+}
+
+// A binder that has met many ports which others have.
+const MANY: u32 = 20;
+
+// Whether a port that another has is refused each time, by such a binder also when the other has let go
+// of it, and is had once what was found is forgotten.
+fn is_had_once_forgotten<R: Net + Wait + AllocGlobal>(rt: &R) -> io::Result<[bool; 3]> {
+    let first = free_port(rt)?;
+    let table = PortTable::open(rt.alloc(), first, 1)?;
+    let mut binder = PortBinder::new(rt, &table, Ipv4Addr::LOCALHOST);
+    let other = UdpSocket::bind(rt, SocketAddrV4::new(Ipv4Addr::LOCALHOST, first))?;
+    let mut refused = 0_u32;
+    for _ in 0..MANY {
+        let is_refused = binder.bind(7, first).is_err();
+        refused = refused.saturating_add(u32::from(is_refused));
+    }
+    drop(other);
+    let is_known = binder.bind(7, first).is_err();
+    table.forget_taken(rt);
+    Ok([refused == MANY, is_known, binder.bind(7, first).is_ok()])
+}
+
+#[test]
+fn a_port_that_another_has_is_remembered(rt: HostRuntime) -> io::Result<()> {
+    assert!(rt; is_had_once_forgotten(&rt)? == [true; 3]);
+    Ok(())
 }

@@ -72,20 +72,39 @@ const ASKER: Asker = Asker {
 };
 
 /// How many requests were told of, and of the last one its status, the first digits of its session,
-/// and how long method and URI are.
-pub(crate) type Seen = (u32, u16, Option<u32>, usize);
+/// how long method and URI are, and the channel of the last frame before it.
+pub(crate) type Seen = (u32, u16, Option<u32>, usize, Option<u8>);
 
 // Who watches the answers.
 #[derive(Drop)]
 struct Watcher {
+    // How many requests were to be answered.
+    asked: Cell<u32>,
+    // The channel of the last frame.
+    channel: Cell<Option<u8>>,
     seen: Cell<Seen>,
 }
 
 impl Witness for Watcher {
+    fn asked(&self, method: &[u8]) {
+        if !method.is_empty() {
+            self.asked.set(self.asked.get().wrapping_add(1));
+        }
+    }
+
+    fn heard(&self, channel: u8) {
+        self.channel.set(Some(channel));
+    }
+
     fn answered(&self, told: &Told<'_>) {
-        let (requests, _, _, _) = self.seen.get();
         let asked = told.method.len().saturating_add(told.uri.len());
-        self.seen.set((requests.wrapping_add(1), told.status, told.session(), asked));
+        self.seen.set((
+            self.asked.get(),
+            told.status,
+            told.session(),
+            asked,
+            self.channel.get(),
+        ));
     }
 }
 
@@ -115,7 +134,9 @@ impl Devices {
                 settled: None,
             },
             watcher: Watcher {
-                seen: Cell::new((0, 0, None, 0)),
+                asked: Cell::new(0),
+                channel: Cell::new(None),
+                seen: Cell::new((0, 0, None, 0, None)),
             },
         })
     }

@@ -5,15 +5,16 @@ use crate::tone::tone;
 use rtsp_content::{Operation, Table};
 use rtsp_engine::{ShareSpent, Shares};
 use rtsp_lock::{BookHandle, open_book};
+use rtsp_log::Log;
 use rtsp_shares::ShareTable;
 use rtsp_sockets::{PortBinder, PortTable};
 use rtsp_threads::{
     Gate, LaneShares, OwnStatus, Refused, Scribe, ScribeBell, StopAsked, StopBell, ask_for_room,
-    close_book, descriptor_limit, end_expired, end_next_expired, make_room, take_leave,
+    close_book, descriptor_limit, end_expired, end_next_expired, give_back_ended, make_room,
+    take_leave,
 };
 use std::alloc::{AllocError, Global};
 use std::fs::{self, File};
-use std::io::Eprint;
 use std::net::{Ipv4Addr, Net};
 use std::rt::{Clock, Files};
 use std::sync::{Mutex, Wait};
@@ -124,6 +125,28 @@ fn a_session_that_has_ended_leaves_its_place(rt: HostRuntime) {
     assert!(rt; leaves_its_place(&rt) == Some(true));
 }
 
+// How many places are left of three, once those are given back whose sessions don't live: two are kept
+// for such, and one is held.
+fn left_of_three<R: Wait + AllocGlobal>(rt: &R) -> Option<usize> {
+    let mut lane = empty_book(rt.alloc())?;
+    let places = Mutex::new(ShareTable::new(rt.alloc(), 3, 8).ok()?);
+    for session in [Some(1_000), None, Some(1_001)] {
+        let mut places = places.lock(rt);
+        places.take(7);
+        if let Some(session) = session {
+            places.keep(7, session);
+        }
+    }
+    give_back_ended(rt, &places, &mut lane);
+    let left = places.lock(rt).len();
+    Some(left)
+}
+
+#[test]
+fn what_has_ended_is_given_back(rt: HostRuntime) {
+    assert!(rt; left_of_three(&rt) == Some(1));
+}
+
 // Whether nobody ends in a book in which nobody lives, and it is given up.
 fn ends_nobody<R: Net + Wait>(
     rt: &R,
@@ -168,6 +191,16 @@ fn a_scribe_is_asked_and_stopped(rt: HostRuntime) {
     assert!(rt; was_stuck && !bell.is_stuck() && is_stopped(&rt, &bell));
 }
 
+#[test]
+fn a_turn_is_timed(rt: HostRuntime) {
+    let bell = ScribeBell::new();
+    let rests = !bell.is_held_for(&rt, 0);
+    bell.work(&rt);
+    let works = bell.is_held_for(&rt, 0) && !bell.is_held_for(&rt, 3_600_000);
+    bell.rest(&rt);
+    assert!(rt; rests && works && !bell.is_held_for(&rt, 0));
+}
+
 // There is room in an empty book, so nobody is waited for.
 fn has_room<R: Wait + Clock>(rt: &R, table: &Table, handle: &mut BookHandle, bell: &ScribeBell) {
     make_room(rt, table, handle);
@@ -181,22 +214,23 @@ fn scribe_of<R: Files<File = File> + AllocGlobal>(rt: &R) -> Option<Scribe> {
 }
 
 // How long the file is that a scribe leaves that was told to stop before it began.
-fn length_at_end<R: Files<File = File> + Wait + Clock + Eprint + AllocGlobal>(
+fn length_at_end<R: Files<File = File> + Wait + Clock + AllocGlobal>(
     rt: &R,
     handle: &mut BookHandle,
     bell: &ScribeBell,
 ) -> Option<usize> {
     let mut scribe = scribe_of(rt)?;
     bell.stop(rt);
-    scribe.run(rt, handle, bell);
-    scribe.end(rt, handle);
+    let log = Log::new(rt.alloc(), 1, false).ok()?;
+    scribe.run(rt, handle, bell, &log);
+    scribe.end(rt, handle, bell);
     let text = fs::read(rt, WRITTEN).ok()?;
     fs::remove_file(rt, WRITTEN).ok()?;
     Some(text.len())
 }
 
 // How much there is in the file of an empty book, and in its journal.
-fn written_at_end<R: Files<File = File> + Wait + Clock + Eprint + AllocGlobal>(
+fn written_at_end<R: Files<File = File> + Wait + Clock + AllocGlobal>(
     rt: &R,
 ) -> Option<[usize; 2]> {
     let table = tone(rt.alloc(), "")?;

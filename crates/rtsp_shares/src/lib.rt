@@ -2,20 +2,28 @@
 //!
 //! `table` has the places that addresses have taken, each at most its share. A place is held by
 //! whoever took it, or kept for something with a number for as long as that lives, which `living`
-//! tells. `watermark` says up to which moment all that had come was read, so that a sweep ends nobody
+//! tells, whom `kept_place` asks; `search` says about whose places. Nobody is asked with a table held.
+//! `headcount` counts who is inside by such a table. `watermark` says up to which moment all that had come was read, so that a sweep ends nobody
 //! who has asked in time.
 //!
 //! The definitions of `specs/` read in this order: Places (who has what, and how it changes), Living
-//! (what was told of numbers, and what follows for places), Watermark (how far a sweep goes).
+//! (what was told of numbers), Keeping (which places are kept, and looked for), Heads (who is inside),
+//! Watermark (how far a sweep goes).
 
 #![tactic(auto)]
 
+mod headcount;
+mod kept_place;
 mod living;
 mod place;
+mod search;
 mod table;
 mod watermark;
 
+pub use headcount::{Headcount, Refused};
+pub use kept_place::{EndedPlace, KeptPlace};
 pub use living::Living;
 pub use place::Place;
+pub use search::{LOOKS, Search};
 pub use table::ShareTable;
 pub use watermark::{HELD_SWEEPS, Watermark};

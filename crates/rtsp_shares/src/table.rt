@@ -1,13 +1,14 @@
 //! The places that addresses have taken.
 
-ghost use Rattle.std.specs.Prelude.{◌≡◌, ◌++◌, ◌∷◌, ◌≤◌, ◌<◌, ◌+◌, ◌⊎◌, ◌↔◌, [], length, IsTrue, IfOk, IfSome, IfNone, slice_get, Some};
+ghost use Rattle.std.specs.Prelude.{◌≡◌, ◌++◌, ◌∷◌, ◌≤◌, ◌<◌, ◌⊎◌, ◌↔◌, [], length, IsTrue, IfOk, IfSome, IfNone, slice_get, Some, None};
 ghost use Rattle.std.specs.Bool.{OnTrue, OnFalse};
 ghost use Rattle.rtsp_shares.specs.declared.place.Place.{Place};
-ghost use Rattle.rtsp_shares.specs.Places.{places_of, held, kept, HasHeld, IsOf, SameLimits, Exchanges, LastMovesTo};
-ghost use Rattle.rtsp_shares.specs.Living.{Asked, HasEnded, IsInUse, OnlyEndedGone, AllInUse, IsSpent, TakesAfter};
+ghost use Rattle.rtsp_shares.specs.Places.{places_of, held, HasHeld, SameLimits, Exchanges};
+ghost use Rattle.rtsp_shares.specs.Keeping.{kept, Stands, IsOf, NoneKept, IsLastBelow, IsFound, IsSearch};
 
-use crate::living::Living;
+use crate::kept_place::{EndedPlace, KeptPlace};
 use crate::place::Place;
+use crate::search::{LOOKS, Search};
 use std::alloc::{AllocError, Global};
 use std::marker::Model;
 
@@ -18,6 +19,8 @@ pub struct ShareTable {
     share: usize,
     most: usize,
     taken: Vec<Place>,
+    // Where the next search begins.
+    next: usize,
 }
 
 impl Model for ShareTable {
@@ -60,21 +63,46 @@ fn held_at(places: &[Place], address: u32) -> Option<usize>
     None
 }
 
-// Whether a place is of this address, or of any where none is named, and kept for what is told not
-// to live.
-fn has_ended<L: Living>(living: &mut L, place: Place, whose: Option<u32>) -> bool
-    ensures asked { Asked L.tells living.old living.new }
-    ensures ended { OnTrue result (HasEnded L.tells living.old living.new place) }
-    ensures in_use { OnFalse result (IsOf whose place → IsInUse L.tells living.old living.new place) }
+// Whether a place is of this address, or of any where none is named.
+fn is_of(whose: Option<u32>, address: u32) -> bool
+    ensures { IsTrue result ↔ IsOf whose address }
 {
-    let Some(number) = place.number else {
-        return false;
-    };
-    let is_named = match whose {
-        Some(address) => place.address == address,
+    match whose {
+        Some(named) => address == named,
         None => true,
-    };
-    is_named && !living.lives(number)
+    }
+}
+
+// The last place below an index that is kept, of those of an address, or of any where none is named.
+fn kept_below(places: &[Place], whose: Option<u32>, below: usize) -> Option<KeptPlace>
+    ensures there { IfSome result (λ found. IsLastBelow whose below places.now found) }
+    ensures none { IfNone result (NoneKept whose 0 below places.now) }
+{
+    let mut at = below.min(places.len());
+    while at > 0 {
+        at -= 1;
+        let Place { address, number } = places[at];
+        if let Some(number) = number
+            && is_of(whose, address)
+        {
+            return Some(KeptPlace {
+                at,
+                address,
+                number,
+            });
+        }
+    }
+    None
+}
+
+// Whether a place stands still where it stood.
+fn stands(places: &[Place], kept: KeptPlace) -> bool
+    ensures { IsTrue result ↔ Stands kept places.now }
+{
+    match places.get(kept.at) {
+        Some(place) => place.address == kept.address && place.number == Some(kept.number),
+        None => false,
+    }
 }
 
 impl ShareTable {
@@ -86,7 +114,15 @@ impl ShareTable {
             share,
             most,
             taken: Vec::with_capacity(alloc, most)?,
+            next: 0,
         })
+    }
+
+    /// How many places are taken.
+    pub fn len(&self) -> usize
+        ensures { result ≡ length self.now.taken }
+    {
+        self.taken.len()
     }
 
     // Whether an address may have one more.
@@ -118,7 +154,6 @@ impl ShareTable {
         requires { at < length self.old.taken }
         ensures limits { SameLimits self.old self.new }
         ensures dropped { (gone : _) → slice_get self.old.taken at ≡ Some gone → Exchanges self.old.taken self.new.taken (gone ∷ []) [] }
-        ensures moved { LastMovesTo at self.old.taken self.new.taken }
     {
         self.taken.swap_remove(at);
     }
@@ -161,50 +196,64 @@ impl ShareTable {
         }
     }
 
-    // Whose places are to be asked about, so that an address may have one more: its own, or `None` for
-    // those of all where the table is full.
-    fn whose(&self, address: u32) -> Option<u32>
-        ensures { IfSome result (λ named. (named ≡ address) × (length self.now.taken < self.now.most)) }
+    /// Whose places are to be asked about, so that an address may have one more: its own where its share
+    /// is spent, `LOOKS` of them at most, or else those of all.
+    pub fn search(&self, address: u32) -> Search
+        ensures { IsSearch self.now address result }
     {
-        if self.most <= self.taken.len() {
-            None
+        let count = places_of(&self.taken, address);
+        if count < self.share {
+            Search {
+                whose: None,
+                looks: self.most,
+                below: self.next,
+            }
         } else {
-            Some(address)
-        }
-    }
-
-    // Gives back those places of an address, or of all, that are kept for what doesn't live any more.
-    fn drop_ended<L: Living>(&mut self, living: &mut L, whose: Option<u32>)
-        ensures limits { SameLimits self.old self.new }
-        ensures asked { Asked L.tells living.old living.new }
-        ensures ended { OnlyEndedGone L.tells living.old living.new self.old.taken self.new.taken }
-        ensures in_use { AllInUse L.tells living.old living.new whose self.new.taken }
-        ensures shorter { length self.new.taken ≤ length self.old.taken }
-    {
-        let mut at = self.taken.as_slice().len();
-        while at > 0 {
-            at -= 1;
-            if has_ended(living, self.taken[at], whose) {
-                self.drop_at(at);
+            Search {
+                whose: Some(address),
+                looks: count.min(LOOKS),
+                below: self.next,
             }
         }
     }
 
-    /// An address takes a place as by `take`. Where none is left, it is asked first what still lives,
-    /// and places are given back that are kept for what doesn't: those of the address, or all where
-    /// the table is full.
-    pub fn take_asking<L: Living>(&mut self, living: &mut L, address: u32) -> bool
-        ensures limits { SameLimits self.old self.new }
-        ensures asked { Asked L.tells living.old living.new }
-        ensures taken { OnTrue result (TakesAfter L.tells living.old living.new address self.old.taken self.new.taken) }
-        ensures refused { OnFalse result (OnlyEndedGone L.tells living.old living.new self.old.taken self.new.taken) }
-        ensures spent { OnFalse result (IsSpent L.tells living.old living.new address self.new) }
+    /// The place that a search asks about next: each of those that it is of in turn, as they stand in the
+    /// table. The next search goes on from there. `None` where none of them is kept.
+    pub fn next_kept(&mut self, search: &mut Search) -> Option<KeptPlace>
+        ensures same { self.new ≡ self.old }
+        ensures whose { search.new.whose ≡ search.old.whose }
+        ensures on { IfSome result (λ found. search.new.below ≡ found.at) }
+        ensures there { IfSome result (IsFound search.old.whose self.old.taken) }
+        ensures none { IfNone result (NoneKept search.old.whose 0 (length self.old.taken) self.old.taken) }
     {
-        if self.take(address) {
-            return true;
+        let whose = search.whose;
+        let found = match kept_below(&self.taken, whose, search.below) {
+            Some(found) => found,
+            None => kept_below(&self.taken, whose, self.taken.len())?,
+        };
+        search.below = found.at;
+        self.next = found.at;
+        Some(found)
+    }
+
+    /// The last place that is kept of those that stand below an index. A place only ever moves to a lower
+    /// one, so whoever looks from above and on below each that is found misses none that was there.
+    pub fn kept_below(&self, below: usize) -> Option<KeptPlace>
+        ensures there { IfSome result (λ found. IsLastBelow None below self.now.taken found) }
+        ensures none { IfNone result (NoneKept None 0 below self.now.taken) }
+    {
+        kept_below(&self.taken, None, below)
+    }
+
+    /// Gives back a place that is kept for what has ended. Where it doesn't stand there any more, nothing
+    /// changes: it has moved, or was given back by another.
+    pub fn give_back_ended(&mut self, ended: EndedPlace)
+        ensures limits { SameLimits self.old self.new }
+        ensures given { Stands ended.kept self.old.taken → Exchanges self.old.taken self.new.taken (kept ended.kept.address ended.kept.number ∷ []) [] }
+        ensures none { (Stands ended.kept self.old.taken → ⊥) → self.new ≡ self.old }
+    {
+        if stands(&self.taken, ended.kept) {
+            self.drop_at(ended.kept.at);
         }
-        let whose = self.whose(address);
-        self.drop_ended(living, whose);
-        self.take(address)
     }
 }

@@ -8,3 +8,4 @@ pub mod Files
 pub mod Media
 pub mod Asking
 pub mod Wishes
+pub mod Taken

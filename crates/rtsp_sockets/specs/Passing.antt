@@ -10,13 +10,15 @@ use Rattle.rtsp_sockets.specs.declared.pending.Condition.TheVariants as conditio
 use Rattle.rtsp_sockets.specs.declared.put.Put.{Put}
 use Rattle.rtsp_sockets.specs.declared.put.Put.TheVariants as put
 
--- what waits to be written, how many bytes more its memory holds, what the connection takes, and when there was progress last;
+-- what waits to be written, how many bytes more its memory holds, what the connection takes, when there was progress last, and up
+-- to which moment what was taken pays, at a byte a millisecond;
 -- how many bytes may wait once a frame waits too, and how many of those that wait are lent
 pub record Waiting : Type 0 where
   pub bytes : List ℕ
   pub spare : ℕ
   pub condition : Condition
   pub since : ℕ
+  pub paid : ℕ
   pub room : ℕ
   pub lent : ℕ
 
@@ -144,8 +146,8 @@ Lends old kind new put.Kept = Borrows old kind new
 Lends old kind new put.Dropped = new.lent ≡ old.lent
 Lends old kind new put.Closed = new.lent ≡ 0
 
--- bytes wait, and for more than 10 s none was written
+-- bytes wait, and for more than 10 s none was written, or for more than 30 s it isn't paid
 pub record IsStalled (w : Waiting) (now : ℕ) : Type 0 where
   pub open_still : w.condition ≢ condition.Closed
   pub waits : w.bytes ≢ []
-  pub limit : w.since + 10000 < now
+  pub limit : (w.since + 10000 < now) ⊎ (w.paid + 30000 < now)

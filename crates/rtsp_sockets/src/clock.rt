@@ -1,7 +1,9 @@
 //! The clock of a server.
 
 ghost use Rattle.std.specs.Prelude.{◌≡◌};
+ghost use Rattle.std.specs.Option.{ForSome};
 
+use crate::decisions::LaneDecisions;
 use rtsp_traits::Clock;
 use std::rt;
 use std::time::{Duration, Instant};
@@ -45,24 +47,28 @@ impl<R: rt::Clock> Clock for RunningClock<'_, R> {
     }
 }
 
-/// A clock that is read once, at the first question, and tells that moment from then on. A piece of
-/// input has one: its requests came together, so one reading does for all.
+/// A clock that is read at the first question, and tells that moment from then on, until its lane begins
+/// to decide on a PLAY or a PAUSE: then it is read anew. A piece of input has one: its requests came
+/// together, so one reading does for most.
 #[derive(Drop)]
 pub struct PieceClock<'a, R> {
     clock: RunningClock<'a, R>,
+    decisions: LaneDecisions<'a>,
     moment: Option<u64>,
+    ghost kept: { ForSome moment (λ m. m ≡ clock.last) },
 }
 
 impl<'a, R: rt::Clock> PieceClock<'a, R> {
     ghost use Rattle.std.specs.Prelude.{◌≡◌, None};
 
     /// A clock that counts from this instant, and wasn't read yet.
-    pub fn new(rt: &'a R, begun: Instant) -> PieceClock<'a, R>
+    pub fn new(rt: &'a R, begun: Instant, decisions: LaneDecisions<'a>) -> PieceClock<'a, R>
         ensures clock { result.clock.last ≡ 0 }
         ensures unread { result.moment ≡ None }
     {
         PieceClock {
             clock: RunningClock::new(rt, begun),
+            decisions,
             moment: None,
         }
     }
@@ -70,14 +76,14 @@ impl<'a, R: rt::Clock> PieceClock<'a, R> {
 
 impl<R: rt::Clock> Clock for PieceClock<'_, R> {
     ghost use Rattle.std.specs.Prelude.{◌≡◌, Some};
-    ghost use Rattle.rtsp_sockets.specs.Clocks.{TellsOnce};
+    ghost use Rattle.rtsp_sockets.specs.Clocks.{GoesOn};
 
-    ghost tells = { λ b moment c. (c.moment ≡ Some moment) × TellsOnce b.moment b.clock.last moment c.clock.last };
+    ghost tells = { λ b moment c. (c.moment ≡ Some moment) × GoesOn b.clock.last moment c.clock.last };
 
     fn now(&mut self) -> u64 {
         match self.moment {
-            Some(moment) => moment,
-            None => {
+            Some(moment) if !self.decisions.is_after(moment) => moment,
+            _ => {
                 let moment = self.clock.now();
                 self.moment = Some(moment);
                 moment

@@ -3,8 +3,9 @@
 //!
 //! `outlet` is the writing side of a connection, over `pending`, the bytes that wait to be written;
 //! `outlets` are those of all connections. `frame_room` is how much of a stream may wait, `loan` what
-//! a connection has of room that all share. `ports` are the sockets of ports that are bound. `words`
-//! and `clock` are the system's words and moments, `media` the files of the tracks. Where these aren't held
+//! a connection has of room that all share. `ports` are the sockets of ports that are bound, and `taken`
+//! those that others have. `words` and `clock` are the system's words and moments, `decisions` what lanes
+//! are deciding on, `media` the files of the tracks. Where these aren't held
 //! in memory, a `reader` reads them ahead, by `chunks` that are `wanted`.
 
 #![tactic(auto)]
@@ -14,6 +15,7 @@ mod bound;
 mod chunk_marks;
 mod chunks;
 mod clock;
+mod decisions;
 mod drawing;
 mod frame_room;
 mod loan;
@@ -30,6 +32,7 @@ mod put;
 mod read_at;
 mod reader;
 mod slots;
+mod taken;
 mod try_write;
 mod unit;
 mod wanted;
@@ -37,12 +40,13 @@ mod wishes;
 mod words;
 
 pub use clock::{PieceClock, RunningClock};
+pub use decisions::{Decisions, LaneDecisions};
 pub use frame_room::{FrameRoom, LENT_IN_ALL, MOST_ROOM};
 pub use loan::{Loan, SharedRoom};
 pub use media::{HELD_LIMIT, Media, MediaFault, MediaOf};
 pub use message::{ALL_ROOM, FRAME_ROOM, Message};
 pub use options::{FIRST_SEND_BUFFER, SEND_BUFFER, prepare};
-pub use outlet::{Outlet, STALL_LIMIT};
+pub use outlet::{Outlet, SLOW_LIMIT, STALL_LIMIT};
 pub use outlets::Outlets;
 pub use port_binder::PortBinder;
 pub use ports::{PortSockets, PortTable};

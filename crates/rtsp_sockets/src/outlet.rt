@@ -19,6 +19,10 @@ use std::sync::{Mutex, Wait};
 /// For how long, in milliseconds, a player may take none of the bytes that wait for it.
 pub const STALL_LIMIT: u64 = 10_000;
 
+/// For how long, in milliseconds, a player may be behind who takes less than 1,000 bytes a second of
+/// those that wait for it.
+pub const SLOW_LIMIT: u64 = 30_000;
+
 // A player who takes some of what waits within so many milliseconds counts as one who takes bytes soon.
 const SOON: u64 = 500;
 
@@ -179,8 +183,8 @@ impl Outlet {
         self.pending.lock(rt).len()
     }
 
-    /// Closes the connection where bytes wait and none was taken for `STALL_LIMIT` milliseconds.
-    /// Whether it did.
+    /// Closes the connection where bytes wait and none was taken for `STALL_LIMIT` milliseconds, or fewer
+    /// than a byte a millisecond for so long that `SLOW_LIMIT` milliseconds aren't paid. Whether it did.
     pub fn close_stalled<R: Wait>(&self, rt: &R, now: u64) -> bool {
         let mut pending = self.pending.lock(rt);
         let is_stalled = pending.is_stalled(now);

@@ -8,7 +8,7 @@ ghost use Rattle.rtsp_sockets.specs.Passing.{Puts, Lends, Borrows, Flushed, Ends
 use crate::frame_room::FrameRoom;
 use crate::loan::Loan;
 use crate::message::{ALL_ROOM, FRAME_ROOM, Message};
-use crate::outlet::STALL_LIMIT;
+use crate::outlet::{SLOW_LIMIT, STALL_LIMIT};
 use crate::put::Put;
 use crate::try_write::TryWrite;
 use bytes::{Buf, BytesMut};
@@ -49,6 +49,8 @@ pub(crate) struct Pending {
     condition: Condition,
     // The moment at which a byte was written, or at which the first came to wait.
     since: u64,
+    // The moment up to which what was written since then pays, at a byte a millisecond.
+    paid: u64,
     // The greatest room with which a frame came that waits.
     room: FrameRoom,
     // What frames take beyond the room that each connection has by itself.
@@ -65,7 +67,7 @@ impl Model for Pending {
 
     ghost Value = { Waiting };
 
-    ghost view = { λ p. record { bytes = p.bytes.items; spare = p.bytes.spare; condition = p.condition; since = p.since; room = p.room; lent = p.loan } };
+    ghost view = { λ p. record { bytes = p.bytes.items; spare = p.bytes.spare; condition = p.condition; since = p.since; paid = p.paid; room = p.room; lent = p.loan } };
 
     ghost invariant = { λ p. (length p.bytes.items ≤ all_room + p.loan) × (p.loan ≤ length p.bytes.items - frame_room) × (p.loan ≤ most_lent) × (p.condition ≡ Closed → p.bytes.items ≡ []) };
 }
@@ -76,6 +78,7 @@ impl Pending {
         ensures bytes { result.bytes ≡ [] }
         ensures condition { result.condition ≡ Condition.Open }
         ensures since { result.since ≡ 0 }
+        ensures paid { result.paid ≡ 0 }
         ensures room { result.room ≡ frame_room }
         ensures lent { result.lent ≡ 0 }
     {
@@ -85,6 +88,7 @@ impl Pending {
             bytes: BytesMut::new(alloc),
             condition: Condition::Open,
             since: 0,
+            paid: 0,
             room: FrameRoom::least(),
             loan,
             peak: 0,
@@ -125,6 +129,7 @@ impl Pending {
     pub(crate) fn close(&mut self)
         ensures shut { IsShut self.new }
         ensures since { self.new.since ≡ self.old.since }
+        ensures paid { self.new.paid ≡ self.old.paid }
         ensures room { self.new.room ≡ self.old.room }
         ensures lent { self.new.lent ≡ 0 }
     {
@@ -154,6 +159,7 @@ impl Pending {
         ensures lacks { OnFalse result (LacksRoom most self.old (length (self.old.bytes ++ bytes.now))) }
         ensures alike { IsAlike self.old self.new }
         ensures since { self.new.since ≡ self.old.since }
+        ensures paid { self.new.paid ≡ self.old.paid }
         ensures room { self.new.room ≡ self.old.room }
         ensures lent { self.new.lent ≡ self.old.lent }
     {
@@ -177,6 +183,7 @@ impl Pending {
         ensures returned { OnFalse result (self.new.lent ≡ self.old.lent) }
         ensures alike { IsAlike self.old self.new }
         ensures since { self.new.since ≡ self.old.since }
+        ensures paid { self.new.paid ≡ self.old.paid }
         ensures room { self.new.room ≡ self.old.room }
     {
         let lent = self.loan.bytes();
@@ -200,6 +207,7 @@ impl Pending {
         ensures held { Holds self.old kind bytes.now self.new result }
         ensures lends { Lends self.old kind self.new result }
         ensures since { self.new.since ≡ self.old.since }
+        ensures paid { self.new.paid ≡ self.old.paid }
         ensures room { self.new.room ≡ self.old.room }
     {
         let is_kept = match kind {
@@ -227,6 +235,7 @@ impl Pending {
         ensures puts { Puts W.tries to.old to.new self.old kind bytes.now self.new result }
         ensures lends { Lends self.old kind self.new result }
         ensures since { result ≡ Put.Kept → self.new.since ≡ now }
+        ensures paid { result ≡ Put.Kept → self.new.paid ≡ now }
         ensures room { self.new.room ≡ self.old.room }
     {
         let Some(n) = to.try_write(bytes) else {
@@ -237,6 +246,7 @@ impl Pending {
             return Put::Sent;
         }
         self.since = now;
+        self.paid = now;
         if n == 0 {
             return self.keep(kind, bytes);
         }
@@ -259,6 +269,8 @@ impl Pending {
         ensures closed { IsClosed self.old → result ≡ Put.Closed }
         ensures begins { result ≡ Put.Kept → self.old.bytes ≡ [] → self.new.since ≡ now }
         ensures since { self.old.bytes ≢ [] → self.new.since ≡ self.old.since }
+        ensures pays { result ≡ Put.Kept → self.old.bytes ≡ [] → self.new.paid ≡ now }
+        ensures paid { self.old.bytes ≢ [] → self.new.paid ≡ self.old.paid }
     {
         if self.condition == Condition::Closed {
             return Put::Closed;
@@ -279,6 +291,7 @@ impl Pending {
         ensures bytes { self.new.bytes ≡ self.old.bytes }
         ensures alike { IsAlike self.old self.new }
         ensures since { self.new.since ≡ self.old.since }
+        ensures paid { self.new.paid ≡ self.old.paid }
         ensures room { self.new.room ≡ self.old.room }
         ensures lent { self.new.lent ≡ self.old.lent }
     {
@@ -302,6 +315,7 @@ impl Pending {
         ensures alike { IsAlike self.old self.new }
         ensures progress { 0 < n → self.new.since ≡ now }
         ensures none { n ≡ 0 → self.new.since ≡ self.old.since }
+        ensures paid { self.new.paid ≡ min now (self.old.paid + n) }
         ensures room { self.new.room ≡ self.old.room }
         ensures lent { self.new.lent ≡ min self.old.lent (length self.new.bytes - frame_room) }
     {
@@ -309,6 +323,7 @@ impl Pending {
         if n > 0 {
             self.since = now;
         }
+        self.paid = self.paid.saturating_add(n as u64).min(now);
         self.loan
             .settle(self.bytes.len().saturating_sub(FRAME_ROOM));
         self.shrink();
@@ -321,6 +336,7 @@ impl Pending {
         ensures some { IfSome result (λ n. Flushed W.tries to.old to.new self.old self.new now n) }
         ensures none { IfNone result (IsShut self.new × Ends W.tries to.old to.new self.old) }
         ensures most { IfSome result (λ n. n ≤ most_room) }
+        ensures paid { IfSome result (λ n. self.old.bytes ≢ [] → self.new.paid ≡ min now (self.old.paid + (length self.old.bytes - n))) }
         ensures lent { self.new.lent ≡ min self.old.lent (length self.new.bytes - frame_room) }
         ensures room { self.new.room ≡ self.old.room }
     {
@@ -338,14 +354,15 @@ impl Pending {
         Some(self.bytes.len())
     }
 
-    // Whether bytes wait of which none was written for so long, in milliseconds, that the player
-    // counts as gone.
+    // Whether bytes wait of which none was written for so long, in milliseconds, or too few, that the
+    // player counts as gone.
     pub(crate) fn is_stalled(&self, now: u64) -> bool
         ensures { IsTrue result ↔ IsStalled self.now now }
     {
         self.condition != Condition::Closed
             && !self.bytes.is_empty()
-            && now.saturating_sub(self.since) > STALL_LIMIT
+            && (now.saturating_sub(self.since) > STALL_LIMIT
+                || now.saturating_sub(self.paid) > SLOW_LIMIT)
     }
 
     // Takes no more frames.

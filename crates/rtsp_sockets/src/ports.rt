@@ -1,6 +1,6 @@
 //! The sockets of the ports that are bound.
 
-ghost use Rattle.std.specs.Prelude.{◌≡◌, ◌⊎◌, ◌<◌, IfSome};
+ghost use Rattle.std.specs.Prelude.{◌≡◌, ◌⊎◌, ◌<◌, IfSome, IfOk};
 ghost use Rattle.std.specs.Arc.{arc_value};
 ghost use Rattle.rtsp_sockets.specs.Slots.{IsOf};
 ghost use Rattle.rtsp_sockets.specs.Sockets.{IsOpenedFor};
@@ -8,7 +8,10 @@ ghost use Rattle.rtsp_sockets.specs.Sockets.{IsOpenedFor};
 use crate::bound::Bound;
 use crate::options::drop_input;
 use crate::slots::Slots;
+use crate::taken::TakenPorts;
 use std::alloc::{AllocError, Global};
+use std::io;
+use std::io::ErrorKind;
 use std::net::{Ipv4Addr, Net, SocketAddrV4, UdpSocket};
 use std::os::fd::AsRawFd;
 use std::sync::{Arc, Mutex, Wait};
@@ -26,11 +29,40 @@ pub struct PortSockets {
     pub rtcp: Option<UdpSocket>,
 }
 
-/// The sockets of all ports that are bound, shared by all who bind.
+// Why a port isn't bound.
+#[derive(Clone, Copy, PartialEq, Eq)]
+pub(crate) enum PortFault {
+    // Another has it.
+    Taken,
+    // There is no socket, or none on this address of the host, whatever the port.
+    Other,
+}
+
+impl PortFault {
+    fn of(fault: &io::Error) -> PortFault {
+        if fault.kind() == ErrorKind::AddrInUse {
+            PortFault::Taken
+        } else {
+            PortFault::Other
+        }
+    }
+}
+
+// Where ports are to be bound, and how.
+#[derive(Clone, Copy, PartialEq, Eq)]
+pub(crate) struct Place {
+    // The address of the host.
+    pub(crate) host: Ipv4Addr,
+    // Whether a port isn't tried that was found to be another's since `forget_taken`.
+    pub(crate) trusts: bool,
+}
+
+/// The sockets of all ports that are bound, shared by all who bind, and which ports others have.
 pub struct PortTable {
     alloc: Global,
     pairs: Mutex<Slots<2>>,
     single: Mutex<Slots<1>>,
+    taken: Mutex<TakenPorts>,
 }
 
 // Written out, so that whoever lets go of it makes one call, and not one for each of its parts.
@@ -40,6 +72,7 @@ impl Drop for PortTable {
             alloc: _,
             pairs: _pairs,
             single: _single,
+            taken: _taken,
         } = self;
     }
 }
@@ -52,7 +85,14 @@ impl PortTable {
             alloc,
             pairs: Mutex::new(Slots::open(alloc, first_port, pairs)?),
             single: Mutex::new(Slots::open(alloc, first_port, 2 * pairs)?),
+            taken: Mutex::new(TakenPorts::open(alloc, first_port, 2 * pairs)?),
         })
+    }
+
+    /// Has all ports tried again that were found to be another's. Between two calls a binder that has met
+    /// some of them tries none of the others anew: it is called about once a second.
+    pub fn forget_taken<R: Wait>(&self, rt: &R) {
+        self.taken.lock(rt).forget();
     }
 
     /// The sockets of a pair, named by its first port, that is bound under this admission. Whoever
@@ -81,42 +121,100 @@ impl PortTable {
         sockets_of(rt, &self.single, admission, port)
     }
 
-    // Binds a pair under the admission, on this address of the host. Whether it is bound now. The
-    // sockets are opened and closed outside of the table's lock, so nobody waits for that. A pair and a
-    // single port that overlap can't both be bound: the system refuses the second its socket.
+    // Binds a pair under the admission. A refusal leaves nothing bound. The sockets are opened and closed
+    // outside of the table's lock, so nobody waits for that. A pair and a single port that overlap can't
+    // both be bound: the system refuses the second its socket.
     pub(crate) fn bind_pair<R: Net + Wait>(
         &self,
         rt: &R,
-        host: Ipv4Addr,
+        place: Place,
         admission: u64,
         pair: u16,
-    ) -> bool {
-        match open_address(rt, self.alloc, host, admission, pair) {
-            Some(bound) => put(rt, &self.pairs, bound),
-            None => false,
-        }
+    ) -> Result<(), PortFault> {
+        let bound = self.open_address(rt, place, admission, pair)?;
+        put(rt, &self.pairs, bound)
     }
 
     // The same for a port alone.
     pub(crate) fn bind_port<R: Net + Wait>(
         &self,
         rt: &R,
-        host: Ipv4Addr,
+        place: Place,
         admission: u64,
         port: u16,
-    ) -> bool {
-        match open_address(rt, self.alloc, host, admission, port) {
-            Some(bound) => put(rt, &self.single, bound),
-            None => false,
-        }
+    ) -> Result<(), PortFault> {
+        let bound = self.open_address(rt, place, admission, port)?;
+        put(rt, &self.single, bound)
     }
 
     pub(crate) fn unbind_pair<R: Wait>(&self, rt: &R, admission: u64, pair: u16) {
         drop(take(rt, &self.pairs, admission, pair));
+        self.note(rt, pair, None);
+        self.note(rt, pair.saturating_add(1), None);
     }
 
     pub(crate) fn unbind_port<R: Wait>(&self, rt: &R, admission: u64, port: u16) {
         drop(take(rt, &self.single, admission, port));
+        self.note(rt, port, None);
+    }
+
+    // Notes on which address of the host another has a port, or that none has it.
+    fn note<R: Wait>(&self, rt: &R, port: u16, host: Option<u32>) {
+        self.taken.lock(rt).note(port, host);
+    }
+
+    // Whether a port isn't to be tried.
+    fn is_known<R: Wait>(&self, rt: &R, place: Place, port: u16) -> bool {
+        place.trusts && self.taken.lock(rt).is_taken(place.host.to_bits(), port)
+    }
+
+    // A socket of this port. It counts as another's before it is tried, and no more where it isn't: so
+    // whoever lets go of it meanwhile is the last who notes of it.
+    fn open_port<R: Net + Wait>(
+        &self,
+        rt: &R,
+        place: Place,
+        port: u16,
+    ) -> Result<UdpSocket, PortFault> {
+        self.note(rt, port, Some(place.host.to_bits()));
+        let opened = open_socket(rt, place.host, port);
+        if !matches!(&opened, Err(PortFault::Taken)) {
+            self.note(rt, port, None);
+        }
+        opened
+    }
+
+    // The sockets of an address, one of each of its ports: of a pair, or of one port.
+    fn open_address<R: Net + Wait, const PORTS: usize>(
+        &self,
+        rt: &R,
+        place: Place,
+        admission: u64,
+        port: u16,
+    ) -> Result<Bound<PORTS>, PortFault>
+        requires { (PORTS ≡ 1) ⊎ (PORTS ≡ 2) }
+        ensures { IfOk result (λ b. IsOf b admission port) }
+    {
+        let second = port.saturating_add(1);
+        if self.is_known(rt, place, port) || (PORTS == 2 && self.is_known(rt, place, second)) {
+            return Err(PortFault::Taken);
+        }
+        let rtp = self.open_port(rt, place, port)?;
+        let rtcp = if PORTS == 2 {
+            Some(self.open_port(rt, place, second)?)
+        } else {
+            None
+        };
+        let sockets = PortSockets {
+            admission,
+            port,
+            rtp,
+            rtcp,
+        };
+        match Arc::new(self.alloc, sockets) {
+            Ok(sockets) => Ok(Bound { sockets }),
+            Err(_) => Err(PortFault::Other),
+        }
     }
 }
 
@@ -133,16 +231,20 @@ fn sockets_of<R: Wait, const PORTS: usize>(
     Arc::try_clone(slots.get(admission, port)?).ok()
 }
 
-// Puts an address into the table. Whether its place was free.
+// Puts an address into the table, where its place is free.
 fn put<R: Wait, const PORTS: usize>(
     rt: &R,
     slots: &Mutex<Slots<PORTS>>,
     bound: Bound<PORTS>,
-) -> bool
+) -> Result<(), PortFault>
     requires { 0 < PORTS }
 {
     let left = slots.lock(rt).put(bound);
-    left.is_none()
+    if left.is_none() {
+        Ok(())
+    } else {
+        Err(PortFault::Taken)
+    }
 }
 
 // Takes an address out of the table, where it is bound under this admission.
@@ -160,39 +262,14 @@ fn take<R: Wait, const PORTS: usize>(
 
 // A socket of this port on this address of the host, from which its packets leave. The reports that
 // players send to it are never read.
-fn open_socket<R: Net>(rt: &R, host: Ipv4Addr, port: u16) -> Option<UdpSocket> {
-    let socket = UdpSocket::bind(rt, SocketAddrV4::new(host, port)).ok()?;
-    socket.set_nonblocking(true).ok()?;
-    if drop_input(socket.as_raw_fd()) {
-        Some(socket)
+fn open_socket<R: Net>(rt: &R, host: Ipv4Addr, port: u16) -> Result<UdpSocket, PortFault> {
+    let socket = match UdpSocket::bind(rt, SocketAddrV4::new(host, port)) {
+        Ok(socket) => socket,
+        Err(fault) => return Err(PortFault::of(&fault)),
+    };
+    if socket.set_nonblocking(true).is_ok() && drop_input(socket.as_raw_fd()) {
+        Ok(socket)
     } else {
-        None
+        Err(PortFault::Other)
     }
-}
-
-// The sockets of an address, one of each of its ports: of a pair, or of one port.
-fn open_address<R: Net, const PORTS: usize>(
-    rt: &R,
-    alloc: Global,
-    host: Ipv4Addr,
-    admission: u64,
-    port: u16,
-) -> Option<Bound<PORTS>>
-    requires { (PORTS ≡ 1) ⊎ (PORTS ≡ 2) }
-    ensures { IfSome result (λ b. IsOf b admission port) }
-{
-    let rtp = open_socket(rt, host, port)?;
-    let rtcp = if PORTS == 2 {
-        Some(open_socket(rt, host, port.saturating_add(1))?)
-    } else {
-        None
-    };
-    let sockets = PortSockets {
-        admission,
-        port,
-        rtp,
-        rtcp,
-    };
-    let sockets = Arc::new(alloc, sockets).ok()?;
-    Some(Bound { sockets })
 }

@@ -1,55 +1,36 @@
 //! How many connections there are, and how many there may be.
 
 use crate::limits::CONNECTIONS;
-use rtsp_shares::ShareTable;
+use rtsp_shares::{Headcount, Refused};
 use std::alloc::{AllocError, Global};
 use std::sync::atomic::{AtomicBool, AtomicU64, Ordering};
 use std::sync::{Mutex, Wait};
 
-/// Why a connection isn't let in.
-#[derive(Clone, Copy, PartialEq, Eq)]
-pub enum Refused {
-    /// Its address has its whole share of the connections.
-    Share,
-    /// As many are open as may be.
-    Full,
-    /// No more are served.
-    Over,
-}
-
 /// Counts the connections of all lanes, and of each address where it has a share of them.
 #[derive(Drop)]
 pub struct Gate {
-    // How many connections are served in all, where that is limited.
-    limit: Option<u64>,
+    heads: Mutex<Headcount>,
     // How many may be open at once.
     most: AtomicU64,
-    entered: AtomicU64,
+    // How many are, as `heads` has it, for whoever doesn't wait.
     open: AtomicU64,
     is_shut: AtomicBool,
-    shares: Option<Mutex<ShareTable>>,
-}
-
-// What addresses have of the connections, where each has at most so many.
-fn shares_of(alloc: Global, share: Option<u16>) -> Result<Option<Mutex<ShareTable>>, AllocError> {
-    let Some(share) = share else {
-        return Ok(None);
-    };
-    let shares = ShareTable::new(alloc, usize::from(share), CONNECTIONS as usize)?;
-    Ok(Some(Mutex::new(shares)))
 }
 
 impl Gate {
     /// A gate through which so many connections go, or any number of them, and of each address so
     /// many at once, or any number.
     pub fn new(alloc: Global, limit: Option<u64>, share: Option<u16>) -> Result<Gate, AllocError> {
+        let share = match share {
+            Some(share) => Some(usize::from(share)),
+            None => None,
+        };
+        let heads = Headcount::new(alloc, limit, share, CONNECTIONS as usize)?;
         Ok(Gate {
-            limit,
+            heads: Mutex::new(heads),
             most: AtomicU64::new(CONNECTIONS),
-            entered: AtomicU64::new(0),
             open: AtomicU64::new(0),
             is_shut: AtomicBool::new(limit == Some(0)),
-            shares: shares_of(alloc, share)?,
         })
     }
 
@@ -59,50 +40,23 @@ impl Gate {
     }
 
     /// Lets a connection from this address in, where it may be served. Each that is let in is taken
-    /// leave of by `leave`.
+    /// leave of by `leave`. After the last that is served the gate is shut.
     pub fn enter<R: Wait>(&self, rt: &R, peer: u32) -> Result<(), Refused> {
         let most = self.most.load(Ordering::SeqCst);
-        if let Some(shares) = &self.shares
-            && !shares.lock(rt).take(peer)
-        {
-            // The places of all addresses are as many as there may be connections at all.
-            let is_full = self.open.load(Ordering::SeqCst) >= most;
-            return Err(if is_full {
-                Refused::Full
-            } else {
-                Refused::Share
-            });
-        }
-        let before = self.open.fetch_add(1, Ordering::SeqCst);
-        let refused = if before >= most {
-            Refused::Full
-        } else if self.is_within_limit() {
-            return Ok(());
-        } else {
-            Refused::Over
-        };
-        self.leave(rt, peer);
-        Err(refused)
-    }
-
-    // Whether one more connection is served in all, which is counted.
-    fn is_within_limit(&self) -> bool {
-        let Some(limit) = self.limit else {
-            return true;
-        };
-        let before = self.entered.fetch_add(1, Ordering::SeqCst);
-        if before.saturating_add(1) >= limit {
+        let mut heads = self.heads.lock(rt);
+        let entered = heads.enter(peer, most);
+        self.open.store(heads.count(), Ordering::SeqCst);
+        if heads.is_over() {
             self.shut();
         }
-        before < limit
+        entered
     }
 
     /// A connection from this address has ended.
     pub fn leave<R: Wait>(&self, rt: &R, peer: u32) {
-        self.open.fetch_sub(1, Ordering::SeqCst);
-        if let Some(shares) = &self.shares {
-            shares.lock(rt).give_back(peer);
-        }
+        let mut heads = self.heads.lock(rt);
+        heads.leave(peer);
+        self.open.store(heads.count(), Ordering::SeqCst);
     }
 
     /// How many connections are open.

@@ -6,7 +6,7 @@ ghost use Rattle.rtsp_threads.specs.Looks.{TellsOf};
 
 use rtsp_engine::{ShareSpent, Shares};
 use rtsp_lock::BookHandle;
-use rtsp_shares::{Living, ShareTable};
+use rtsp_shares::{EndedPlace, KeptPlace, Living, Search, ShareTable};
 use std::sync::{Mutex, Wait};
 
 // Whether a session lives, by a look at the book.
@@ -34,6 +34,12 @@ impl<R: Wait> Living for LivingSessions<'_, '_, R> {
     }
 }
 
+// Asks whether the session lives for which a place is kept.
+fn ask<R: Wait>(rt: &R, handle: &mut BookHandle, kept: KeptPlace) -> Option<EndedPlace> {
+    let mut living = LivingSessions { rt, handle };
+    kept.ask(&mut living)
+}
+
 /// The places that addresses have for sessions, as a lane takes them for what it answers.
 #[derive(Drop)]
 pub struct LaneShares<'a, R> {
@@ -47,16 +53,54 @@ pub struct LaneShares<'a, R> {
     refused: u64,
 }
 
-// Takes a place for an address. Where none is left, those are given back first whose session doesn't
-// live any more.
+// Takes a place for an address, or tells whose places may be given back first.
+fn take_or_search<R: Wait>(rt: &R, places: &Mutex<ShareTable>, peer: u32) -> Option<Search> {
+    let mut places = places.lock(rt);
+    if places.take(peer) {
+        None
+    } else {
+        Some(places.search(peer))
+    }
+}
+
+// A place that is to be asked about.
+fn next_kept<R: Wait>(
+    rt: &R,
+    places: &Mutex<ShareTable>,
+    search: &mut Search,
+) -> Option<KeptPlace> {
+    places.lock(rt).next_kept(search)
+}
+
+// Gives a place back, and takes one for an address.
+fn take_instead<R: Wait>(rt: &R, places: &Mutex<ShareTable>, ended: EndedPlace, peer: u32) -> bool {
+    let mut places = places.lock(rt);
+    places.give_back_ended(ended);
+    places.take(peer)
+}
+
+// Takes a place for an address. Where none is left, a few of its own are looked at, and the first is
+// given back whose session doesn't live any more. No look is made with the table held.
 fn take_place<R: Wait>(
     rt: &R,
     places: &Mutex<ShareTable>,
     handle: &mut BookHandle,
     peer: u32,
 ) -> bool {
-    let mut living = LivingSessions { rt, handle };
-    places.lock(rt).take_asking(&mut living, peer)
+    let Some(mut search) = take_or_search(rt, places, peer) else {
+        return true;
+    };
+    for _ in 0..search.looks() {
+        let Some(kept) = next_kept(rt, places, &mut search) else {
+            return false;
+        };
+        if let Some(ended) = ask(rt, handle, kept)
+            && take_instead(rt, places, ended, peer)
+        {
+            return true;
+        }
+    }
+    false
 }
 
 // Keeps the place that an address took for the session that was opened in it, or gives it back.
@@ -65,6 +109,26 @@ fn settle_place<R: Wait>(rt: &R, places: &Mutex<ShareTable>, peer: u32, opened: 
     match opened {
         Some(session) => places.keep(peer, session),
         None => places.give_back(peer),
+    }
+}
+
+// The last place that is kept below an index.
+fn kept_below<R: Wait>(rt: &R, places: &Mutex<ShareTable>, below: usize) -> Option<KeptPlace> {
+    places.lock(rt).kept_below(below)
+}
+
+/// Gives back all places that are kept for sessions which don't live any more, as a handle of the book
+/// sees them. The table is let go of before each look, so nobody waits for more than one place's.
+pub fn give_back_ended<R: Wait>(rt: &R, places: &Mutex<ShareTable>, handle: &mut BookHandle) {
+    let mut below = usize::MAX;
+    for _ in rt.forever() {
+        let Some(kept) = kept_below(rt, places, below) else {
+            break;
+        };
+        below = kept.at();
+        if let Some(ended) = ask(rt, handle, kept) {
+            places.lock(rt).give_back_ended(ended);
+        }
     }
 }
 

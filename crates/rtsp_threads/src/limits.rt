@@ -17,6 +17,13 @@ pub const PIECE: usize = 4_096;
 /// The most pieces of a connection that are read in one visit, before the next connection's turn.
 pub const PIECES: usize = 16;
 
+/// A visit reads no further piece once it has taken so long, and the next connection has its turn.
+pub const VISIT_TIME: u64 = 2;
+
+/// A lane visits no further connection in a turn that has taken so long: it looks first what else has
+/// come.
+pub const TURN_TIME: u64 = 10;
+
 /// The answers of a visit are written when it ends, and whenever they have grown to so many bytes.
 pub const ANSWERS: usize = 32 * 1_024;
 
@@ -57,6 +64,9 @@ pub const SIGNALS_EVERY: u64 = 100;
 /// How long connections have, once the server stops, to take what waits for them. The lanes then
 /// hang up, so that all is over within 3 s.
 pub const STOP_LIMIT: u64 = 2_500;
+
+/// The log tells which disk a stop waits for once the lanes were to have hung up so long ago.
+pub const STOP_TOLD_AFTER: u64 = 1_000;
 
 /// The queue of the log has room for about so many lines, in batches, where each answer has one; further
 /// ones are dropped and counted.

@@ -1,10 +1,11 @@
 //! The signals that ask the process to end, while it holds them back, by the system's own account of
 //! the process: no handler runs, and nothing is interrupted.
 //!
-//! Whoever starts the process has SIGTERM and SIGINT blocked, as `env --block-signal=TERM,INT` does,
-//! and what is blocked lasts over exec. A blocked signal that is sent doesn't end the process: it
+//! Whoever starts the process has SIGTERM, SIGINT and SIGHUP blocked, as `env --block-signal=TERM,INT,HUP`
+//! does, and what is blocked lasts over exec. A blocked signal that is sent doesn't end the process: it
 //! stays pending, and the line ShdPnd of /proc/self/status shows it, for good. So a signal can be
-//! seen once and never taken back, which is all that an end needs.
+//! seen once and never taken back, which is all that an end needs. A SIGHUP that is ignored, as under
+//! `nohup`, would be pending too while it is blocked: then it asks for nothing.
 
 use std::fs::File;
 use std::io;
@@ -20,6 +21,8 @@ const LENGTH: usize = 4_096;
 const READS: u32 = 16;
 
 // In the system's sets signal n is bit n - 1.
+const SIGHUP: u64 = 1;
+
 const SIGINT: u64 = 1 << 1;
 
 const SIGTERM: u64 = 1 << 14;
@@ -29,9 +32,9 @@ const SIGTERM: u64 = 1 << 14;
 pub enum StopAsked {
     /// None has come.
     Nothing,
-    /// SIGTERM or SIGINT has come: what is in hand is to be finished.
+    /// One of SIGTERM, SIGINT and SIGHUP has come: what is in hand is to be finished.
     Stop,
-    /// Both have: whoever asks has lost patience.
+    /// Two of them have: whoever asks has lost patience.
     StopNow,
 }
 
@@ -48,10 +51,13 @@ fn set_of(text: &str, name: &str) -> Option<u64> {
 // What is asked for by the signals that are pending for the process, by the text of its account.
 fn stop_asked(text: &str) -> Option<StopAsked> {
     let pending = set_of(text, "ShdPnd:")?;
-    Some(match (pending & SIGTERM != 0, pending & SIGINT != 0) {
-        (false, false) => StopAsked::Nothing,
-        (true, true) => StopAsked::StopNow,
-        _ => StopAsked::Stop,
+    let ignored = set_of(text, "SigIgn:")?;
+    let hangs_up = pending & SIGHUP != 0 && ignored & SIGHUP == 0;
+    let asks = (pending & SIGTERM != 0, pending & SIGINT != 0, hangs_up);
+    Some(match asks {
+        (false, false, false) => StopAsked::Nothing,
+        (true, false, false) | (false, true, false) | (false, false, true) => StopAsked::Stop,
+        _ => StopAsked::StopNow,
     })
 }
 

@@ -127,13 +127,19 @@ fn numbers(rt: HostRuntime) {
     }
 }
 
-const EXITS: [Exit; 9] = [
+const EXITS: [Exit; 10] = [
     Exit::Done,
     Exit::BadCommandLine,
     Exit::BadConfiguration,
     Exit::NotARecord(1),
     Exit::NotAllowed(65536),
     Exit::JournalTooLong,
+    Exit::FewDescriptors {
+        wanted: 94,
+        ports: 80,
+        others: 13,
+        limit: 64,
+    },
     Exit::DeviceFailed,
     Exit::BadMessage,
     Exit::OutOfMemory,
@@ -147,6 +153,7 @@ const WRITTEN: &str = "\
 2 rtspd: entry 1: not a record
 3 rtspd: entry 65536: not allowed
 3 rtspd: journal too long
+4 rtspd: 94 descriptors are wanted at least, 80 for pairs of ports, 13 for files, lanes and listeners, and 1 for a connection; the limit is 64
 4 rtspd: read or write failed
 5 rtspd: bad message
 6 rtspd: out of memory

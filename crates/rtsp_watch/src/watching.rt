@@ -37,6 +37,11 @@ impl<A: Answerer, T: Witness> Answerer for Watched<'_, '_, A, T> {
     ghost gives_up = { GivesUpWatched A.answers A.gives_up };
 
     fn answer(&mut self, alloc: Global, item: &Item, room: &mut Room) -> Result<(), AllocError> {
+        match item {
+            Item::Request(request) => self.witness.asked(request.method.as_bytes()),
+            Item::Frame(frame) => self.witness.heard(frame.channel),
+            Item::Response(_) => {}
+        }
         let before = room.as_bytes().len();
         let answered = self.answerer.answer(alloc, item, room);
         if let Item::Request(request) = item

@@ -25,6 +25,12 @@ impl Told<'_> {
 
 /// Who is told of each request that was answered. Several lanes may tell at once.
 pub trait Witness {
+    /// A request of this method, as the player wrote it, is about to be answered.
+    fn asked(&self, method: &[u8]);
+
+    /// A frame came on this channel.
+    fn heard(&self, channel: u8);
+
     /// A request was answered. The answer isn't written yet.
     fn answered(&self, told: &Told<'_>);
 }

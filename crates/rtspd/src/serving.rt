@@ -36,6 +36,16 @@ pub(crate) fn address_of(listen: Option<&str>) -> Result<SocketAddr, Exit> {
 fn fault_exit(fault: ServerFault) -> Exit {
     match fault {
         ServerFault::WrongLength => Exit::BadConfiguration,
+        ServerFault::FewDescriptors {
+            ports,
+            others,
+            limit,
+        } => Exit::FewDescriptors {
+            wanted: ports.saturating_add(others).saturating_add(1),
+            ports,
+            others,
+            limit,
+        },
         ServerFault::DeviceFailed | ServerFault::NoThread => Exit::DeviceFailed,
         ServerFault::OutOfMemory => Exit::OutOfMemory,
     }
@@ -75,18 +85,8 @@ fn hold_standard_streams<R: Files<File = File>>(rt: &R, alloc: Global) -> Result
     Ok(held)
 }
 
-// Tells on standard error where the limit of descriptors leaves fewer connections than pairs of ports.
-fn tell_of_descriptors<R: Eprint>(rt: &R, server: &Server) {
-    if server.lacks_descriptors() {
-        let room = server.connections();
-        let _ = eprintln!(rt;
-            "rtspd: beside the pairs there are descriptors for {room} connections"
-        );
-    }
-}
-
 /// Serves the connections of a socket by the configuration of a file, for ever or until so many
-/// have ended. One line is written, once the server listens and all its threads stand.
+/// have ended. One line is written, once the server listens and its threads stand.
 pub(crate) fn run_serve<
     R: Files<File = File>
         + AllocGlobal
@@ -118,7 +118,6 @@ where
         Ok(server) => server,
         Err(fault) => return Err(fault_exit(fault)),
     };
-    tell_of_descriptors(rt, &server);
     let announcer = Announcer {
         alloc: rt.alloc(),
         writer: CountedWriter::new(writer),

@@ -2,7 +2,7 @@
 
 #![tactic(auto)]
 
-use rtspd::{Exit, run_program, tell_reasons};
+use rtspd::{Exit, run_program, takes_last_lines, tell_reasons};
 use std::fs::File;
 use std::io::{Eprint, ErrorKind, Read, Write};
 use std::net::{Net, TcpListener, TcpStream};
@@ -30,7 +30,7 @@ fn words_fault(error: &io::Error) -> Exit {
     }
 }
 
-// Runs the words of the command line, and tells what went wrong.
+// Runs the words of the command line, and tells what went wrong, unless nobody takes it.
 fn run<
     R: Env
         + Files<File = File>
@@ -54,15 +54,11 @@ where
         texts.push(word.as_str())?;
     }
     let exit = run_program(rt, &texts, reader, writer, errors);
-    tell(rt, exit);
-    tell_reasons(rt, &texts, exit);
-    Ok(exit)
-}
-
-fn tell<R: Eprint>(rt: &R, exit: Exit) {
-    if exit != Exit::Done {
+    if exit != Exit::Done && takes_last_lines(rt, rt.alloc()) {
         let _ = eprintln!(rt; "{exit}");
+        tell_reasons(rt, &texts, exit);
     }
+    Ok(exit)
 }
 
 fn main(rt: HostRuntime) -> ExitCode {
@@ -70,7 +66,7 @@ fn main(rt: HostRuntime) -> ExitCode {
         Ok(exit) => exit,
         Err(error) => {
             let exit = words_fault(&error);
-            tell(&rt, exit);
+            let _ = eprintln!(&rt; "{exit}");
             exit
         }
     };
