@@ -13,6 +13,7 @@ from checks import Checks
 from rtsp_client.messages import written
 
 from .clean_stops import ends_cleanly
+from .floods import at_99
 from .runner import serving_test
 from .server import HERE, Presentation, Server
 
@@ -136,10 +137,6 @@ def asked_anew(server: Server) -> float:
     return 1000 * (time.monotonic() - began)
 
 
-def at_99(waits: List[float]) -> float:
-    return sorted(waits)[len(waits) * 99 // 100]
-
-
 @serving_test(limit=60, is_alone=True)
 def others_beside_a_flood_of_sessions(checks: Checks) -> None:
     """Beside 400 connections of ten addresses that begin and end sessions without end, an OPTIONS of somebody else is
@@ -169,8 +166,8 @@ def stops_beside_a_flooded_lane(checks: Checks) -> None:
 
 
 def spent_share(checks: Checks) -> Server:
-    """A server that looks at many sessions before it refuses one more."""
-    return Server(checks, ONE_TRACK, holds_signals=True, workers=1, sessions=2000, sessions_per_address=200, uplink=10**10)
+    """A server of one lane, with room for more sessions than the share of an address."""
+    return Server(checks, ONE_TRACK, holds_signals=True, workers=1, sessions=4000, sessions_per_address=2000, uplink=10**10)
 
 
 @serving_test(limit=60, is_timed=True)

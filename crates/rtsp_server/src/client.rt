@@ -17,7 +17,7 @@ use rtsp_lock::BookHandle;
 use rtsp_log::{Event as LogEvent, Log};
 use rtsp_metrics::Counters;
 use rtsp_sockets::{Loan, Outlet, prepare};
-use rtsp_threads::{Activity, PAUSE, PIECES, take_leave};
+use rtsp_threads::{Activity, LaneShares, PAUSE, PIECES, take_leave};
 use std::alloc::Global;
 use std::net::{Ipv4Addr, Net, SocketAddr};
 use std::os::fd::{AsRawFd, RawFd};
@@ -31,6 +31,8 @@ pub(crate) enum Visit {
     Done,
     /// There may be more to read.
     More,
+    /// There may be, but its pacer has a crowd of plays to hear of first.
+    Held,
     /// The connection has ended.
     Ended,
 }
@@ -165,7 +167,7 @@ impl Client {
             return Visit::Done;
         }
         if self.hearing.is_held_up(&service.shared.bells) {
-            return Visit::More;
+            return Visit::Held;
         }
         let read = self.read(service, tools, lane, until);
         self.hear(service, tools);
@@ -351,13 +353,15 @@ impl Client {
         self.activity.is_overdue(moment, timeout)
     }
 
-    /// Takes leave of the connection, and of its sessions.
-    pub(crate) fn end<R: Wait + Net>(mut self, rt: &R, shared: &Shared) {
+    /// Takes leave of the connection, and of its sessions. By the lane's handle it is looked which of them
+    /// live still.
+    pub(crate) fn end<R: Wait + Net>(mut self, rt: &R, shared: &Shared, lane: &mut BookHandle) {
         let Asker { conn, peer } = self.asker;
         self.outlet.close(rt);
         shared.outlets.remove(rt, conn);
         let mut binder = shared.unbinder(rt);
-        if take_leave(rt, &mut self.handle, &mut binder, conn) {
+        let mut shares = LaneShares::new(rt, shared.session_shares.as_ref(), lane);
+        if take_leave(rt, &mut self.handle, &mut binder, conn, &mut shares) {
             shared.ends.note();
         }
         shared.gate.leave(rt, peer);

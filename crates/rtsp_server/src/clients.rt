@@ -10,7 +10,7 @@ use mio::unix::SourceFd;
 use mio::{Events, Interest, Poll, Token, Waker};
 use rtsp_lock::BookHandle;
 use rtsp_roster::Roster;
-use rtsp_threads::{Acceptor, LaneTurn, SWEEP_EVERY, TURN_EVERY, TURN_TIME, VISIT_TIME};
+use rtsp_threads::{Acceptor, HELD_REST, LaneTurn, SWEEP_EVERY, TURN_EVERY, TURN_TIME, VISIT_TIME};
 use std::alloc::Global;
 use std::fs::File;
 use std::net::Net;
@@ -44,8 +44,9 @@ pub(crate) struct Clients {
     // The key of the connection that is hung up next where the server is at its end: those before it
     // had their turn.
     hung: usize,
-    // How many have ended in this turn.
+    // How many have ended in this turn, and how many were held up in it, which are in the queue.
     ended: u64,
+    held: usize,
 }
 
 // Written out, as that of `Shared` is.
@@ -63,6 +64,7 @@ impl Drop for Clients {
             read: _,
             hung: _,
             ended: _,
+            held: _,
         } = self;
     }
 }
@@ -103,15 +105,17 @@ impl Clients {
             read: 0,
             hung: 0,
             ended: 0,
+            held: 0,
         })
     }
 
     // How long it may wait for something to do, in milliseconds: not at all where connections are to be
-    // visited or hung up.
+    // visited or hung up, and not for long where all of these were held up.
     fn patience(&self, lanes: &AllLanes, lines: &LaneLines) -> u64 {
-        if self.roster.ready() > 0 || self.hung > 0 {
+        if self.roster.ready() > self.held || self.hung > 0 {
             return 0;
         }
+        let until_heard = if self.held > 0 { HELD_REST } else { TURN_EVERY };
         let until_stop = match lanes.stop_by() {
             Some(by) => by.saturating_sub(self.now),
             None => TURN_EVERY,
@@ -120,7 +124,7 @@ impl Clients {
             .patience(self.now)
             .min(lines.patience(self.now))
             .min(until_stop)
-            .min(TURN_EVERY)
+            .min(until_heard)
     }
 
     /// Waits for something to do, but no longer than the lines of the log may wait. Returns the moment up
@@ -149,6 +153,7 @@ impl Clients {
     pub(crate) fn begin_turn(&mut self, now: u64) -> u64 {
         self.now = self.now.max(now);
         self.ended = 0;
+        self.held = 0;
         self.now
     }
 
@@ -233,30 +238,40 @@ impl Clients {
         match visit {
             Visit::Done => {}
             Visit::More => self.roster.queue(key),
-            Visit::Ended => self.end(service.rt, service.shared, key),
+            Visit::Held => {
+                self.held = self.held.saturating_add(1);
+                self.roster.queue(key);
+            }
+            Visit::Ended => self.end(service.rt, service.shared, handle, key),
         }
     }
 
     // Takes leave of a connection.
-    fn end<R: Wait + Net>(&mut self, rt: &R, shared: &Shared, key: usize) {
+    fn end<R: Wait + Net>(
+        &mut self,
+        rt: &R,
+        shared: &Shared,
+        handle: &mut BookHandle,
+        key: usize,
+    ) {
         if let Some(client) = self.roster.remove(key) {
             let fd = client.fd();
             let _ = self.poll.registry().deregister(&mut SourceFd(&fd));
-            client.end(rt, shared);
+            client.end(rt, shared, handle);
             self.ended = self.ended.saturating_add(1);
         }
     }
 
     // Ends all connections, whatever waits for them: first those that are in the queue, since others
     // needn't be looked for there.
-    fn end_all<R: Wait + Net>(&mut self, service: &Service<'_, R>) {
+    fn end_all<R: Wait + Net>(&mut self, service: &Service<'_, R>, handle: &mut BookHandle) {
         for _ in 0..self.roster.ready() {
             if let Some(key) = self.roster.next_ready() {
-                self.end(service.rt, service.shared, key);
+                self.end(service.rt, service.shared, handle, key);
             }
         }
         for key in 0..self.roster.keys() {
-            self.end(service.rt, service.shared, key);
+            self.end(service.rt, service.shared, handle, key);
         }
         self.hung = 0;
     }
@@ -318,7 +333,7 @@ impl Clients {
                 self.visit_ready(service, handle);
                 self.hang_up_some(service, handle);
             }
-            Some(_) => self.end_all(service),
+            Some(_) => self.end_all(service, handle),
         }
     }
 

@@ -132,7 +132,7 @@ fn left_of_three<R: Wait + AllocGlobal>(rt: &R) -> Option<usize> {
     let places = Mutex::new(ShareTable::new(rt.alloc(), 3, 8).ok()?);
     for session in [Some(1_000), None, Some(1_001)] {
         let mut places = places.lock(rt);
-        places.take(7);
+        let _ = places.take(7);
         if let Some(session) = session {
             places.keep(7, session);
         }

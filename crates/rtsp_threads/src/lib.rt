@@ -31,12 +31,12 @@ pub use activity::Activity;
 pub use descriptors::{connections_for, descriptor_limit};
 pub use gate::Gate;
 pub use holdings::whole_of;
-pub use lane_shares::{LaneShares, give_back_ended};
+pub use lane_shares::{LaneShares, end_place, give_back_ended};
 pub use leaving::{close_book, end_expired, end_next_expired, take_leave};
 pub use limits::{
-    ACCEPT_RETRY, ACCEPTS, ANSWERS, CONNECTIONS, FEW_LINES, HELD_TOLD_AFTER, LAST_ROOM, LOG_LINES,
-    MESSAGE_LIMIT, PAUSE, PIECE, PIECES, SIGNALS_EVERY, SILENCE_LIMIT, STANDING_LIMIT, STOP_LIMIT,
-    STOP_TOLD_AFTER, SWEEP_EVERY, SWEEP_SESSIONS, TURN_EVERY, TURN_TIME, VISIT_TIME, WAITS,
+    ACCEPT_RETRY, ACCEPTS, ANSWERS, CONNECTIONS, FEW_LINES, HELD_REST, HELD_TOLD_AFTER, LAST_ROOM,
+    LOG_LINES, MESSAGE_LIMIT, PAUSE, PIECE, PIECES, SIGNALS_EVERY, SILENCE_LIMIT, STANDING_LIMIT,
+    STOP_LIMIT, STOP_TOLD_AFTER, SWEEP_EVERY, SWEEP_SESSIONS, TURN_EVERY, TURN_TIME, VISIT_TIME, WAITS,
 };
 pub use pool::{Lane, LaneTurn, PoolEnd, run_pool};
 pub use relieving::{ask_for_room, make_room};

@@ -49,6 +49,10 @@ pub const LAST_ROOM: usize = 10;
 /// had come, and a sweep goes no further.
 pub const TURN_EVERY: u64 = 200;
 
+/// How long a lane rests where all connections that are left to be visited wait for a pacer to hear of a
+/// crowd of plays.
+pub const HELD_REST: u64 = 1;
+
 /// The time between two sweeps.
 pub const SWEEP_EVERY: u64 = 1_000;
 
