@@ -1,16 +1,19 @@
 //! The connections of a lane of sockets, and its turns.
 
 use crate::all_lanes::AllLanes;
-use crate::client::{Client, Visit};
+use crate::client::Client;
 use crate::lane_lines::LaneLines;
 use crate::service::Service;
 use crate::shared::Shared;
 use crate::tools::Tools;
+use crate::visiting::Visit;
 use mio::unix::SourceFd;
 use mio::{Events, Interest, Poll, Token, Waker};
 use rtsp_lock::BookHandle;
-use rtsp_roster::Roster;
-use rtsp_threads::{Acceptor, LaneTurn, SWEEP_EVERY, TURN_EVERY, TURN_TIME, VISIT_TIME};
+use rtsp_roster::{Line, Roster};
+use rtsp_threads::{
+    Acceptor, LaneTurn, RoomLooks, SWEEP_EVERY, TURN_EVERY, TURN_TIME, VISIT_TIME,
+};
 use std::alloc::Global;
 use std::fs::File;
 use std::net::Net;
@@ -34,6 +37,8 @@ pub(crate) struct Clients {
     pub(crate) poll: Poll,
     events: Events<Global>,
     pub(crate) roster: Roster<Client>,
+    // The keys of those that were put aside, since the journal has no room for what they ask.
+    pub(crate) aside: Line,
     pub(crate) acceptor: Acceptor,
     tools: Tools,
     // The moment of the last turn, of the last sweep, and that up to which all that had come was
@@ -56,6 +61,7 @@ impl Drop for Clients {
             poll: _poll,
             events: _events,
             roster: _roster,
+            aside: _aside,
             acceptor: _acceptor,
             tools: _tools,
             now: _,
@@ -96,6 +102,7 @@ impl Clients {
             poll,
             events,
             roster: Roster::new(alloc),
+            aside: Line::new(alloc),
             acceptor,
             tools,
             now: 0,
@@ -108,7 +115,7 @@ impl Clients {
 
     // How long it may wait for something to do, in milliseconds: not at all where connections are to be
     // visited or hung up.
-    fn patience(&self, lanes: &AllLanes, lines: &LaneLines) -> u64 {
+    fn patience(&self, lanes: &AllLanes, lines: &LaneLines, looks: RoomLooks) -> u64 {
         if self.roster.ready() > 0 || self.hung > 0 {
             return 0;
         }
@@ -119,6 +126,7 @@ impl Clients {
         self.acceptor
             .patience(self.now)
             .min(lines.patience(self.now))
+            .min(self.patience_aside(self.now, looks))
             .min(until_stop)
             .min(TURN_EVERY)
     }
@@ -131,8 +139,9 @@ impl Clients {
         rt: &R,
         lanes: &AllLanes,
         lines: &LaneLines,
+        looks: RoomLooks,
     ) -> Option<u64> {
-        let time = Duration::from_millis(self.patience(lanes, lines));
+        let time = Duration::from_millis(self.patience(lanes, lines, looks));
         if self.poll.poll(&mut self.events, Some(time)).is_err() {
             thread::sleep(rt, Duration::from_millis(1));
             return None;
@@ -230,8 +239,13 @@ impl Clients {
         } else {
             client.visit(service, &mut self.tools, handle, until)
         };
+        if visit == Visit::Aside {
+            self.aside.put(key);
+            return;
+        }
+        self.aside.remove(key);
         match visit {
-            Visit::Done => {}
+            Visit::Done | Visit::Aside => {}
             Visit::More => self.roster.queue(key),
             Visit::Ended => self.end(service.rt, service.shared, key),
         }
@@ -239,6 +253,7 @@ impl Clients {
 
     // Takes leave of a connection.
     fn end<R: Wait + Net>(&mut self, rt: &R, shared: &Shared, key: usize) {
+        self.aside.remove(key);
         if let Some(client) = self.roster.remove(key) {
             let fd = client.fd();
             let _ = self.poll.registry().deregister(&mut SourceFd(&fd));
@@ -332,10 +347,12 @@ impl Clients {
     ) -> LaneTurn {
         self.gather();
         let is_none_new = self.accept_some(service, handle);
+        self.call_back(service, handle);
         self.visit_some(service, handle);
         if let Some(moment) = told
             && is_none_new
             && self.roster.ready() == 0
+            && self.aside.len() == 0
         {
             self.tell_read(service, moment);
         }
