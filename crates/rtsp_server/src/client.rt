@@ -1,5 +1,7 @@
 //! A connection of a lane.
 
+mod holding_back;
+
 use crate::answering::Front;
 use crate::channels::Channels;
 use crate::hearing::Hearing;
@@ -7,7 +9,7 @@ use crate::service::Service;
 use crate::shared::{Lent, Shared};
 use crate::tools::Tools;
 use crate::unread::UnreadLoan;
-use crate::visiting::Read;
+use crate::visiting::{Part, Read, Visit};
 use mio::event::Event;
 use mio::net::TcpStream;
 use rtsp_content::Players;
@@ -17,25 +19,12 @@ use rtsp_lock::BookHandle;
 use rtsp_log::{Event as LogEvent, Log};
 use rtsp_metrics::Counters;
 use rtsp_sockets::{Loan, Outlet, prepare};
-use rtsp_threads::{Activity, LaneShares, PAUSE, PIECES, take_leave};
+use rtsp_threads::{Activity, LaneShares, PAUSE, PIECES, RoomWait, take_leave};
 use std::alloc::Global;
 use std::net::{Ipv4Addr, Net, SocketAddr};
 use std::os::fd::{AsRawFd, RawFd};
 use std::rt;
 use std::sync::{Arc, Wait};
-
-/// What comes of a visit to a connection.
-#[derive(Clone, Copy, PartialEq, Eq)]
-pub(crate) enum Visit {
-    /// Nothing is left to be done until the system tells of it.
-    Done,
-    /// There may be more to read.
-    More,
-    /// There may be, but its pacer has a crowd of plays to hear of first.
-    Held,
-    /// The connection has ended.
-    Ended,
-}
 
 // How far a connection has come.
 #[derive(Clone, Copy, PartialEq, Eq)]
@@ -65,6 +54,8 @@ pub(crate) struct Client {
     is_ending: bool,
     // Whether it has been silent, or has owed the rest of a message, for too long.
     is_over: bool,
+    // For room in the journal.
+    room_wait: RoomWait,
     activity: Activity,
     hearing: Hearing,
 }
@@ -121,6 +112,7 @@ impl Client {
             is_writable: false,
             is_ending: false,
             is_over: false,
+            room_wait: RoomWait::new(),
             activity: Activity::new(service.now),
             hearing: Hearing::new(),
         })
@@ -169,7 +161,11 @@ impl Client {
         if self.hearing.is_held_up(&service.shared.bells) {
             return Visit::Held;
         }
-        let read = self.read(service, tools, lane, until);
+        let part = match self.part_to_read(service, tools, lane) {
+            Ok(part) => part,
+            Err(visit) => return visit,
+        };
+        let read = self.read(service, tools, lane, part, until);
         self.hear(service, tools);
         self.end_visit(service, tools, read)
     }
@@ -192,12 +188,13 @@ impl Client {
         }
     }
 
-    // Reads what is there, has it answered, and puts the answers into the outlet.
+    // Reads a part of what is there, has it answered, and puts the answers into the outlet.
     fn read<R: Wait + Net + rt::Clock>(
         &mut self,
         service: &Service<'_, R>,
         tools: &mut Tools,
         lane: &mut BookHandle,
+        part: Part,
         until: u64,
     ) -> Read {
         let Tools {
@@ -230,8 +227,9 @@ impl Client {
             plays,
             heard,
             activity,
+            has_room: true,
         };
-        front.visit(input, room, piece.as_mut_slice(), *is_ending, until)
+        front.visit(input, room, piece.as_mut_slice(), part, *is_ending, until)
     }
 
     // Where the players are GStreamer, RTCP keeps the session alive that plays over the connection.
@@ -347,7 +345,7 @@ impl Client {
     // Whether the player has been silent for too long, or has owed the rest of a message for too
     // long, where the connection is read.
     fn is_overdue(&self, moment: u64, timeout: u64) -> bool {
-        if self.stage != Stage::Open {
+        if self.stage != Stage::Open || self.room_wait.is_begun() {
             return false;
         }
         self.activity.is_overdue(moment, timeout)
@@ -383,6 +381,7 @@ impl Drop for Client {
             is_writable: _,
             is_ending: _,
             is_over: _,
+            room_wait: _,
             activity: _,
             hearing: _,
         } = self;

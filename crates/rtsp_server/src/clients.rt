@@ -1,16 +1,19 @@
 //! The connections of a lane of sockets, and its turns.
 
 use crate::all_lanes::AllLanes;
-use crate::client::{Client, Visit};
+use crate::client::Client;
 use crate::lane_lines::LaneLines;
 use crate::service::Service;
 use crate::shared::Shared;
 use crate::tools::Tools;
+use crate::visiting::Visit;
 use mio::unix::SourceFd;
 use mio::{Events, Interest, Poll, Token, Waker};
 use rtsp_lock::BookHandle;
-use rtsp_roster::Roster;
-use rtsp_threads::{Acceptor, HELD_REST, LaneTurn, SWEEP_EVERY, TURN_EVERY, TURN_TIME, VISIT_TIME};
+use rtsp_roster::{Line, Roster};
+use rtsp_threads::{
+    Acceptor, HELD_REST, LaneTurn, RoomLooks, SWEEP_EVERY, TURN_EVERY, TURN_TIME, VISIT_TIME,
+};
 use std::alloc::Global;
 use std::fs::File;
 use std::net::Net;
@@ -34,6 +37,8 @@ pub(crate) struct Clients {
     pub(crate) poll: Poll,
     events: Events<Global>,
     pub(crate) roster: Roster<Client>,
+    // The keys of those that were put aside, since the journal has no room for what they ask.
+    pub(crate) aside: Line,
     pub(crate) acceptor: Acceptor,
     tools: Tools,
     // The moment of the last turn, of the last sweep, and that up to which all that had come was
@@ -57,6 +62,7 @@ impl Drop for Clients {
             poll: _poll,
             events: _events,
             roster: _roster,
+            aside: _aside,
             acceptor: _acceptor,
             tools: _tools,
             now: _,
@@ -98,6 +104,7 @@ impl Clients {
             poll,
             events,
             roster: Roster::new(alloc),
+            aside: Line::new(alloc),
             acceptor,
             tools,
             now: 0,
@@ -111,7 +118,7 @@ impl Clients {
 
     // How long it may wait for something to do, in milliseconds: not at all where connections are to be
     // visited or hung up, and not for long where all of these were held up.
-    fn patience(&self, lanes: &AllLanes, lines: &LaneLines) -> u64 {
+    fn patience(&self, lanes: &AllLanes, lines: &LaneLines, looks: RoomLooks) -> u64 {
         if self.roster.ready() > self.held || self.hung > 0 {
             return 0;
         }
@@ -123,6 +130,7 @@ impl Clients {
         self.acceptor
             .patience(self.now)
             .min(lines.patience(self.now))
+            .min(self.patience_aside(self.now, looks))
             .min(until_stop)
             .min(until_heard)
     }
@@ -135,8 +143,9 @@ impl Clients {
         rt: &R,
         lanes: &AllLanes,
         lines: &LaneLines,
+        looks: RoomLooks,
     ) -> Option<u64> {
-        let time = Duration::from_millis(self.patience(lanes, lines));
+        let time = Duration::from_millis(self.patience(lanes, lines, looks));
         if self.poll.poll(&mut self.events, Some(time)).is_err() {
             thread::sleep(rt, Duration::from_millis(1));
             return None;
@@ -235,8 +244,13 @@ impl Clients {
         } else {
             client.visit(service, &mut self.tools, handle, until)
         };
+        if visit == Visit::Aside {
+            self.aside.put(key);
+            return;
+        }
+        self.aside.remove(key);
         match visit {
-            Visit::Done => {}
+            Visit::Done | Visit::Aside => {}
             Visit::More => self.roster.queue(key),
             Visit::Held => {
                 self.held = self.held.saturating_add(1);
@@ -254,6 +268,7 @@ impl Clients {
         handle: &mut BookHandle,
         key: usize,
     ) {
+        self.aside.remove(key);
         if let Some(client) = self.roster.remove(key) {
             let fd = client.fd();
             let _ = self.poll.registry().deregister(&mut SourceFd(&fd));
@@ -347,10 +362,12 @@ impl Clients {
     ) -> LaneTurn {
         self.gather();
         let is_none_new = self.accept_some(service, handle);
+        self.call_back(service, handle);
         self.visit_some(service, handle);
         if let Some(moment) = told
             && is_none_new
             && self.roster.ready() == 0
+            && self.aside.len() == 0
         {
             self.tell_read(service, moment);
         }

@@ -179,13 +179,13 @@ impl Shared {
         PortBinder::new(rt, &self.ports, Ipv4Addr::UNSPECIFIED)
     }
 
-    /// Keeps the journal from filling, before a lane has a piece answered.
+    /// Keeps the journal from filling. Whether there is room for what a piece may record.
     pub(crate) fn make_room<R: Wait + rt::Clock>(
         &self,
         rt: &R,
         table: &Table,
         lane: &mut BookHandle,
-    ) {
+    ) -> bool {
         match &self.scribe {
             Some(scribe) => ask_for_room(rt, table, lane, scribe),
             None => make_room(rt, table, lane),
