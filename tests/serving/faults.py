@@ -1,4 +1,5 @@
-"""A server whose memory and system calls are refused, by number, while it runs: a library before the C library does it."""
+"""A server whose memory and system calls are refused or held up, by number, while it runs: a library before the C library
+does it."""
 import mmap
 import pathlib
 import struct
@@ -7,8 +8,8 @@ from typing import Dict
 
 from checks import Failed
 
-# Of each kind calls are counted, and those from the first to the last are refused with an error's number, or made late
-# by milliseconds and not refused.
+# Of each kind calls are counted, and those from the first to the last are refused with an error's number, or, where there
+# are milliseconds, held up for so long.
 KINDS = "memory", "receive", "send", "datagram", "bind", "words", "accept", "thread", "clock"
 PLAN = struct.Struct("@5L")
 FOR_EVER = (1 << 63) - 1
@@ -63,11 +64,11 @@ __attribute__((constructor)) static void begin(void) {
 
 static int is_refused(int kind) {
     unsigned long number = __atomic_add_fetch(&plans[kind].asked, 1, __ATOMIC_SEQ_CST);
-    unsigned long late = plans[kind].milliseconds;
     if (number < plans[kind].first || number > plans[kind].last)
         return 0;
-    if (late) {
-        struct timespec time = {late / 1000, late % 1000 * 1000000};
+    unsigned long milliseconds = plans[kind].milliseconds;
+    if (milliseconds) {
+        struct timespec time = {milliseconds / 1000, milliseconds % 1000 * 1000000};
         syscall(SYS_nanosleep, &time, 0);
         return 0;
     }
@@ -143,13 +144,13 @@ class Faults:
 
     def refuse(self, kind: str, first: int, last: int = FOR_EVER, error: int = 0) -> None:
         """From now on counts the calls of a kind anew, and refuses those from the first to the last."""
-        self.plan(kind, first, last, error, 0)
+        self._plan(kind, first, last, error, 0)
 
-    def delay(self, kind: str, first: int, milliseconds: int, last: int = FOR_EVER) -> None:
-        """From now on counts the calls of a kind anew, and makes those from the first to the last late."""
-        self.plan(kind, first, last, 0, milliseconds)
+    def hold(self, kind: str, milliseconds: int, first: int = 1, last: int = 1) -> None:
+        """From now on counts the calls of a kind anew; those from the first to the last stand for so long, and go on."""
+        self._plan(kind, first, last, 0, milliseconds)
 
-    def plan(self, kind: str, first: int, last: int, error: int, milliseconds: int) -> None:
+    def _plan(self, kind: str, first: int, last: int, error: int, milliseconds: int) -> None:
         at = KINDS.index(kind) * PLAN.size
         self.plans[at : at + PLAN.size] = PLAN.pack(0, 0, 0, error, milliseconds)
         self.plans[at : at + PLAN.size] = PLAN.pack(0, first, last, error, milliseconds)

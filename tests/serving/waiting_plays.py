@@ -6,7 +6,7 @@ from checks import Checks
 from rtsp_client.player import Way
 
 from .checkpoints import MINUTE, SETTINGS, least_journal, play, poured
-from .faults import Faults
+from .faults import FOR_EVER, Faults
 from .plays import set_up_all
 from .runner import serving_test
 from .server import Presentation, Server, lease
@@ -60,7 +60,7 @@ def a_crowd_of_plays_is_waited_for(checks: Checks) -> None:
     with server:
         talk = server.connect()
         session = lease(talk, f"{server.uri}/a").session
-        faults.delay("datagram", 1, SLOW_PACKET)
+        faults.hold("datagram", SLOW_PACKET, 1, FOR_EVER)
         before, began = server.processor_seconds(), time.monotonic()
         talk.socket.sendall(play(server.uri, session) * PLAYS)
         checks.same("the answers", PLAYS, answers_to(talk.socket, PLAYS))

@@ -141,7 +141,7 @@ pub fn pace<'a, R: Wait + Clock>(
 {
     let clock = RunningClock::new(rt, parts.begun);
     let bell = parts.bell;
-    let mut desk = PacerDesk::new(rt, parts, clock, seat);
+    let mut desk = PacerDesk::new(rt, alloc, parts, clock, seat);
     let wheel = Wheel::new(desk.now());
     let mut pacing = Pacing {
         alloc,

@@ -2,10 +2,12 @@
 
 ghost use Rattle.std.specs.Prelude.{◌≡◌, ◌-◌, if◌then◌else◌};
 
+use crate::dropped::Dropped;
 use crate::ways::Ways;
+use crate::went::Went;
 use rtsp_metrics::Counters;
 use rtsp_rtp::{ControlSink, Packet, Sink, SinkFault};
-use rtsp_sockets::Media;
+use rtsp_sockets::{FrameRoom, Media};
 use std::sync::Wait;
 
 // Media and ways of one turn of a play. A packet that can't be sent is lost, and the play goes on;
@@ -19,8 +21,12 @@ pub(crate) struct PacketSink<'a, 'w, R> {
     pub(crate) ways: &'w Ways,
     pub(crate) presentation: usize,
     pub(crate) now: u64,
+    // How much of the play's streams may wait for a connection.
+    pub(crate) room: FrameRoom,
     pub(crate) packets: u64,
     pub(crate) lost: u64,
+    // What of the lost was dropped for want of room.
+    pub(crate) dropped: Option<Dropped>,
     // The calls that have failed, for whatever reason.
     pub(crate) failed: u64,
     // Whether the last of them was for a unit that isn't at hand.
@@ -81,10 +87,15 @@ impl<R: Wait> Sink for PacketSink<'_, '_, R> {
     }
 
     fn send(&mut self, track: u16, packet: &mut Packet) -> Result<(), SinkFault> {
-        if self.ways.send(self.rt, self.now, track, packet) {
+        let went = self.ways.send(self.rt, self.now, self.room, track, packet);
+        if went == Went::Sent {
             self.packets = self.packets.saturating_add(1);
         } else {
             self.lost = self.lost.saturating_add(1);
+        }
+        if let Went::Dropped(cause) = went {
+            let one = Dropped::one(cause, self.now);
+            self.dropped = Dropped::count(self.dropped, Some(one));
         }
         Ok(())
     }

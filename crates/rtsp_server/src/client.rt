@@ -337,7 +337,8 @@ impl Client {
     pub(crate) fn sweep<R: Wait>(&mut self, rt: &R, timeout: u64, moment: u64) -> bool {
         self.outlet.close_stalled(rt, moment);
         self.is_over = self.is_overdue(moment, timeout);
-        let waits = self.outlet.waiting(rt) > 0;
+        // A pacer may have written what the lane waits for, which the system doesn't tell of then.
+        let waits = self.outlet.waiting(rt) > 0 || self.stage != Stage::Open;
         self.is_writable = self.is_writable || waits;
         self.is_over || waits
     }

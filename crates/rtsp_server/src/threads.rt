@@ -149,6 +149,7 @@ impl Parts {
                 bell,
                 decisions: &shared.decisions,
                 counters: &shared.counters,
+                log: &shared.log,
                 begun: shared.begun,
             };
             readings.fetch_add(1, Ordering::Relaxed);

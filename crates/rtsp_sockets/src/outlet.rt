@@ -140,7 +140,8 @@ impl Outlet {
     /// Writes what waits, as far as it goes at once: how many bytes are left, beside those that are
     /// lent, or `None` where the connection is closed. It is 0 only where no byte waits. It is called
     /// whenever the system tells that the connection can be written, and from time to time, since the
-    /// system tells late: what it takes meanwhile is what the player has taken.
+    /// system tells late: what it takes meanwhile is what the player has taken. A pacer calls it where its
+    /// frames wait, since the lane may be held up.
     pub fn flush<R: Wait>(&self, rt: &R, now: u64) -> Option<usize>
         ensures { IfSome result (λ left. left ≤ all_room) }
     {
@@ -158,6 +159,11 @@ impl Outlet {
             }
         }
         Some(pending.unlent())
+    }
+
+    /// Whether it takes frames: the connection is open, and isn't at its end.
+    pub fn takes_frames<R: Wait>(&self, rt: &R) -> bool {
+        self.pending.lock(rt).takes_frames()
     }
 
     /// Takes no more frames: how many bytes still wait, beside those that are lent.
