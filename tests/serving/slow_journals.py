@@ -5,6 +5,7 @@ import multiprocessing
 import re
 import signal
 import socket
+import sys
 import time
 from multiprocessing.sharedctypes import Synchronized
 from typing import Iterator, List, NamedTuple, Tuple
@@ -72,7 +73,7 @@ class Talk:
         """The statuses of the answers that come next, and whether each is that to the next request."""
         piece = self.socket.recv(1 << 16)
         if not piece:
-            raise ConnectionResetError
+            sys.exit("the server hung up")
         *answers, self.held = (self.held + piece).split(END)
         taken = []
         for answer in answers:
