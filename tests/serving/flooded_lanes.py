@@ -116,10 +116,10 @@ def flooded(server: Server, addresses: List[str], asked: bytes) -> Iterator[None
             it.join()
 
 
-def asked_once(talk: socket.socket) -> float:
-    """After how many milliseconds an OPTIONS is answered."""
+def asked_once(talk: socket.socket, asked: bytes = OPTIONS) -> float:
+    """After how many milliseconds a request is answered."""
     began = time.monotonic()
-    talk.sendall(OPTIONS)
+    talk.sendall(asked)
     answer = b""
     while ENDED not in answer:
         piece = talk.recv(4096)

@@ -360,9 +360,9 @@ impl Clients {
         handle: &mut BookHandle,
         told: Option<u64>,
     ) -> LaneTurn {
+        self.call_back(service, handle);
         self.gather();
         let is_none_new = self.accept_some(service, handle);
-        self.call_back(service, handle);
         self.visit_some(service, handle);
         if let Some(moment) = told
             && is_none_new

@@ -1,5 +1,7 @@
 //! Tells, before it is answered, whether a request may make entries of the journal.
 
+ghost use Rattle.std.specs.Prelude.{◌≤◌, length};
+
 use crate::service::Service;
 use rtsp_book::SessionView;
 use rtsp_grammar::{Item, Method, Request, read_item};
@@ -26,16 +28,25 @@ impl<'a, R: Wait + rt::Clock> Foresight<'a, R> {
     }
 
     /// How many bytes at the front are whole items that make no entries.
-    pub(crate) fn harmless_len(&mut self, bytes: &[u8]) -> usize {
-        let mut at = 0;
+    pub(crate) fn harmless_len(&mut self, bytes: &[u8]) -> usize
+        ensures { result ≤ length bytes.now }
+    {
+        let mut rest = bytes;
         for _ in 0..bytes.len() {
-            let rest = bytes.get(at..).unwrap_or_default();
-            match read_item(self.service.alloc, rest) {
-                Ok(Some((item, len))) if !self.may_record(&item) => at = at.saturating_add(len),
-                Ok(_) | Err(_) => break,
+            match self.harmless_front(rest) {
+                Some(len) => rest = rest.get(len..).unwrap_or_default(),
+                None => break,
             }
         }
-        at
+        bytes.len().saturating_sub(rest.len())
+    }
+
+    // How long the item at the front is, where it is whole and makes no entries.
+    fn harmless_front(&mut self, bytes: &[u8]) -> Option<usize> {
+        match read_item(self.service.alloc, bytes) {
+            Ok(Some((item, len))) if !self.may_record(&item) => Some(len),
+            Ok(_) | Err(_) => None,
+        }
     }
 
     // Whether an item may make entries. RTCP may renew a session, which is an entry once in a while.

@@ -18,7 +18,7 @@ impl Clients {
     }
 
     /// Has those visited again that were put aside: all of them once there is room, in the order in
-    /// which they came, and else those that have waited for long enough.
+    /// which they were put there and before others, and else those that have waited for long enough.
     pub(crate) fn call_back<R: Wait + rt::Clock>(
         &mut self,
         service: &Service<'_, R>,
@@ -34,7 +34,7 @@ impl Clients {
                 return;
             };
             if has_room || self.has_waited(key, service.now) {
-                self.roster.queue(key);
+                self.roster.note(key);
             } else {
                 self.aside.put(key);
             }

@@ -9,8 +9,8 @@ use rtsp_log::Log;
 use rtsp_shares::ShareTable;
 use rtsp_sockets::{PortBinder, PortTable};
 use rtsp_threads::{
-    Gate, LaneShares, OwnStatus, Refused, Scribe, ScribeBell, StopAsked, StopBell, ask_for_room,
-    close_book, descriptor_limit, end_expired, end_next_expired, give_back_ended, make_room,
+    Gate, LaneShares, OwnStatus, Refused, RoomLooks, RoomWait, Scribe, ScribeBell, StopAsked, StopBell,
+    ask_for_room, close_book, descriptor_limit, end_expired, end_next_expired, give_back_ended, make_room,
     take_leave,
 };
 use std::alloc::{AllocError, Global};
@@ -201,11 +201,43 @@ fn a_turn_is_timed(rt: HostRuntime) {
     assert!(rt; rests && works && !bell.is_held_for(&rt, 0));
 }
 
-// There is room in an empty book, so nobody is waited for.
-fn has_room<R: Wait + Clock>(rt: &R, table: &Table, handle: &mut BookHandle, bell: &ScribeBell) {
-    make_room(rt, table, handle);
+#[test]
+fn a_wait_for_room_ends(rt: HostRuntime) {
+    let mut wait = RoomWait::new();
+    let waits_not = !wait.is_begun() && !wait.is_over(u64::MAX);
+    wait.begin(5);
+    wait.begin(9);
+    let waits = wait.is_begun() && !wait.is_over(5 + 126) && wait.is_over(5 + 127);
+    wait.end();
+    assert!(rt; waits_not && waits && !wait.is_begun());
+}
+
+#[test]
+fn looks_for_room_are_spaced(rt: HostRuntime) {
+    let mut looks = RoomLooks::new();
+    let mut now = 100u64;
+    let mut waited = looks.patience(now);
+    for pause in [1, 2, 4, 8, 8] {
+        looks.miss(now);
+        assert!(rt; looks.patience(now) == pause && !looks.is_due(now));
+        waited = waited.saturating_add(pause);
+        now = now.saturating_add(pause);
+        assert!(rt; looks.is_due(now));
+    }
+    looks.find();
+    assert!(rt; waited == 23 && looks.is_due(0));
+}
+
+// Whether there is room, in a book that is empty, for a lane that asks by itself or a scribe.
+fn has_room<R: Wait + Clock>(
+    rt: &R,
+    table: &Table,
+    handle: &mut BookHandle,
+    bell: &ScribeBell,
+) -> bool {
+    let is_made = make_room(rt, table, handle);
     handle.keep_entries();
-    ask_for_room(rt, table, handle, bell);
+    is_made && ask_for_room(rt, table, handle, bell)
 }
 
 fn scribe_of<R: Files<File = File> + AllocGlobal>(rt: &R) -> Option<Scribe> {
@@ -236,7 +268,9 @@ fn written_at_end<R: Files<File = File> + Wait + Clock + AllocGlobal>(
     let table = tone(rt.alloc(), "")?;
     let mut handle = empty_book(rt.alloc())?;
     let bell = ScribeBell::new();
-    has_room(rt, &table, &mut handle, &bell);
+    if !has_room(rt, &table, &mut handle, &bell) {
+        return None;
+    }
     let length = length_at_end(rt, &mut handle, &bell)?;
     Some([length, handle.tally(rt).entries])
 }
