@@ -3,7 +3,7 @@
 
 use crate::shared::Shared;
 use rtsp_lock::BookHandle;
-use rtsp_log::Event;
+use rtsp_log::{Event, Log};
 use rtsp_metrics::Counters;
 use rtsp_shares::Watermark;
 use rtsp_sockets::PortBinder;
