@@ -43,12 +43,12 @@ def plays_without_end_on_eight_connections(checks: Checks) -> None:
         player.tear_down()
 
 
-# A pacer takes so many milliseconds for a packet, of which a play has one a second, and hears of some plays meanwhile
-# only: as many wait as are a crowd.
-SLOW_PACKET, CROWD, PLAYS = 250, 4, 1_500
+# A pacer takes so many milliseconds for a packet, of which each play has one at once, and so many plays that wait are a
+# crowd.
+SLOW_PACKET, CROWD, PLAYS = 20, 4, 400
 SLOW = Presentation(units=60, unit_ms=1000, tracks=Presentation().tracks[:1])
-# Meanwhile the lane isn't busy: so much of the time at most.
-BUSY = 0.2
+# For so many seconds at least the connection is held up, and so much of the time at most the server is busy meanwhile.
+WAITED, BUSY = 2.0, 0.2
 
 
 @serving_test(limit=60, is_timed=True)
@@ -66,6 +66,6 @@ def a_crowd_of_plays_is_waited_for(checks: Checks) -> None:
         checks.same("the answers", PLAYS, answers_to(talk.socket, PLAYS))
         took, busy = time.monotonic() - began, server.processor_seconds() - before
         faults.stop()
-        checks.that("they waited for the pacer", took >= 10 * SLOW_PACKET / 1000, took)
+        checks.that("they waited for the pacer", took >= WAITED, took)
         checks.that("the lane rested", busy <= BUSY * took, (busy, took))
         talk.close()

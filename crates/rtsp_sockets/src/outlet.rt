@@ -6,9 +6,10 @@ ghost use Rattle.rtsp_sockets.specs.Rooms.{all_room, most_room};
 use crate::frame_room::FrameRoom;
 use crate::loan::Loan;
 use crate::message::Message;
-use crate::options::{limit_the_end, widen};
+use crate::options::{SEND_BUFFER, limit_the_end, widen};
 use crate::pending::Pending;
 use crate::put::Put;
+use crate::sparing::SparingWriter;
 use mio::net::TcpStream;
 use std::alloc::Global;
 use std::net::Shutdown;
@@ -26,12 +27,17 @@ pub const SLOW_LIMIT: u64 = 30_000;
 // A player who takes some of what waits within so many milliseconds counts as one who takes bytes soon.
 const SOON: u64 = 500;
 
+// For how many milliseconds a player may take what the system keeps of a connection that is closed: one
+// that is given up, and one on which all was written, at a byte a millisecond.
+const GIVEN_UP: u32 = STALL_LIMIT as u32;
+
+const WRITTEN: u32 = SEND_BUFFER;
+
 /// The writing side of a connection, shared by the lane that reads it and the pacers that send
 /// frames. It never blocks: what can't be written at once waits, up to a limit, and is written by
 /// `flush`. A message reaches the stream whole, or nothing of it does while the connection is open.
-/// Each call makes one system call at most while it holds the lock, unless a signal interrupts it,
-/// and two more where it closes the connection, or one more where it first finds that the player
-/// takes bytes soon. Moments are milliseconds of one clock.
+/// While it holds the lock a call gives the system no more than that takes, a few bytes at a time. Moments
+/// are milliseconds of one clock.
 pub struct Outlet {
     stream: TcpStream,
     pending: Mutex<Pending>,
@@ -90,9 +96,17 @@ impl Outlet {
         *requests
     }
 
-    // The player sees the end of the connection, and so does the lane.
-    fn shut(&self) {
-        limit_the_end(self.fd());
+    // As it is written to.
+    fn writer(&self) -> SparingWriter<'_> {
+        SparingWriter {
+            stream: &self.stream,
+        }
+    }
+
+    // The player sees the end of the connection, and so does the lane. It may take what the system keeps
+    // for so many milliseconds.
+    fn shut(&self, limit: u32) {
+        limit_the_end(self.fd(), limit);
         let _ = self.stream.shutdown(Shutdown::Both);
     }
 
@@ -130,9 +144,9 @@ impl Outlet {
         let mut pending = self.pending.lock(rt);
         let was_closed = pending.is_closed();
         pending.widen(room);
-        let put = pending.put(&mut &self.stream, now, kind, bytes);
+        let put = pending.put(&mut self.writer(), now, kind, bytes);
         if put == Put::Closed && !was_closed {
-            self.shut();
+            self.shut(GIVEN_UP);
         }
         put
     }
@@ -148,12 +162,12 @@ impl Outlet {
         let mut pending = self.pending.lock(rt);
         let was_closed = pending.is_closed();
         let (waited, since) = (pending.len(), pending.since());
-        match pending.flush(&mut &self.stream, now) {
+        match pending.flush(&mut self.writer(), now) {
             Some(left) if left < waited && now.saturating_sub(since) < SOON => self.widen(),
             Some(_) => {}
             None => {
                 if !was_closed {
-                    self.shut();
+                    self.shut(GIVEN_UP);
                 }
                 return None;
             }
@@ -196,17 +210,19 @@ impl Outlet {
         let is_stalled = pending.is_stalled(now);
         if is_stalled {
             pending.close();
-            self.shut();
+            self.shut(GIVEN_UP);
         }
         is_stalled
     }
 
-    /// Closes the connection. What waits is given up.
+    /// Closes the connection. What waits is given up. Where nothing does, the player has a millisecond for
+    /// each byte that the system may keep of what was written.
     pub fn close<R: Wait>(&self, rt: &R) {
         let mut pending = self.pending.lock(rt);
         if !pending.is_closed() {
+            let limit = if pending.len() == 0 { WRITTEN } else { GIVEN_UP };
             pending.close();
-            self.shut();
+            self.shut(limit);
         }
     }
 }
