@@ -121,6 +121,8 @@ def a_left_play_outlives_a_stop(checks: Checks) -> None:
         counted = place_of(float(point[1]) - LEFT_AT + 0.0005) if point else 0
         checks.that("some units were counted", counted > 0, paused.header("Range"))
         with stopped(server):
+            # The read that is under way stays held up, and later ones aren't.
+            disk.mend()
             time.sleep(STOOD_FOR)
         came = player.streams[0].reception
         checks.same("nothing has come yet", 0, len(came.packets))
@@ -132,12 +134,13 @@ def a_left_play_outlives_a_stop(checks: Checks) -> None:
 
 # For how long players don't read of whom it is told, in seconds.
 UNREAD = 4.0
-TOLD = re.compile(rb"warning session (\d+) lost frames, (\d+) so far: its player reads too slowly")
+LOSES = rb"warning session (\d+) lost frames, (\d+) so far: its player reads too slowly"
 
 
-def told_of(server: Telling) -> List[Tuple[int, int]]:
-    """The sessions of which it is told that frames were dropped, and how many."""
-    found = (TOLD.fullmatch(it) for it in server.told.events())
+def told_of(server: Telling, before: int) -> List[Tuple[int, int]]:
+    """The sessions of which it is told that frames were dropped, and how many, once there are more lines than before."""
+    server.told.has_more(LOSES, before, 2.0)
+    found = (re.fullmatch(LOSES, it) for it in server.told.events())
     return [(int(it[1]), int(it[2])) for it in found if it]
 
 
@@ -159,14 +162,12 @@ def dropped_frames_are_told(checks: Checks) -> None:
     port, address = shown_at()
     with Telling(checks, FILM, uplink=10**9, status=address) as server:
         stalls_twice(server)
-        lost = figures(port)[LOST]
-        told = told_of(server)
-        checks.same("sessions that are told of", 1, len(told))
-        checks.that("some frames are told of, and not more than are lost", 0 < told[0][1] < lost, (told, lost))
+        lost, told = figures(port)[LOST], told_of(server, 0)
+        checks.same("lines that tell of the first session", 1, len(told))
+        checks.that("some frames are told of, and less than are lost then", 0 < told[0][1] < lost, (told, lost))
         player = played(server)
         time.sleep(UNREAD)
         player.tear_down()
-        more = figures(port)[LOST] - lost
-        told = told_of(server)
-        checks.same("sessions that are told of then", 2, len(dict(told)))
-        checks.same("how many the second one lost", more, told[-1][1])
+        told, more = told_of(server, 1), figures(port)[LOST] - lost
+        checks.same("lines, and sessions that they tell of", (2, 2), (len(told), len(dict(told))))
+        checks.same("how many frames the second one lost", more, told[-1][1])

@@ -1,6 +1,7 @@
 //! A channel of a connection that frames go to.
 
 ghost use Rattle.std.specs.Prelude.{◌≡◌, ◌≢◌, ◌++◌, ℕ, List};
+ghost use Rattle.rtsp_sockets.specs.declared.put.Put.{Put};
 ghost use Rattle.rtsp_pacing.specs.Channels.{Puts, Keeps, room_when_late, taken_of};
 
 use crate::went::Went;
