@@ -1,8 +1,8 @@
 //! The sockets and files of a server, each a part by itself. No thread is started here. None waits here
 //! for more than a lock, except a reader, which waits for what it has to read.
 //!
-//! `outlet` is the writing side of a connection, over `pending`, the bytes that wait to be written, which
-//! it gives the system by a `sparing` writer; `outlets` are those of all connections. `frame_room` is how much of a stream may wait, `loan` what
+//! `outlet` is the writing side of a connection, over `pending`, the bytes that wait to be written;
+//! `outlets` are those of all connections. `frame_room` is how much of a stream may wait, `loan` what
 //! a connection has of room that all share. `ports` are the sockets of ports that are bound, and `taken`
 //! those that others have. `words` and `clock` are the system's words and moments, `decisions` what lanes
 //! are deciding on, `media` the files of the tracks. Where these aren't held
@@ -32,7 +32,6 @@ mod put;
 mod read_at;
 mod reader;
 mod slots;
-mod sparing;
 mod taken;
 mod try_write;
 mod unit;

@@ -9,7 +9,6 @@ use crate::message::Message;
 use crate::options::{SEND_BUFFER, limit_the_end, widen};
 use crate::pending::Pending;
 use crate::put::Put;
-use crate::sparing::SparingWriter;
 use mio::net::TcpStream;
 use std::alloc::Global;
 use std::net::Shutdown;
@@ -36,8 +35,9 @@ const WRITTEN: u32 = SEND_BUFFER;
 /// The writing side of a connection, shared by the lane that reads it and the pacers that send
 /// frames. It never blocks: what can't be written at once waits, up to a limit, and is written by
 /// `flush`. A message reaches the stream whole, or nothing of it does while the connection is open.
-/// While it holds the lock a call gives the system no more than that takes, a few bytes at a time. Moments
-/// are milliseconds of one clock.
+/// Each call makes one system call at most while it holds the lock, unless a signal interrupts it,
+/// and two more where it closes the connection, or one more where it first finds that the player
+/// takes bytes soon. Moments are milliseconds of one clock.
 pub struct Outlet {
     stream: TcpStream,
     pending: Mutex<Pending>,
@@ -96,13 +96,6 @@ impl Outlet {
         *requests
     }
 
-    // As it is written to.
-    fn writer(&self) -> SparingWriter<'_> {
-        SparingWriter {
-            stream: &self.stream,
-        }
-    }
-
     // The player sees the end of the connection, and so does the lane. It may take what the system keeps
     // for so many milliseconds.
     fn shut(&self, limit: u32) {
@@ -144,7 +137,7 @@ impl Outlet {
         let mut pending = self.pending.lock(rt);
         let was_closed = pending.is_closed();
         pending.widen(room);
-        let put = pending.put(&mut self.writer(), now, kind, bytes);
+        let put = pending.put(&mut &self.stream, now, kind, bytes);
         if put == Put::Closed && !was_closed {
             self.shut(GIVEN_UP);
         }
@@ -162,7 +155,7 @@ impl Outlet {
         let mut pending = self.pending.lock(rt);
         let was_closed = pending.is_closed();
         let (waited, since) = (pending.len(), pending.since());
-        match pending.flush(&mut self.writer(), now) {
+        match pending.flush(&mut &self.stream, now) {
             Some(left) if left < waited && now.saturating_sub(since) < SOON => self.widen(),
             Some(_) => {}
             None => {
