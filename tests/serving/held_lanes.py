@@ -1,6 +1,7 @@
 """A lane whose thread stands for seconds while the pacers go on, and plays that are late: a player that reads loses no packet;
 of one over TCP that doesn't read what is dropped is told."""
 import re
+import signal
 import time
 from typing import List, Tuple
 
@@ -158,9 +159,9 @@ def stalls_twice(server: Server) -> None:
 
 @serving_test(limit=90, is_timed=True)
 def dropped_frames_are_told(checks: Checks) -> None:
-    """By one line of the log for each session, with how many they were and why; all count as lost."""
+    """By one line of the log for each session, with how many they were and why, also at a stop; all count as lost."""
     port, address = shown_at()
-    with Telling(checks, FILM, uplink=10**9, status=address) as server:
+    with Telling(checks, FILM, uplink=10**9, status=address, holds_signals=True) as server:
         stalls_twice(server)
         lost, told = figures(port)[LOST], told_of(server, 0)
         checks.same("lines that tell of the first session", 1, len(told))
@@ -171,3 +172,29 @@ def dropped_frames_are_told(checks: Checks) -> None:
         told, more = told_of(server, 1), figures(port)[LOST] - lost
         checks.same("lines, and sessions that they tell of", (2, 2), (len(told), len(dict(told))))
         checks.same("how many frames the second one lost", more, told[-1][1])
+        player = played(server)
+        time.sleep(UNREAD)
+        server.process.send_signal(signal.SIGTERM)
+        checks.same("the status of a stop", 0, server.ends(5.0))
+        checks.same("lines, with one of who was there still", 3, len(told_of(server, 2)))
+        player.close()
+
+
+WITHOUT_MEMORY = rb"warning session \d+ lost frames, \d+ so far: no more is lent to what waits, or there is no memory"
+
+
+@serving_test(limit=60, is_timed=True)
+def frames_without_memory_are_told(checks: Checks) -> None:
+    """Where no memory is left for what waits, that is the reason."""
+    server = Telling(checks, FILM, uplink=10**9)
+    faults = Faults(server.path)
+    server.environment = faults.environment
+    with server:
+        player = played(server)
+        player.connection.wait(1.0)
+        faults.refuse("memory", 1)
+        time.sleep(1.5)
+        faults.stop()
+        player.connection.wait(1.0)
+        player.tear_down()
+        checks.that("it is told, and why", server.told.has(WITHOUT_MEMORY), server.told.events())

@@ -58,14 +58,14 @@ fn put_or_offer<O: FrameOutlet>(outlet: &mut O, frame: &[u8]) -> Put
 // The outlet of a connection, at a moment, for frames that may wait within a room. Others write there
 // too, so of its bytes no clause tells.
 #[derive(Drop)]
-struct Shared<'a, R> {
+struct ConnectionOutlet<'a, R> {
     rt: &'a R,
     outlet: &'a Outlet,
     now: u64,
     room: FrameRoom,
 }
 
-impl<R: Wait> FrameOutlet for Shared<'_, R> {
+impl<R: Wait> FrameOutlet for ConnectionOutlet<'_, R> {
     ghost use Rattle.std.specs.Prelude.{⊤};
 
     ghost puts = { λ before frame put after. ⊤ };
@@ -125,7 +125,7 @@ impl Channel {
     // Puts a frame, which may wait within this room. Where frames wait for long, since the connection's
     // lane is held up or its player is slow, they are offered from time to time.
     pub(crate) fn put<R: Wait>(&self, rt: &R, now: u64, room: FrameRoom, frame: &[u8]) -> Went {
-        let mut outlet = Shared {
+        let mut outlet = ConnectionOutlet {
             rt,
             outlet: &self.outlet,
             now,

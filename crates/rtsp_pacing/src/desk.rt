@@ -9,7 +9,7 @@ use crate::told::ToldSessions;
 use rtsp_book::{Refusal, SessionView, Step};
 use rtsp_content::Table;
 use rtsp_lock::{BookLock, BookSeat, Name};
-use rtsp_log::{Event, Log};
+use rtsp_log::{Event, FrameLoss, Log};
 use rtsp_metrics::Counters;
 use rtsp_npt::UnitLength;
 use rtsp_record::Phase;
@@ -226,11 +226,11 @@ impl<R: Wait + Clock> PacerDesk<'_, R> {
     pub(crate) fn tell_dropped(&mut self, session: u64, dropped: Dropped) {
         self.forget_told();
         if self.told.note(session) {
-            let event = Event::FramesDropped {
-                session,
+            let loss = FrameLoss {
                 frames: dropped.frames,
                 cause: dropped.cause,
             };
+            let event = Event::FramesDropped { session, loss };
             self.parts.log.event(self.rt, event);
         }
     }

@@ -167,5 +167,11 @@ pub fn pace<'a, R: Wait + Clock>(
         more = PLAYS_AT_ONCE;
         pacing.turn_due();
     }
-    pacing.desk.paced
+    let Pacing {
+        mut desk,
+        plays,
+        ..
+    } = pacing;
+    plays.tell_rest(&mut desk);
+    desk.paced
 }

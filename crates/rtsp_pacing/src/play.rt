@@ -12,9 +12,7 @@ use crate::noted::NewPlay;
 use crate::renewal::Renewal;
 use crate::sink::{PacketSink, failures_in};
 use crate::ways::{Ways, rate_of};
-use crate::when::{
-    at_pace, is_given_up, look_again, measured, next_unit, waited_on,
-};
+use crate::when::{at_pace, is_given_up, look_again, measured, next_unit, waited_on};
 use rtsp_book::SessionView;
 use rtsp_content::Presentation;
 use rtsp_record::Phase;
@@ -198,6 +196,13 @@ impl PacedPlay {
         };
         if is_due {
             self.dropped = None;
+            desk.tell_dropped(self.session(), dropped);
+        }
+    }
+
+    // Tells of frames that were dropped, where it wasn't: the pacer is at its end.
+    pub(crate) fn tell_rest<R: Wait + Clock>(&self, desk: &mut PacerDesk<'_, R>) {
+        if let Some(dropped) = self.dropped {
             desk.tell_dropped(self.session(), dropped);
         }
     }

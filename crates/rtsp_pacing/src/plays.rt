@@ -120,6 +120,13 @@ impl PacerPlays {
         }
     }
 
+    // Tells of frames of all plays that were dropped, where it wasn't: the pacer is at its end.
+    pub(crate) fn tell_rest<R: Wait + Clock>(&self, desk: &mut PacerDesk<'_, R>) {
+        for (_, linked) in self.plays.iter() {
+            linked.play.tell_rest(desk);
+        }
+    }
+
     // Drops the play of a key.
     pub(crate) fn remove(&mut self, key: usize)
         ensures gone { get self.new.plays key ≡ None }
