@@ -151,9 +151,11 @@ fn what_has_ended_is_given_back(rt: HostRuntime) {
 fn ends_nobody<R: Net + Wait>(
     rt: &R,
     mut handle: BookHandle,
+    mut lane: BookHandle,
     binder: &mut PortBinder<'_, R>,
 ) -> bool {
-    let has_ended = take_leave(rt, &mut handle, binder, 1);
+    let mut shares = LaneShares::new(rt, None, &mut lane);
+    let has_ended = take_leave(rt, &mut handle, binder, 1, &mut shares);
     let ended = end_expired(rt, &mut handle, binder, 9);
     let next = end_next_expired(rt, &mut handle, binder, 9);
     !has_ended && ended == 0 && next.is_none() && close_book(rt, handle, binder).is_some()
@@ -162,7 +164,8 @@ fn ends_nobody<R: Net + Wait>(
 fn is_closed<R: Net + Wait + AllocGlobal>(rt: &R) -> Option<bool> {
     let ports = PortTable::open(rt.alloc(), 5_000, 1).ok()?;
     let mut binder = PortBinder::new(rt, &ports, Ipv4Addr::LOCALHOST);
-    Some(ends_nobody(rt, empty_book(rt.alloc())?, &mut binder))
+    let (handle, lane) = (empty_book(rt.alloc())?, empty_book(rt.alloc())?);
+    Some(ends_nobody(rt, handle, lane, &mut binder))
 }
 
 #[test]
