@@ -11,9 +11,7 @@ use mio::unix::SourceFd;
 use mio::{Events, Interest, Poll, Token, Waker};
 use rtsp_lock::BookHandle;
 use rtsp_roster::{Line, Roster};
-use rtsp_threads::{
-    Acceptor, LaneTurn, RoomLooks, SWEEP_EVERY, TURN_EVERY, TURN_TIME, VISIT_TIME,
-};
+use rtsp_threads::{Acceptor, LaneTurn, RoomLooks, SWEEP_EVERY, TURN_EVERY, TURN_TIME, VISIT_TIME};
 use std::alloc::Global;
 use std::fs::File;
 use std::net::Net;
