@@ -86,7 +86,10 @@ impl<'a, R: Wait + rt::Clock> Foresight<'a, R> {
     #[inline(never)]
     fn is_renewed(&mut self, request: &ParsedRequest<'_>, id: u128) -> bool {
         let Service {
-            rt, table, shared, ..
+            rt,
+            table,
+            shared,
+            ..
         } = *self.service;
         let mut found: Option<SessionView> = None;
         let BookHandle { lock, seat } = &mut *self.handle;

@@ -1,6 +1,6 @@
 //! When a lane looks for room in the journal.
 
-ghost use Rattle.std.specs.Prelude.{◌≡◌, ◌↔◌, ◌≤◌, ◌<◌, ◌+◌, None, IsTrue, IfSome};
+ghost use Rattle.std.specs.Prelude.{◌≡◌, ◌↔◌, ◌≤◌, ◌<◌, ◌+◌, None, IsSome, IsTrue, IfSome};
 ghost use Rattle.rtsp_threads.specs.Waits.{IsDue, left_until};
 ghost use Rattle.rtsp_threads.specs.declared.limits.TheConstants.{LOOK_PAUSE};
 
@@ -36,6 +36,7 @@ impl RoomLooks {
 
     /// A look at this moment found no room.
     pub fn miss(&mut self, now: u64)
+        ensures again { IsSome self.new.next }
         ensures later { IfSome self.new.next (λ at. now < u64.MAX → now < at) }
         ensures soon { IfSome self.new.next (λ at. at ≤ now + LOOK_PAUSE) }
     {

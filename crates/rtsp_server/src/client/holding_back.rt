@@ -50,11 +50,7 @@ impl Client {
         let come = match self.outlet.stream().peek(piece) {
             Ok(0) => return Ok(Part::ONE_PIECE),
             Ok(come) => come,
-            Err(fault) if fault.kind() == ErrorKind::WouldBlock => {
-                self.is_readable = false;
-                return Err(Visit::Done);
-            }
-            Err(_) => return Ok(Part::ONE_PIECE),
+            Err(fault) => return self.part_beside_fault(fault.kind()),
         };
         // What follows a message of which a part is held isn't known.
         if !self.input.is_idle() {
@@ -64,6 +60,18 @@ impl Client {
         match foresight.harmless_len(piece.get(..come).unwrap_or_default()) {
             0 => Err(Visit::Aside),
             bytes => Ok(Part::of_bytes(bytes)),
+        }
+    }
+
+    // What may be read where looking at what has come failed: nothing where none has, or a signal came.
+    fn part_beside_fault(&mut self, kind: ErrorKind) -> Result<Part, Visit> {
+        match kind {
+            ErrorKind::WouldBlock => {
+                self.is_readable = false;
+                Err(Visit::Done)
+            }
+            ErrorKind::Interrupted => Err(Visit::Aside),
+            _ => Ok(Part::ONE_PIECE),
         }
     }
 }
