@@ -213,7 +213,11 @@ impl Outlet {
     pub fn close<R: Wait>(&self, rt: &R) {
         let mut pending = self.pending.lock(rt);
         if !pending.is_closed() {
-            let limit = if pending.len() == 0 { WRITTEN } else { GIVEN_UP };
+            let limit = if pending.len() == 0 {
+                WRITTEN
+            } else {
+                GIVEN_UP
+            };
             pending.close();
             self.shut(limit);
         }
