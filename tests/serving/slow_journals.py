@@ -180,13 +180,13 @@ def beside_a_slow_journal(checks: Checks, workers: int) -> None:
         checked(checks, server, "after a slow disk")
 
 
-@serving_test(limit=60, is_timed=True)
+@serving_test(limit=60, is_alone=True)
 def others_beside_a_slow_journal(checks: Checks) -> None:
     """Sixteen players PLAY and PAUSE beside them, with as many lanes as cores."""
     beside_a_slow_journal(checks, 4)
 
 
-@serving_test(limit=60, is_timed=True)
+@serving_test(limit=60, is_alone=True)
 def others_on_the_lane_of_a_slow_journal(checks: Checks) -> None:
     """So it is with all of them on one lane."""
     beside_a_slow_journal(checks, 1)
@@ -208,7 +208,7 @@ SHORT, MANY = 1_100, 2_000
 HELD_MS = 3_000
 
 
-@serving_test(limit=40, is_timed=True)
+@serving_test(limit=40, is_alone=True)
 def put_aside_no_longer_than_a_while(checks: Checks) -> None:
     """Beside a write that doesn't come back requests wait for a while, and then those without room are answered 503, each
     in order; once it has come back there is room again."""

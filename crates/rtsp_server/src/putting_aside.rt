@@ -18,7 +18,8 @@ impl Clients {
     }
 
     /// Has those visited again that were put aside: all of them once there is room, in the order in
-    /// which they were put there and before others, and else those that have waited for long enough.
+    /// which they were put there, and else those that have waited for long enough. Others of which the
+    /// system tells come before them, since these may ask for what needs no room.
     pub(crate) fn call_back<R: Wait + rt::Clock>(
         &mut self,
         service: &Service<'_, R>,
@@ -34,7 +35,7 @@ impl Clients {
                 return;
             };
             if has_room || self.has_waited(key, service.now) {
-                self.roster.note(key);
+                self.roster.queue(key);
             } else {
                 self.aside.put(key);
             }
