@@ -26,6 +26,7 @@ mod hearing;
 mod lane_lines;
 mod letting_in;
 mod opening;
+mod readers;
 mod recorded;
 mod server;
 mod service;
