@@ -47,9 +47,9 @@ mod words;
 
 pub use clock::{PieceClock, RunningClock};
 pub use decisions::{Decisions, LaneDecisions};
+pub use disk::READERS;
 pub use frame_room::{FrameRoom, LENT_IN_ALL, MOST_ROOM};
 pub use loan::{Loan, SharedRoom};
-pub use disk::READERS;
 pub use media::{HELD_LIMIT, Media, MediaFault, MediaOf, TrackPlace};
 pub use message::{ALL_ROOM, FRAME_ROOM, Message};
 pub use options::{FIRST_SEND_BUFFER, SEND_BUFFER, prepare};

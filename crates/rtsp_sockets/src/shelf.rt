@@ -72,13 +72,14 @@ impl<F: ReadAt> Shelf<F> {
 
     // Puts what came of reading a part. Some of what no play has asked for lately goes.
     pub(crate) fn put<R: Wait>(&self, rt: &R, cut: Cut, state: State<F>, now: u64) {
-        let mut spaces = self.spaces.lock(rt);
         for _ in 0..DROPPED_AT_ONCE {
-            if !spaces.drop_unused(now) {
+            // It is dropped without the lock, which pacers wait for.
+            let unused = self.spaces.lock(rt).take_unused(now);
+            if unused.is_none() {
                 break;
             }
         }
-        spaces.put(cut, state, now);
+        self.spaces.lock(rt).put(cut, state, now);
     }
 
     // Memory for so many bytes. Where there is none, what was asked for the longest ago goes. `None`
@@ -90,7 +91,8 @@ impl<F: ReadAt> Shelf<F> {
             if let Some(blank) = self.try_blank(len) {
                 return Some(blank);
             }
-            if !self.spaces.lock(rt).drop_oldest() {
+            let oldest = self.spaces.lock(rt).take_oldest();
+            if oldest.is_none() {
                 return None;
             }
         }

@@ -17,8 +17,9 @@ const SPACES: usize = 65_536;
 // For how many milliseconds a part is kept that no play has asked for.
 const UNUSED_FOR: u64 = 2_000;
 
-// After how many milliseconds a part that couldn't be read is tried again.
-const TRIED_AFTER: u64 = 10_000;
+// After how many milliseconds a part that couldn't be read is tried again. A play that waits for it looks
+// sooner, and learns of the fault.
+const TRIED_AFTER: u64 = 400;
 
 // What is known of a part.
 #[derive(Drop)]
@@ -32,7 +33,7 @@ pub(crate) enum State<F: ReadAt> {
 
 // A part of which something is known.
 #[derive(Drop)]
-struct Space<F: ReadAt> {
+pub(crate) struct Space<F: ReadAt> {
     // When a play asked for it last; of what can't be read, when that was found.
     asked_at: Cell<u64>,
     state: State<F>,
@@ -74,8 +75,7 @@ impl<F: ReadAt> Space<F> {
 
     // Whether it is as if nothing were known: what couldn't be read is tried again.
     fn is_over(&self, now: u64) -> bool {
-        matches!(self.state, State::Unreadable)
-            && !is_within(self.asked_at.get(), now, TRIED_AFTER)
+        matches!(self.state, State::Unreadable) && !is_within(self.asked_at.get(), now, TRIED_AFTER)
     }
 
     // A play asks for it.
@@ -121,14 +121,7 @@ impl<F: ReadAt> Spaces<F> {
     }
 
     // Copies the bytes at a place of a file that is in this part, where they are kept.
-    pub(crate) fn copy(
-        &mut self,
-        cut: Cut,
-        file: &F,
-        at: u64,
-        out: &mut [u8],
-        now: u64,
-    ) -> Found
+    pub(crate) fn copy(&mut self, cut: Cut, file: &F, at: u64, out: &mut [u8], now: u64) -> Found
         ensures copied { result ≡ Found.Copied → StandAt (F.text (F.number file.now)) at out.new }
         ensures others { (result ≡ Found.Copied → ⊥) → out.new ≡ out.old }
     {
@@ -172,18 +165,18 @@ impl<F: ReadAt> Spaces<F> {
         self.spaces.pop(&cut);
     }
 
-    // Drops what was asked for the longest ago. Whether there was anything.
-    pub(crate) fn drop_oldest(&mut self) -> bool {
-        self.spaces.pop_lru().is_some()
+    // Takes out what was asked for the longest ago.
+    pub(crate) fn take_oldest(&mut self) -> Option<Space<F>> {
+        let (_, space) = self.spaces.pop_lru()?;
+        Some(space)
     }
 
-    // Drops what was asked for the longest ago, where that is long ago. Whether it has.
-    pub(crate) fn drop_unused(&mut self, now: u64) -> bool {
-        match self.spaces.peek_lru() {
-            Some((_, space)) if !is_within(space.asked_at.get(), now, UNUSED_FOR) => {
-                self.drop_oldest()
-            }
-            _ => false,
+    // The same, where that is long ago.
+    pub(crate) fn take_unused(&mut self, now: u64) -> Option<Space<F>> {
+        let (_, oldest) = self.spaces.peek_lru()?;
+        if is_within(oldest.asked_at.get(), now, UNUSED_FOR) {
+            return None;
         }
+        self.take_oldest()
     }
 }

@@ -4,7 +4,7 @@ ghost use Rattle.std.specs.Prelude.{◌≡◌, length, IsOk, IfErr, OnOk, OnErr}
 ghost use Rattle.rtsp_sockets.specs.Files.{StandAt};
 ghost use Rattle.rtsp_sockets.specs.Media.{IsInMemory, IsUnitHeld, StandInFile};
 
-use crate::cut::Cut;
+use crate::cut::{Cut, Cuts};
 use crate::media::{MediaOf, Place};
 use crate::media_file::MediaFile;
 use crate::read_at::ReadAt;
@@ -51,14 +51,13 @@ impl<F: ReadAt> MediaOf<F> {
         };
         let at = u64::from(unit) * u64::from(place.octets);
         match &file.held {
-            Some(bytes) => file
-                .copy(bytes, at, out)
-                .map_err(|_| NotTaken::Unreadable),
+            Some(bytes) => file.copy(bytes, at, out).map_err(|_| NotTaken::Unreadable),
             None => self.take_kept(rt, file, place, at, now, out),
         }
     }
 
-    // Fills `out` with what stands at a place of a file, where that was read ahead.
+    // Fills `out` with what stands at a place of a file, where that was read ahead. What can't be read as
+    // a whole is read unit by unit.
     fn take_kept<R: Wait>(
         &self,
         rt: &R,
@@ -71,61 +70,43 @@ impl<F: ReadAt> MediaOf<F> {
         ensures ok { OnOk result (StandAt (F.text (F.number file.now.file)) at out.new) }
         ensures err { OnErr result (out.new ≡ out.old) }
     {
-        let step = place.step.max(1);
-        let cut = Cut::around(place.file, at, step, file.len);
-        let found = self.shelf.copy(rt, cut, &file.file, at, out, now);
-        let taken = match found {
+        let cuts = Cuts::of(place, at, file.len);
+        let taken = match self.shelf.copy(rt, cuts.whole, &file.file, at, out, now) {
             Found::Copied => Ok(()),
-            Found::Awaited => Err(NotTaken::Later),
-            Found::Unknown => self.wait_for(rt, file, cut, now),
-            Found::Unreadable => self.take_alone(rt, file, place, at, now, out),
+            whole => match self.shelf.copy(rt, cuts.alone, &file.file, at, out, now) {
+                Found::Copied => Ok(()),
+                alone => Err(self.wait_for(rt, file, cuts, whole, alone, now)),
+            },
         };
-        let next = cut.at.saturating_add(step);
-        self.want(rt, file, Cut::around(place.file, next, step, file.len), now);
+        self.want(rt, file, cuts.next, now);
         taken
     }
 
-    // The same of a unit by itself, since what is read with it at once can't be read as a whole.
-    fn take_alone<R: Wait>(
-        &self,
-        rt: &R,
-        file: &MediaFile<F>,
-        place: Place,
-        at: u64,
-        now: u64,
-        out: &mut [u8],
-    ) -> Result<(), NotTaken>
-        ensures ok { OnOk result (StandAt (F.text (F.number file.now.file)) at out.new) }
-        ensures err { OnErr result (out.new ≡ out.old) }
-    {
-        let octets = u64::from(place.octets).max(1);
-        if place.step <= octets {
-            return Err(NotTaken::Unreadable);
-        }
-        let cut = Cut::around(place.file, at, octets, file.len);
-        match self.shelf.copy(rt, cut, &file.file, at, out, now) {
-            Found::Copied => Ok(()),
-            Found::Awaited => Err(NotTaken::Later),
-            Found::Unknown => self.wait_for(rt, file, cut, now),
-            Found::Unreadable => Err(NotTaken::Unreadable),
-        }
-    }
-
-    // Has a part of a file read for which a play waits. Behind the end of the file there is none.
+    // Why a unit can't be had, of which this was found; it is asked for. Whether it can be read by itself
+    // is looked at first, so that whoever waits for it learns of its fault.
     fn wait_for<R: Wait>(
         &self,
         rt: &R,
         file: &MediaFile<F>,
-        cut: Cut,
+        cuts: Cuts,
+        whole: Found,
+        alone: Found,
         now: u64,
-    ) -> Result<(), NotTaken>
-        ensures { IfErr result (λ e. ⊤) × (IsOk result → ⊥) }
+    ) -> NotTaken
+        ensures { alone ≡ Found.Unreadable → result ≡ NotTaken.Unreadable }
     {
+        let cut = match (alone, whole) {
+            (Found::Unreadable, _) => return NotTaken::Unreadable,
+            (Found::Unknown, Found::Unknown) => cuts.whole,
+            (Found::Unknown, Found::Unreadable) => cuts.alone,
+            _ => return NotTaken::Later,
+        };
+        // Behind the end of the file there is none.
         if cut.len == 0 {
-            return Err(NotTaken::Unreadable);
+            return NotTaken::Unreadable;
         }
         self.want(rt, file, cut, now);
-        Err(NotTaken::Later)
+        NotTaken::Later
     }
 
     // Has a part of a file read, unless that is done or is to be done. Where too many wait to be read, who
