@@ -66,7 +66,7 @@ def has_another_disk(server: Server) -> bool:
     return OTHER_DISK.is_dir() and os.stat(OTHER_DISK).st_dev != os.stat(server.path).st_dev
 
 
-@serving_test(limit=60, is_timed=True)
+@serving_test(limit=60, is_alone=True)
 def a_film_that_the_system_forgets(checks: Checks) -> None:
     """Each read of it waits for its disk: it comes whole, late by its first read alone, and no other play is late by it."""
     server, disk, port = server_of(checks, QUICK, FORGOTTEN)
@@ -171,3 +171,28 @@ def a_disk_has_readers_of_its_own(checks: Checks) -> None:
             ends_in_time(checks, server, READERS)
             for player in players:
                 player.close()
+
+
+# So often a player seeks, each time to what wasn't read yet; each seek has two parts of 131,600 bytes read.
+SEEKS, PART_MS = 1_500, 400
+MEBIBYTE = 1 << 20
+# What is kept of all films, of an uplink below 250 Mbit/s, and what a server takes besides, in MiB.
+KEPT_MIB, BESIDES_MIB = 64, 24
+
+
+@serving_test(limit=60, is_timed=True)
+def little_is_kept_of_films(checks: Checks) -> None:
+    """However a player seeks, no more of a film is kept in memory than there is room for."""
+    server, _, _ = server_of(checks, QUICK, SLOW)
+    write_film(server, QUICK)
+    write_film(server, SLOW)
+    with server:
+        player = player_of(server, QUICK)
+        before, most = server.resident_bytes(), 0
+        for number in range(SEEKS):
+            player.play(number % (SEEKS // 2) * 2 * PART_MS / SECOND)
+            most = max(most, server.resident_bytes())
+        grown = (most - before) / MEBIBYTE
+        checks.that(f"it grows by {KEPT_MIB + BESIDES_MIB} MiB at most", grown <= KEPT_MIB + BESIDES_MIB, grown)
+        checks.that("what is read is kept", grown >= KEPT_MIB / 8, grown)
+        player.tear_down()

@@ -8,13 +8,20 @@ use crate::media::MediaFault;
 use crate::read_at::ReadAt;
 use crate::unit::copy_unit;
 use std::marker::PhantomData;
-use std::os::fd::RawFd;
+
+// Memory for bytes of a file, before they are read, and its share of the room that all have together.
+#[derive(Drop)]
+pub(crate) struct Blank {
+    pub(crate) bytes: Vec<u8>,
+    pub(crate) loan: Loan,
+    ghost lent: { vec_len bytes ≤ loan },
+}
 
 // Bytes of a file in the server's own memory, and their share of the room that all have together.
 #[derive(Drop)]
 pub(crate) struct Kept<F: ReadAt> {
     // The file's number, and the place of the bytes in it.
-    number: RawFd,
+    number: u64,
     at: u64,
     bytes: Vec<u8>,
     loan: Loan,
@@ -24,18 +31,13 @@ pub(crate) struct Kept<F: ReadAt> {
 }
 
 impl<F: ReadAt> Kept<F> {
-    // Reads what stands at a place into these bytes, which waits for the disk.
-    pub(crate) fn read(
-        file: &F,
-        at: u64,
-        mut bytes: Vec<u8>,
-        loan: Loan,
-    ) -> Result<Kept<F>, MediaFault>
-        requires { vec_len bytes ≤ loan }
+    // Fills memory with what stands at a place, which waits for the disk.
+    pub(crate) fn read(file: &F, at: u64, blank: Blank) -> Result<Kept<F>, MediaFault>
         ensures number { IfOk result (λ k. k.number ≡ F.number file.now) }
         ensures place { IfOk result (λ k. k.at ≡ at) }
-        ensures len { IfOk result (λ k. vec_len k.bytes ≡ vec_len bytes) }
+        ensures len { IfOk result (λ k. vec_len k.bytes ≡ vec_len blank.bytes) }
     {
+        let Blank { mut bytes, loan } = blank;
         file.fill_at(at, bytes.as_mut_slice())?;
         Ok(Kept {
             number: file.number(),
@@ -44,6 +46,20 @@ impl<F: ReadAt> Kept<F> {
             loan,
             of: PhantomData,
         })
+    }
+
+    // The memory, to be filled anew.
+    pub(crate) fn into_blank(self) -> Blank
+        ensures { result.bytes ≡ self.bytes }
+    {
+        let Kept {
+            number: _,
+            at: _,
+            bytes,
+            loan,
+            of: _,
+        } = self;
+        Blank { bytes, loan }
     }
 
     // Copies what stands at a place of a file, where that is here.

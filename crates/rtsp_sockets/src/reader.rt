@@ -9,7 +9,6 @@ use crate::disk::READERS;
 use crate::kept::Kept;
 use crate::media::{Media, MediaOf, TrackPlace};
 use crate::read_at::ReadAt;
-use crate::shelf::Blank;
 use crate::spaces::State;
 use rtsp_traits::Clock;
 use std::alloc::{AllocError, Global};
@@ -85,8 +84,8 @@ impl<F: ReadAt> MediaOf<F> {
     // Reads a part, which waits for the disk. `None` where there is no memory for it.
     fn read<R: Wait>(&self, rt: &R, cut: Cut) -> Option<State<F>> {
         let file = self.file(cut.file)?;
-        let Blank { bytes, loan } = self.shelf.blank(rt, cut.len as usize)?;
-        match Kept::read(&file.file, cut.at, bytes, loan) {
+        let blank = self.shelf.blank(rt, cut.len as usize)?;
+        match Kept::read(&file.file, cut.at, blank) {
             Ok(kept) => Some(State::Kept(kept)),
             Err(_) => Some(State::Unreadable),
         }

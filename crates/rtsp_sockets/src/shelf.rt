@@ -1,10 +1,10 @@
 //! What was read ahead of all files that aren't held in memory, and is kept in the server's own memory.
 
-ghost use Rattle.std.specs.Prelude.{◌≡◌, ◌≤◌, IfSome, vec_len};
+ghost use Rattle.std.specs.Prelude.{◌≡◌, IfSome, vec_len};
 ghost use Rattle.rtsp_sockets.specs.Files.{StandAt};
 
 use crate::cut::Cut;
-use crate::kept::Kept;
+use crate::kept::Blank;
 use crate::loan::{Loan, SharedRoom};
 use crate::read_at::ReadAt;
 use crate::spaces::{Found, Spaces, State};
@@ -20,14 +20,6 @@ pub(crate) struct Shelf<F: ReadAt> {
     alloc: Global,
     spaces: Mutex<Spaces<F>>,
     room: Arc<SharedRoom>,
-}
-
-// Memory for a part, before it is read.
-#[derive(Drop)]
-pub(crate) struct Blank {
-    pub(crate) bytes: Vec<u8>,
-    pub(crate) loan: Loan,
-    ghost lent: { vec_len bytes ≤ loan },
 }
 
 impl<F: ReadAt> Shelf<F> {
@@ -82,8 +74,8 @@ impl<F: ReadAt> Shelf<F> {
         self.spaces.lock(rt).put(cut, state, now);
     }
 
-    // Memory for so many bytes. Where there is none, what was asked for the longest ago goes. `None`
-    // where there is none for all that.
+    // Memory for so many bytes. Where there is none, what was asked for the longest ago goes, whose memory
+    // is taken where it is as long. `None` where there is none for all that.
     pub(crate) fn blank<R: Wait>(&self, rt: &R, len: usize) -> Option<Blank>
         ensures { IfSome result (λ b. vec_len b.bytes ≡ len) }
     {
@@ -91,9 +83,11 @@ impl<F: ReadAt> Shelf<F> {
             if let Some(blank) = self.try_blank(len) {
                 return Some(blank);
             }
-            let oldest = self.spaces.lock(rt).take_oldest();
-            if oldest.is_none() {
-                return None;
+            let oldest = self.spaces.lock(rt).take_oldest()?;
+            if let Some(blank) = oldest.into_blank()
+                && blank.bytes.len() == len
+            {
+                return Some(blank);
             }
         }
         None

@@ -4,7 +4,7 @@ ghost use Rattle.std.specs.Prelude.{◌≡◌, ◌≤◌, ◌+◌, ◌↔◌, Is
 ghost use Rattle.rtsp_sockets.specs.Files.{StandAt};
 
 use crate::cut::Cut;
-use crate::kept::Kept;
+use crate::kept::{Blank, Kept};
 use crate::read_at::ReadAt;
 use lru::LruCache;
 use std::alloc::{AllocError, Global};
@@ -82,6 +82,15 @@ impl<F: ReadAt> Space<F> {
     fn note_asked(&self, now: u64) {
         if !matches!(self.state, State::Unreadable) {
             self.asked_at.set(now);
+        }
+    }
+
+    // The memory of what was kept, where something was.
+    pub(crate) fn into_blank(self) -> Option<Blank> {
+        let Space { asked_at: _, state } = self;
+        match state {
+            State::Kept(kept) => Some(kept.into_blank()),
+            State::Asked | State::Unreadable => None,
         }
     }
 

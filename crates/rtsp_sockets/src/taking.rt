@@ -1,6 +1,6 @@
 //! How a pacer gets the octets of a unit, which never waits for a disk.
 
-ghost use Rattle.std.specs.Prelude.{◌≡◌, length, IsOk, IfErr, OnOk, OnErr};
+ghost use Rattle.std.specs.Prelude.{◌≡◌, ◌≤◌, ◌+◌, length, IsOk, IsSome, IfSome, IfErr, OnOk, OnErr};
 ghost use Rattle.rtsp_sockets.specs.Files.{StandAt};
 ghost use Rattle.rtsp_sockets.specs.Media.{IsInMemory, IsUnitHeld, StandInFile};
 
@@ -50,9 +50,30 @@ impl<F: ReadAt> MediaOf<F> {
             return Err(NotTaken::Unreadable);
         };
         let at = u64::from(unit) * u64::from(place.octets);
-        match &file.held {
-            Some(bytes) => file.copy(bytes, at, out).map_err(|_| NotTaken::Unreadable),
-            None => self.take_kept(rt, file, place, at, now, out),
+        self.take_at(rt, file, place, at, now, out)
+    }
+
+    // Fills `out` with what stands at a place of a file, where that is in memory.
+    fn take_at<R: Wait>(
+        &self,
+        rt: &R,
+        file: &MediaFile<F>,
+        place: Place,
+        at: u64,
+        now: u64,
+        out: &mut [u8],
+    ) -> Result<(), NotTaken>
+        ensures ok { OnOk result (StandAt (F.text (F.number file.now.file)) at out.new) }
+        ensures err { OnErr result (out.new ≡ out.old) }
+        ensures held { IfSome file.now.held (λ bytes. at + length out.old ≤ length bytes.items → IsOk result) }
+        ensures waits { IsSome file.now.held → IfErr result (λ e. e ≡ NotTaken.Unreadable) }
+    {
+        let Some(bytes) = &file.held else {
+            return self.take_kept(rt, file, place, at, now, out);
+        };
+        match file.copy(bytes, at, out) {
+            Ok(()) => Ok(()),
+            Err(_) => Err(NotTaken::Unreadable),
         }
     }
 
