@@ -7,11 +7,11 @@ use crate::ways::Ways;
 use crate::went::Went;
 use rtsp_metrics::Counters;
 use rtsp_rtp::{ControlSink, Packet, Sink, SinkFault};
-use rtsp_sockets::{FrameRoom, Media};
+use rtsp_sockets::{FrameRoom, Media, NotTaken};
 use std::sync::Wait;
 
 // Media and ways of one turn of a play. A packet that can't be sent is lost, and the play goes on;
-// media that can't be read is a failure. A unit that isn't at hand breaks the turn off, too, since it
+// media that can't be read is a failure. A unit that isn't read yet breaks the turn off, too, since it
 // isn't waited for.
 #[derive(Drop)]
 pub(crate) struct PacketSink<'a, 'w, R> {
@@ -29,34 +29,8 @@ pub(crate) struct PacketSink<'a, 'w, R> {
     pub(crate) dropped: Option<Dropped>,
     // The calls that have failed, for whatever reason.
     pub(crate) failed: u64,
-    // Whether the last of them was for a unit that isn't at hand.
+    // Whether the last of them was for a unit that isn't read yet.
     pub(crate) waits: bool,
-}
-
-// Whether a unit was had, or why not.
-#[derive(Clone, Copy, PartialEq, Eq)]
-enum Had {
-    Whole,
-    // It isn't at hand, and was asked for.
-    Later,
-    Unreadable,
-}
-
-impl<R: Wait> PacketSink<'_, '_, R> {
-    // Fills `out` with the octets of a unit, where that needn't wait for a disk.
-    fn take(&self, track: u16, unit: u32, out: &mut [u8]) -> Had {
-        let presentation = self.presentation;
-        if !self
-            .media
-            .is_at_hand(self.rt, presentation, track, unit, self.now)
-        {
-            return Had::Later;
-        }
-        match self.media.octets(presentation, track, unit, out) {
-            Ok(()) => Had::Whole,
-            Err(_) => Had::Unreadable,
-        }
-    }
 }
 
 // How many of the failed calls of a turn are failures of the media: the last one isn't, where it was
@@ -73,14 +47,17 @@ impl<R: Wait> Sink for PacketSink<'_, '_, R> {
     ghost calls = { record { octets = λ s track unit bytes u. ⊤; sends = λ s track packet u. ⊤; fails = λ s u. ⊤; failures = λ s. s.failed } };
 
     fn octets(&mut self, track: u16, unit: u32, out: &mut [u8]) -> Result<(), SinkFault> {
-        let had = self.take(track, unit, out);
-        if had == Had::Whole {
+        let presentation = self.presentation;
+        let taken = self
+            .media
+            .take(self.rt, presentation, track, unit, self.now, out);
+        let Err(why) = taken else {
             return Ok(());
-        }
+        };
         self.failed = self.failed.saturating_add(1);
-        self.waits = had == Had::Later;
-        if had == Had::Unreadable {
-            let presentation = u16::try_from(self.presentation).unwrap_or(u16::MAX);
+        self.waits = why == NotTaken::Later;
+        if why == NotTaken::Unreadable {
+            let presentation = u16::try_from(presentation).unwrap_or(u16::MAX);
             self.counters.media_failed(presentation, track);
         }
         Err(SinkFault)

@@ -29,6 +29,7 @@ mod lane_lines;
 mod letting_in;
 mod opening;
 mod putting_aside;
+mod readers;
 mod recorded;
 mod server;
 mod service;
