@@ -10,8 +10,8 @@ use rtsp_shares::{NoPlace, ShareTable};
 use rtsp_sockets::{PortBinder, PortTable};
 use rtsp_threads::{
     Gate, LaneShares, OwnStatus, Refused, RoomLooks, RoomWait, Scribe, ScribeBell, StopAsked,
-    StopBell, ask_for_room, close_book, descriptor_limit, end_expired, end_next_expired,
-    end_place, give_back_ended, make_room, take_leave,
+    StopBell, ask_for_room, close_book, descriptor_limit, end_expired, end_next_expired, end_place,
+    give_back_ended, make_room, take_leave,
 };
 use std::alloc::{AllocError, Global};
 use std::fs::{self, File};

@@ -58,12 +58,7 @@ fn tells_of_faults<R: Files<File = File> + AllocGlobal>(
     Some([missing, short] == [Some(MediaFault::Unreadable), Some(MediaFault::WrongLength)])
 }
 
-fn unit_of<R: Wait>(
-    rt: &R,
-    media: &Media,
-    track: u16,
-    number: u32,
-) -> Result<[u8; 2], NotTaken> {
+fn unit_of<R: Wait>(rt: &R, media: &Media, track: u16, number: u32) -> Result<[u8; 2], NotTaken> {
     let mut unit = [0; 2];
     media.take(rt, 0, track, number, 0, &mut unit)?;
     Ok(unit)
