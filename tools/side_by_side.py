@@ -17,7 +17,7 @@ import subprocess
 import tempfile
 import threading
 import time
-from typing import Callable, Deque, Dict, Iterable, List, Set
+from typing import Callable, Deque, Dict, Iterable, List, Optional, Set
 
 TOP = pathlib.Path(__file__).resolve().parent.parent
 # What rt reads of a crate.
@@ -136,7 +136,7 @@ class Run:
 
     def begin(self, name: str, folder: pathlib.Path) -> None:
         """The command has come to another crate."""
-        self.name, self.folder, self.count, self.done = name, folder, 0, 0
+        self.name, self.folder, self.count, self.done, self.began = name, folder, 0, 0, time.time()
 
     def note(self, line: str) -> None:
         so_far = SO_FAR.match(line)
@@ -149,9 +149,14 @@ class Run:
         self.done = functions_kept(self.folder, self.name, self.began)
 
     @property
-    def left(self) -> float:
-        """Which part of its crate is left, as far as that is known."""
-        return 1 - min(self.done, self.count) / self.count if self.count else 1.0
+    def left(self) -> Optional[float]:
+        """Which part of its crate is left, where that is known."""
+        return 1 - min(self.done, self.count) / self.count if self.count else None
+
+    @property
+    def seconds(self) -> float:
+        """How long it has been at its crate."""
+        return time.time() - self.began
 
     def progress(self) -> str:
         counted = f"{min(self.done, self.count)} of {self.count}" if self.count else f"{self.done}"
