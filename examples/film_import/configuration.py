@@ -14,6 +14,8 @@ from typing import Any, Dict, Iterator, List, NamedTuple
 from command import STOPS, called, is_installed
 
 EXPLAIN = pathlib.Path(__file__).resolve().parent.parent.parent / "explain-configuration"
+# What explain-configuration ends with where the program takes a configuration, whether or not its files are there.
+TAKEN = (0, 3)
 NAME = re.compile(r"[a-z0-9_-]{1,64}")
 MOST_PRESENTATIONS = 256
 # IP, UDP and RTP, as the server counts them into a stream's rate.
@@ -100,7 +102,7 @@ class Configuration:
     def check(self, path: pathlib.Path) -> None:
         """The program has to take it."""
         done = subprocess.run([sys.executable, EXPLAIN, path], capture_output=True, text=True)
-        if done.returncode:
+        if done.returncode not in TAKEN:
             faults = [line for line in (done.stdout or done.stderr).splitlines() if not line.startswith("note: ")]
             raise Refused(f"the program refuses {faults[0] if faults else path}")
 
