@@ -1,5 +1,6 @@
 """Media in units, made of films and sound by ffmpeg."""
 import json
+import os
 import pathlib
 import re
 import shutil
@@ -7,7 +8,7 @@ import subprocess
 import sys
 import tempfile
 import time
-from typing import List, NamedTuple, Optional
+from typing import IO, List, NamedTuple, Optional
 
 from .configuration import Made, Refused
 
@@ -27,6 +28,14 @@ WITHOUT_PICTURES = 32
 # What a rate that was asked for may differ from one that fits.
 TOLERANCE = 0.02
 SOUND_RATE, SOUND_LAYER = 192_000, "mp2"
+# Pictures that are taken as they are, where they fit: what all players decode.
+KEPT_CODECS, KEPT_FORMS = ("h264", "mpeg2video"), ("yuv420p", "yuvj420p")
+# What ffmpeg complains of where a packet comes later than it is shown, so that the rate is too small.
+TOO_LATE = "dts < pcr"
+# So much of what ffmpeg complains of is looked at while it runs, in octets.
+MOST_SEEN = 65_536
+# Pictures of changing rate fit into so many times what they take in the middle, most times.
+PEAK = 1.5
 # The part of a transport stream that is for pictures and sound; packets, tables and padding take the others.
 USED = 0.85
 
@@ -98,6 +107,10 @@ class Source(NamedTuple):
     # The lines of its picture, or its columns, where it stands upright: what is fewer.
     lines: Optional[int]
     has_sound: bool
+    # Whether its pictures are such as may be taken as they are.
+    may_keep: bool = False
+    # Bits a second, in the middle.
+    rate: float = 0.0
 
 
 def probe(path: pathlib.Path) -> Optional[Source]:
@@ -114,14 +127,25 @@ def probe(path: pathlib.Path) -> Optional[Source]:
         return None
     length = float(described["duration"]) if "duration" in described else None
     sides = [pictures[0][it] for it in ("width", "height") if pictures[0].get(it)] if pictures else []
-    return Source(path, length, min(sides, default=None), has_sound)
+    first = pictures[0] if pictures else {}
+    may_keep = first.get("codec_name") in KEPT_CODECS and first.get("pix_fmt") in KEPT_FORMS
+    return Source(path, length, min(sides, default=None), has_sound, may_keep, float(described.get("bit_rate", 0)))
+
+
+class Asked(NamedTuple):
+    """What is asked of a film: its rate, and whether its pictures are encoded anew in any case."""
+
+    megabits: Optional[float]
+    anew: bool
 
 
 class Plan:
     """What is to be made of a source, under which name; refused where it is too long."""
 
-    def __init__(self, source: Source, name: str, kind: str, megabits: Optional[float]) -> None:
+    def __init__(self, source: Source, name: str, kind: str, asked: Asked) -> None:
         self.source, self.name, self.kind = source, name, kind
+        self.keeps = source.may_keep and not asked.anew
+        megabits = asked.megabits
         self.unit_ms = unit_of(source, megabits) if kind == "ts" else SOUNDS[kind].unit_ms
         self.octets = UNIT if kind == "ts" else SOUNDS[kind].octets
         self.units = (source.seconds or 0) * 1000 / self.unit_ms
@@ -141,8 +165,8 @@ class Plan:
             raise Refused(f"{self.source.path} becomes {needed / 1e6:,.1f} MB, and {folder} has room for {free / 1e6:,.1f}")
 
 
-def ffmpeg(plan: Plan, words: List[str], out: pathlib.Path) -> str:
-    """Runs ffmpeg, with its progress, and returns what it complained of."""
+def ffmpeg(plan: Plan, words: List[str], out: pathlib.Path, gives_up_at: str = "") -> str:
+    """Runs ffmpeg, with its progress, and returns what it complained of; at one complaint it may end at once."""
     command = ["ffmpeg", "-hide_banner", "-nostdin", "-v", "warning", "-nostats", "-progress", "pipe:1"]
     # A name may look like an option, or like a URI.
     source, made = plan.source, out.absolute()
@@ -156,6 +180,9 @@ def ffmpeg(plan: Plan, words: List[str], out: pathlib.Path) -> str:
                     at = re.fullmatch(r"out_time_us=(\d+)", line.strip())
                     if at:
                         progress.at(int(at[1]) / 1e6)
+                    if gives_up_at and gives_up_at in written_to(complaints):
+                        running.kill()
+                        return gives_up_at
             except BaseException:
                 running.kill()
                 raise
@@ -170,6 +197,11 @@ def ffmpeg(plan: Plan, words: List[str], out: pathlib.Path) -> str:
     return said
 
 
+def written_to(complaints: IO[str]) -> str:
+    """What another program has written to a file so far."""
+    return os.pread(complaints.fileno(), MOST_SEEN, 0).decode(errors="replace")
+
+
 def pictures_by() -> List[str]:
     """How pictures are encoded: by H.264 where this ffmpeg can, else by MPEG-2."""
     done = subprocess.run(["ffmpeg", "-hide_banner", "-v", "quiet", "-encoders"], capture_output=True, text=True)
@@ -178,14 +210,16 @@ def pictures_by() -> List[str]:
     return ["-c:v", "mpeg2video"]
 
 
-def film_words(source: Source, unit_ms: int) -> List[str]:
+def film_words(source: Source, unit_ms: int, keeps: bool) -> List[str]:
     """What makes a transport stream of one rate."""
     whole = FASTEST // unit_ms
     sound = min(SOUND_RATE, whole // 8 // 32_000 * 32_000 or 32_000) if source.has_sound else 0
     picture = int(whole * USED - sound * 1.1)
     words = ["-map", "0:v:0"] if source.lines else []
     words += ["-map", "0:a:0"] if source.has_sound else []
-    if source.lines:
+    if source.lines and keeps:
+        words += ["-c:v", "copy"]
+    elif source.lines:
         if picture < 50_000:
             raise Refused(f"{mbit(unit_ms)} Mbit/s is too little for pictures")
         # Pictures of this form have an even width and height.
@@ -204,11 +238,26 @@ def unit_of(source: Source, megabits: Optional[float]) -> int:
     return WITHOUT_PICTURES if lines is None else next((unit_ms for most, unit_ms in BY_LINES if lines <= most), 1)
 
 
+def fits_as_it_is(plan: Plan, out: pathlib.Path) -> bool:
+    """Whether a film was made with its pictures as they are. If not, it says why they have to be encoded."""
+    try:
+        if TOO_LATE not in ffmpeg(plan, film_words(plan.source, plan.unit_ms, True), out, gives_up_at=TOO_LATE):
+            return True
+        why = f"don't fit into {mbit(plan.unit_ms)} Mbit/s as they are"
+        enough = int(FASTEST / plan.source.rate / PEAK) if plan.source.rate else 0
+        rather = f"; --mbit {mbit(enough)} may keep them" if 0 < enough < plan.unit_ms else ""
+    except Refused:
+        why, rather = "can't be taken as they are", ""
+    print(f"{plan}: its pictures {why}, so they are encoded anew{rather}", flush=True)
+    return False
+
+
 def make_film(plan: Plan, out: pathlib.Path) -> Made:
     source, unit_ms = plan.source, plan.unit_ms
-    said = ffmpeg(plan, film_words(source, unit_ms), out)
+    plan.keeps = plan.keeps and fits_as_it_is(plan, out)
+    said = "" if plan.keeps else ffmpeg(plan, film_words(source, unit_ms, False), out)
     length = out.stat().st_size
-    if "dts < pcr" in said:
+    if TOO_LATE in said:
         # So much it takes, or a tenth more than it was given.
         needed = max(length * 8 / (source.seconds or 1), FASTEST / unit_ms * 1.1)
         rather = f"--mbit {mbit(int(FASTEST / needed))} would" if needed <= FASTEST else "no rate of a track would"
