@@ -8,7 +8,7 @@ import subprocess
 import sys
 import tempfile
 import time
-from typing import IO, List, NamedTuple, Optional
+from typing import IO, Any, Dict, List, NamedTuple, Optional
 
 from .configuration import Made, Refused
 
@@ -127,9 +127,15 @@ def probe(path: pathlib.Path) -> Optional[Source]:
         return None
     length = float(described["duration"]) if "duration" in described else None
     sides = [pictures[0][it] for it in ("width", "height") if pictures[0].get(it)] if pictures else []
-    first = pictures[0] if pictures else {}
-    may_keep = first.get("codec_name") in KEPT_CODECS and first.get("pix_fmt") in KEPT_FORMS
+    may_keep = bool(pictures) and may_be_kept(pictures[0])
     return Source(path, length, min(sides, default=None), has_sound, may_keep, float(described.get("bit_rate", 0)))
+
+
+def may_be_kept(pictures: Dict[str, Any]) -> bool:
+    """Whether all players show them as they are; that they have to be turned stands beside them, and would be lost."""
+    turned = [it.get("rotation") for it in pictures.get("side_data_list", [])]
+    turned.append(int(pictures.get("tags", {}).get("rotate", 0)))
+    return pictures.get("codec_name") in KEPT_CODECS and pictures.get("pix_fmt") in KEPT_FORMS and not any(turned)
 
 
 class Asked(NamedTuple):
@@ -215,7 +221,8 @@ def film_words(source: Source, unit_ms: int, keeps: bool) -> List[str]:
     whole = FASTEST // unit_ms
     sound = min(SOUND_RATE, whole // 8 // 32_000 * 32_000 or 32_000) if source.has_sound else 0
     picture = int(whole * USED - sound * 1.1)
-    words = ["-map", "0:v:0"] if source.lines else []
+    # Pictures that aren't the cover of a song.
+    words = ["-map", "0:V:0"] if source.lines else []
     words += ["-map", "0:a:0"] if source.has_sound else []
     if source.lines and keeps:
         words += ["-c:v", "copy"]
