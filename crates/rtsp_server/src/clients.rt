@@ -12,7 +12,8 @@ use mio::{Events, Interest, Poll, Token, Waker};
 use rtsp_lock::BookHandle;
 use rtsp_roster::{Line, Roster};
 use rtsp_threads::{
-    Acceptor, HELD_REST, LaneTurn, RoomLooks, RoomWait, SWEEP_EVERY, TURN_EVERY, TURN_TIME, VISIT_TIME,
+    Acceptor, HELD_REST, LaneTurn, RoomLooks, RoomWait, SWEEP_EVERY, TURN_EVERY, TURN_TIME,
+    VISIT_TIME,
 };
 use std::alloc::Global;
 use std::fs::File;
