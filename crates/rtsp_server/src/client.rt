@@ -2,6 +2,7 @@
 
 mod holding_back;
 
+use self::holding_back::Passage;
 use crate::answering::Front;
 use crate::channels::Channels;
 use crate::hearing::Hearing;
@@ -19,7 +20,7 @@ use rtsp_lock::BookHandle;
 use rtsp_log::{Event as LogEvent, Log};
 use rtsp_metrics::Counters;
 use rtsp_sockets::{Loan, Outlet, prepare};
-use rtsp_threads::{Activity, LaneShares, PAUSE, PIECES, RoomWait, take_leave};
+use rtsp_threads::{Activity, LaneShares, PAUSE, PIECES, take_leave};
 use std::alloc::Global;
 use std::net::{Ipv4Addr, Net, SocketAddr};
 use std::os::fd::{AsRawFd, RawFd};
@@ -54,8 +55,7 @@ pub(crate) struct Client {
     is_ending: bool,
     // Whether it has been silent, or has owed the rest of a message, for too long.
     is_over: bool,
-    // For room in the journal.
-    room_wait: RoomWait,
+    passage: Passage,
     activity: Activity,
     hearing: Hearing,
 }
@@ -112,7 +112,7 @@ impl Client {
             is_writable: false,
             is_ending: false,
             is_over: false,
-            room_wait: RoomWait::new(),
+            passage: Passage::Open,
             activity: Activity::new(service.now),
             hearing: Hearing::new(),
         })
@@ -346,7 +346,7 @@ impl Client {
     // Whether the player has been silent for too long, or has owed the rest of a message for too
     // long, where the connection is read.
     fn is_overdue(&self, moment: u64, timeout: u64) -> bool {
-        if self.stage != Stage::Open || self.room_wait.is_begun() {
+        if self.stage != Stage::Open || self.passage != Passage::Open {
             return false;
         }
         self.activity.is_overdue(moment, timeout)
@@ -382,7 +382,7 @@ impl Drop for Client {
             is_writable: _,
             is_ending: _,
             is_over: _,
-            room_wait: _,
+            passage: _,
             activity: _,
             hearing: _,
         } = self;

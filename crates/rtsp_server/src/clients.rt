@@ -12,7 +12,8 @@ use mio::{Events, Interest, Poll, Token, Waker};
 use rtsp_lock::BookHandle;
 use rtsp_roster::{Line, Roster};
 use rtsp_threads::{
-    Acceptor, HELD_REST, LaneTurn, RoomLooks, SWEEP_EVERY, TURN_EVERY, TURN_TIME, VISIT_TIME,
+    Acceptor, HELD_REST, LaneTurn, RoomLooks, RoomWait, SWEEP_EVERY, TURN_EVERY, TURN_TIME,
+    VISIT_TIME,
 };
 use std::alloc::Global;
 use std::fs::File;
@@ -39,6 +40,8 @@ pub(crate) struct Clients {
     pub(crate) roster: Roster<Client>,
     // The keys of those that were put aside, since the journal has no room for what they ask.
     pub(crate) aside: Line,
+    // For how long they have waited, or for how long none of them was let through.
+    pub(crate) room_wait: RoomWait,
     pub(crate) acceptor: Acceptor,
     tools: Tools,
     // The moment of the last turn, of the last sweep, and that up to which all that had come was
@@ -63,6 +66,7 @@ impl Drop for Clients {
             events: _events,
             roster: _roster,
             aside: _aside,
+            room_wait: _,
             acceptor: _acceptor,
             tools: _tools,
             now: _,
@@ -105,6 +109,7 @@ impl Clients {
             events,
             roster: Roster::new(alloc),
             aside: Line::new(alloc),
+            room_wait: RoomWait::new(),
             acceptor,
             tools,
             now: 0,
@@ -246,6 +251,7 @@ impl Clients {
         };
         if visit == Visit::Aside {
             self.aside.put(key);
+            self.room_wait.begin(service.now);
             return;
         }
         self.aside.remove(key);

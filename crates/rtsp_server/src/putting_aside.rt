@@ -18,35 +18,50 @@ impl Clients {
     }
 
     /// Has those visited again that were put aside: all of them once there is room, in the order in
-    /// which they were put there, and else those that have waited for long enough. Others of which the
-    /// system tells come before them, since these may ask for what needs no room.
+    /// which they were put there. Others of which the system tells come before them, since these may ask
+    /// for what needs no room. Where there was none for as long as may be, the first is let through: so
+    /// a lane makes no more entries without room than those of one piece each such time.
     pub(crate) fn call_back<R: Wait + rt::Clock>(
         &mut self,
         service: &Service<'_, R>,
         handle: &mut BookHandle,
     ) {
         let count = self.aside.len();
-        if count == 0 || !service.looks.get().is_due(service.now) {
+        if count == 0 {
+            self.room_wait.end();
             return;
         }
-        let has_room = service.make_room(handle);
+        if !service.looks.get().is_due(service.now) {
+            return;
+        }
+        if service.make_room(handle) {
+            self.room_wait.end();
+            self.call_back_some(count);
+        } else if self.room_wait.is_over(service.now) {
+            self.room_wait.end();
+            self.let_first_through();
+        }
+        if self.aside.len() > 0 {
+            self.room_wait.begin(service.now);
+        }
+    }
+
+    // Has so many visited again.
+    fn call_back_some(&mut self, count: usize) {
         for _ in 0..count {
-            let Some(key) = self.aside.take() else {
-                return;
-            };
-            if has_room || self.has_waited(key, service.now) {
+            if let Some(key) = self.aside.take() {
                 self.roster.queue(key);
-            } else {
-                self.aside.put(key);
             }
         }
     }
 
-    // Whether a connection has waited for room for as long as it may.
-    fn has_waited(&mut self, key: usize, now: u64) -> bool {
-        match self.roster.get_mut(key) {
-            Some(client) => client.has_waited(now),
-            None => true,
+    // Has the first visited again, of which a piece is answered though there is no room.
+    fn let_first_through(&mut self) {
+        if let Some(key) = self.aside.take()
+            && let Some(client) = self.roster.get_mut(key)
+        {
+            client.let_through();
+            self.roster.queue(key);
         }
     }
 }

@@ -1,4 +1,4 @@
--- For how long a connection waits for room in the journal, and when room is looked for.
+-- For how long room in the journal is waited for, and when it is looked for.
 use Rattle.std.specs.Prelude.{◌≤◌, ◌+◌, ◌-◌, ℕ, Option, Some, None}
 use Rattle.rtsp_threads.specs.declared.limits.TheConstants.{ROOM_LIMIT}
 

@@ -5,7 +5,7 @@
 //! to it. `pool` runs a thread for each lane, whatever a lane does, and `holdings` is what their book is
 //! opened over. `lane_shares` is what an
 //! address may have of the sessions, `leaving` ends sessions. `relieving` keeps the journal from filling:
-//! `room_looks` says when a lane looks for room in it, `room_wait` for how long a connection waits for it.
+//! `room_looks` says when a lane looks for room in it, `room_wait` for how long it is waited for.
 //! `scribe` writes the journal to files, and `scribe_bell` wakes it. `signals` and `stop_bell` are how
 //! threads are asked to end.
 

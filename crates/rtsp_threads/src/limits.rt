@@ -37,8 +37,8 @@ pub const SILENCE_LIMIT: u64 = 60_000;
 /// A connection that has begun a message and not finished it for so long is closed.
 pub const MESSAGE_LIMIT: u64 = 30_000;
 
-/// A connection that asks for what makes entries is put aside while the journal has no room for them, but
-/// for no longer than this. Then a piece of it is answered all the same.
+/// A lane that finds no room in the journal puts connections aside that ask for what makes entries. Each
+/// time it has found none for so long it lets a piece of one of them through all the same.
 pub const ROOM_LIMIT: u64 = 127;
 
 /// The longest that a lane which found no room in the journal waits until it looks again: a millisecond

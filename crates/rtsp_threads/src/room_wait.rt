@@ -1,25 +1,25 @@
-//! For how long a connection waits for room in the journal.
+//! For how long those whom a lane has put aside wait for room in the journal.
 
 ghost use Rattle.std.specs.Prelude.{◌≡◌, ◌↔◌, None, Some, IsNone, IsSome, IsTrue};
 ghost use Rattle.rtsp_threads.specs.Waits.{HasWaited};
 
 use crate::limits::ROOM_LIMIT;
 
-/// Since which moment a connection waits for room in the journal, if it does. Moments are milliseconds.
+/// Since which moment room in the journal is waited for, if it is. Moments are milliseconds.
 #[derive(Clone, Copy, PartialEq, Eq)]
 pub struct RoomWait {
     pub since: Option<u64>,
 }
 
 impl RoomWait {
-    /// It doesn't wait.
+    /// Nobody waits.
     pub fn new() -> RoomWait
         ensures { result.since ≡ None }
     {
         RoomWait { since: None }
     }
 
-    /// It waits from this moment on, unless it does already.
+    /// There is a wait from this moment on, unless there is one already.
     pub fn begin(&mut self, now: u64)
         ensures begins { IsNone self.old.since → self.new.since ≡ Some now }
         ensures goes_on { IsSome self.old.since → self.new ≡ self.old }
@@ -29,21 +29,21 @@ impl RoomWait {
         }
     }
 
-    /// It waits no more.
+    /// The wait has ended.
     pub fn end(&mut self)
         ensures { self.new.since ≡ None }
     {
         self.since = None;
     }
 
-    /// Whether it waits.
+    /// Whether there is a wait.
     pub fn is_begun(&self) -> bool
         ensures { IsTrue result ↔ IsSome self.now.since }
     {
         self.since.is_some()
     }
 
-    /// Whether it has waited for `ROOM_LIMIT`, and is to wait no more.
+    /// Whether it has lasted for `ROOM_LIMIT`, and is to last no longer.
     pub fn is_over(&self, now: u64) -> bool
         ensures { IsTrue result ↔ HasWaited self.now.since now }
     {

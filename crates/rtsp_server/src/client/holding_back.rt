@@ -10,10 +10,21 @@ use std::io::ErrorKind;
 use std::rt;
 use std::sync::Wait;
 
+/// Whether what makes entries of the journal passes.
+#[derive(Clone, Copy, PartialEq, Eq)]
+pub(super) enum Passage {
+    /// It does where there is room.
+    Open,
+    /// The connection is put aside until there is room.
+    Aside,
+    /// A piece of it passes though there is no room.
+    LetThrough,
+}
+
 impl Client {
     /// How much of what has come may be read: where the journal has no room, only what makes no entries
-    /// of it, but for a connection that has waited for room for as long as it may. `Err` has what the
-    /// visit comes to where nothing may be read.
+    /// of it, but for a connection that is let through. `Err` has what the visit comes to where nothing
+    /// may be read.
     pub(super) fn part_to_read<R: Wait + rt::Clock>(
         &mut self,
         service: &Service<'_, R>,
@@ -22,21 +33,22 @@ impl Client {
     ) -> Result<Part, Visit> {
         let part = if service.make_room(lane) {
             Ok(Part::ALL)
-        } else if self.has_waited(service.now) {
+        } else if self.passage == Passage::LetThrough {
             Ok(Part::ONE_PIECE)
         } else {
             self.part_without_room(service, tools)
         };
-        match part {
-            Err(Visit::Aside) => self.room_wait.begin(service.now),
-            _ => self.room_wait.end(),
-        }
+        self.passage = if part == Err(Visit::Aside) {
+            Passage::Aside
+        } else {
+            Passage::Open
+        };
         part
     }
 
-    /// Whether the connection has waited for room for as long as it may.
-    pub(crate) fn has_waited(&self, now: u64) -> bool {
-        self.room_wait.is_over(now)
+    /// At the next visit a piece is answered, whether there is room or not.
+    pub(crate) fn let_through(&mut self) {
+        self.passage = Passage::LetThrough;
     }
 
     // What may be read of what has come while there is no room. It stays in the system's buffer, and is
