@@ -175,7 +175,7 @@ def dropped_frames_are_told(checks: Checks) -> None:
         player = played(server)
         time.sleep(UNREAD)
         server.process.send_signal(signal.SIGTERM)
-        checks.same("the status of a stop", 0, server.ends(5.0))
+        checks.same("the status of a stop", 0, server.ends(10.0))
         checks.same("lines, with one of who was there still", 3, len(told_of(server, 2)))
         player.close()
 

@@ -56,7 +56,7 @@ pub(crate) struct PacedPlay {
     reached: u64,
     // What its session holds of the uplink, in bits per second.
     rate: u64,
-    // Its frames that were dropped, and that it isn't told of.
+    // Its frames that were dropped, and of which it wasn't told yet.
     dropped: Option<Dropped>,
 }
 

@@ -1,4 +1,4 @@
-//! The sessions of which it was told that frames were dropped.
+//! The sessions of which the log tells that frames were dropped.
 
 ghost use Rattle.std.specs.Prelude.{◌≡◌, ◌↔◌, ◌⊎◌, true, false, nat_eq, IsTrue, slice_get, option_copied};
 ghost use Rattle.indexmap.specs.IndexSet.{contains};
