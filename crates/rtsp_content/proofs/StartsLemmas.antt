@@ -1,8 +1,8 @@
 -- The last start up to a unit.
-use Rattle.std.proofs.Common.{◌≡◌, ℕ, zero, suc, ◌+◌, ◌<◌, ◌≤◌, max, Bool, true, false, if◌then◌else◌, List, [], ◌∷◌, ◌++◌, length, get_or, refl, sym, ap, ◌∙◌, subst, arith, inl, inr, ◌⊎◌, Option, Some, None}
+use Rattle.std.proofs.Common.{◌≡◌, ℕ, zero, suc, ◌<◌, ◌≤◌, max, Bool, true, false, if◌then◌else◌, List, [], ◌∷◌, ◌++◌, length, refl, sym, ap, ◌∙◌, subst, arith, inl, inr, ◌⊎◌, Option, Some, None}
 use Rattle.std.specs.Prelude.{nat_le, Contains, slice_get}
 use Rattle.std.proofs.lemmas.Bool.{leb-true, leb-false, cases_Bool, cases_lt}
-use Rattle.rtsp_content.specs.StartsValue.{IsStart, IsLastStart, AreStarts, greatest_to, start_at}
+use Rattle.rtsp_content.specs.StartsValue.{IsLastStart, AreStarts, greatest_to, start_at}
 
 greatest_before : (starts : List ℕ) (asked : ℕ) → greatest_to starts asked ≤ asked
 greatest_before [] asked = omega arith

@@ -1,10 +1,8 @@
-use Rattle.std.proofs.Common.{rules, ◌≡◌, ◌∙◌, ℕ, Ok, Err, Some, get_or, inl, inr, ◌<◌, ◌++◌, ◌∷◌, [], List, length, ◌⊎◌, arith, sym, ap, subst, length-append}
-use Rattle.std.specs.Prelude.{All, slice_get}
+use Rattle.std.proofs.Common.{rules, ◌≡◌, ◌∙◌, ℕ, Ok, Err, get_or, inr, ◌<◌, ◌++◌, ◌∷◌, [], List, length, arith, sym, ap, length-append}
 use Rattle.std.proofs.lemmas.Result.{err_from_is_err_and}
 use Rattle.std.proofs.lemmas.List.Elements.{All-append}
 use Rattle.toml.specs.View.{view}
 use Rattle.rtsp_content.specs.Starts.{start_behind}
-use Rattle.rtsp_content.specs.declared.fault.TableFault.TheVariants.{OutOfMemory}
 use Rattle.rtsp_content.proofs.Items.{item_count-items_view}
 use Rattle.rtsp_content.proofs.StartsLemmas.{first-more}
 use Rattle.rtsp_content.proofs.TablesLemmas.{each_from-ok, each_from-err, each_from-end}
