@@ -2,6 +2,10 @@ pub mod Placing
 pub mod Counting
 pub mod Scheduling
 pub mod Turning
+pub mod Parting
+pub mod Sending
+pub mod Wiring
+pub mod Founding
 pub mod Dues
 pub mod Progressing
 pub mod Leaving

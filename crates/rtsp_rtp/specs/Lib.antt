@@ -1,10 +1,16 @@
 pub mod Packets
+pub mod Parts
+pub mod SenderStates
+pub mod UnitPackets
+pub mod UnitStarts
 pub mod Sinks
 pub mod Buffers
 pub mod Pacing
+pub mod Goodbyes
+pub mod Reports
 pub mod Turns
 pub mod Leaving
+pub mod Wire
 pub mod Progress
 pub mod PacerView
 pub mod Moments
-pub mod Goodbyes
