@@ -63,8 +63,8 @@ impl Packing {
         }
     }
 
-    // How many bytes a unit of so many octets takes in its file.
-    pub(crate) fn unit_len(self, octets: u32) -> u32
+    /// How many bytes a unit of so many octets takes in its file.
+    pub fn unit_len(self, octets: u32) -> u32
         requires { octets ≤ MAX_UNIT_OCTETS }
         ensures { result ≡ unit_len self octets }
     {

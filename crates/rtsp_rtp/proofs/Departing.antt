@@ -105,6 +105,7 @@ module _ {S : Type 0} (calls : Calls S) (p old : Pacing) (session : ℕ) (phase 
       (λ at. record {
         when = left;
         left = at;
+        past = past;
         sends = λ m other.
             let all : min left moment ≡ left = omega (arith, past) in
             subst (λ (n : ℕ). SendsAll calls p.phase p.unit_ms (drop p.done (schedule p.sources 0 n)) p.done done p.states e s u)

@@ -5,8 +5,10 @@ pub mod Turning
 pub mod Parting
 pub mod Sending
 pub mod Wiring
+pub mod Reckoning
 pub mod Founding
 pub mod Dues
 pub mod Progressing
 pub mod Leaving
 pub mod Departing
+pub mod Playing

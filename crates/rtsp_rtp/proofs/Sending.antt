@@ -88,14 +88,14 @@ module _ {S : Type 0} (calls : Calls S) (phase : Phase) (unit_ms i : ℕ) (x : S
       let was = state_of states x.track in
       let same : state ≡ counted_in x states here = parts.state ∙ ap (λ (t : SenderState). counted_all t here) parts.start in
       let bytes : part_packets x parts.number parts.timestamp octets start here ≡ unit_packets x.packing x (sent_before phase) i states octets =
-          ap (λ (n : ℕ). part_packets x n parts.timestamp octets start here) parts.numbered
-          ∙ (ap (λ (t : ℕ). part_packets x (first_number x (sent_before phase)) t octets start here) parts.stamped
-          ∙ (ap (λ (t : SenderState). part_packets x (first_number x (sent_before phase)) (timestamp_after x (sent_before phase + i)) octets t here) parts.start
-          ∙ sym (several_packets x.packing x (sent_before phase) i states octets several))) in
+      ap (λ (n : ℕ). part_packets x n parts.timestamp octets start here) parts.numbered
+      ∙ (ap (λ (t : ℕ). part_packets x (first_number x (sent_before phase)) t octets start here) parts.stamped
+      ∙ (ap (λ (t : SenderState). part_packets x (first_number x (sent_before phase)) (timestamp_after x (sent_before phase + i)) octets t here) parts.start
+      ∙ sym (several_packets x.packing x (sent_before phase) i states octets several))) in
       let report : report_due phase unit_ms x i state packets ≡ report_behind x.packing phase unit_ms x i states octets =
-          ap (λ (t : SenderState). report_due phase unit_ms x i t packets) same
-          ∙ (ap (λ (n : ℕ). report_due phase unit_ms x i (counted_in x states here) n) parts.packets
-          ∙ sym (several_report x.packing phase unit_ms x i states octets several)) in
+      ap (λ (t : SenderState). report_due phase unit_ms x i t packets) same
+      ∙ (ap (λ (n : ℕ). report_due phase unit_ms x i (counted_in x states here) n) parts.packets
+      ∙ sym (several_report x.packing phase unit_ms x i states octets several)) in
       record {
         octets = octets;
         full = full;

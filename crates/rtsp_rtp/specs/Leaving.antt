@@ -37,6 +37,7 @@ module _ {S : Type 0} (calls : Calls S) (p q : Pacing) (session : ℕ) (phase : 
   pub record Completed (s u : S) : Type 0 where
     pub when : ℕ
     pub left : IsLeftAt p session phase when
+    pub past : when ≤ moment
     pub sends : (m : ℕ) → IsLeftAt p session phase m → SendsAll calls p.phase p.unit_ms (unsent_at p m) p.done q.done p.states q.states s u
     pub pacer : q ≡ record p { states = q.states; done = q.done }
 

@@ -28,7 +28,6 @@ counted_all s (p ∷ ps) = counted_all (counted s p) ps
 abbrev pub report_every : ℕ → ℕ
 report_every unit_ms = div_ceil 1000 unit_ms
 
-
 -- a report goes behind a unit that has packets, if none went behind the units before it for a second
 abbrev pub is_reporting : SenderState → ℕ → ℕ → Bool
 is_reporting s i packets = nat_lt 0 packets && nat_le s.reports_from i

@@ -22,4 +22,6 @@ pub fn law_turn_within<S: Sink>(phase: Phase, unit_ms: u32)
 /// more, and one report of each stream more, whatever its turns were and however late.
 pub fn law_play_within<S: Sink>(pacer: &Pacer)
     ensures { (way : ℕ → Way) → IsPlayWithin S.calls way pacer.now }
-{}
+{
+    pacer.told();
+}

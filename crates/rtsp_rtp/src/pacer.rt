@@ -1,7 +1,7 @@
 //! The pace of one play.
 
 ghost use Rattle.std.specs.Prelude.{◌≡◌, ◌↔◌, ◌<◌, ◌^◌, IsTrue, IfSome, IfNone};
-ghost use Rattle.rtsp_rtp.specs.Pacing.{IsOfPlay, packets_in, started, units_in};
+ghost use Rattle.rtsp_rtp.specs.Pacing.{IsOfPlay, IsPacing, packets_in, started, units_in};
 ghost use Rattle.rtsp_rtp.specs.Turns.{Turned, CountsFault};
 ghost use Rattle.rtsp_rtp.specs.Leaving.{IsLeftAt, IsNeverLeft, LastTurned, CountsLastFault};
 ghost use Rattle.rtsp_rtp.specs.Moments.{IsNextDue, IsNeverDue};
@@ -103,10 +103,14 @@ impl Pacer {
         if !self.is_of(session, phase) {
             return Turn::OtherPlay;
         }
-        if let Err(SinkFault) =
-            self.play
-                .send_due(&mut self.next, &mut self.states, moment, &mut room.packet, room.unit.as_mut_slice(), sink)
-        {
+        if let Err(SinkFault) = self.play.send_due(
+            &mut self.next,
+            &mut self.states,
+            moment,
+            &mut room.packet,
+            room.unit.as_mut_slice(),
+            sink,
+        ) {
             return Turn::SinkFailed;
         }
         if self.is_at_end() {
@@ -134,10 +138,14 @@ impl Pacer {
             return LastTurn::NotLeft;
         };
         let until = left.min(moment);
-        if let Err(SinkFault) =
-            self.play
-                .send_due(&mut self.next, &mut self.states, until, &mut room.packet, room.unit.as_mut_slice(), sink)
-        {
+        if let Err(SinkFault) = self.play.send_due(
+            &mut self.next,
+            &mut self.states,
+            until,
+            &mut room.packet,
+            room.unit.as_mut_slice(),
+            sink,
+        ) {
             return LastTurn::SinkFailed;
         }
         if moment < left {
@@ -156,6 +164,13 @@ impl Pacer {
             return None;
         }
         self.play.left_for(phase)
+    }
+
+    // What its type says of it.
+    pub(crate) fn told(&self)
+        ensures { IsPacing self.now }
+    {
+        let _next = self.next;
     }
 
     // Whether no packet is left.

@@ -19,7 +19,7 @@ invariant-loop-packets g l =
       few : l.packets ≤ l.most;
       most : l.most ≡ packet_count x.packing;
       sent : (u : _) → PacketsSent g.S.Sink.calls x.track (part_packets x n t l.unit l.state left.parts) l.sink u
-           → PacketsSent g.S.Sink.calls x.track (part_packets x n t l.unit l.start.state all.parts) l.fn.sink u;
+          → PacketsSent g.S.Sink.calls x.track (part_packets x n t l.unit l.start.state all.parts) l.fn.sink u;
       packets : l.packets + length left.parts ≡ length all.parts;
       state : counted_all l.state left.parts ≡ counted_all l.start.state all.parts;
       fault : left.fault ≡ all.fault;

@@ -98,7 +98,7 @@ loop-sources-preserved g c =
       within = omega (arith, was.begun, below, more);
       sent = subst (λ (m : ℕ). AllSent calls (phase_of y) y.unit_ms (take m left) c.args.states.now c.send.new.states c.args.sink.now c.send.new.sink) count sent;
       room = c.send.ensures.room ∙ was.room;
-          }
+    }
 
 pub returns-clause-ok : goal.returns-clause-ok
 returns-clause-ok g c =
