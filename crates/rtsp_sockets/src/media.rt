@@ -43,7 +43,7 @@ impl From<AllocError> for MediaFault {
 #[derive(Clone, Copy)]
 pub(crate) struct Place {
     pub(crate) file: usize,
-    pub(crate) octets: u16,
+    pub(crate) octets: u32,
 }
 
 /// The media of all tracks. Tracks that name one file share it.
@@ -61,7 +61,7 @@ pub type Media = MediaOf<File>;
 
 // How many bytes the file of a track has.
 fn len_of(presentation: &Presentation, track: &Track) -> u64 {
-    u64::from(presentation.units()) * u64::from(track.octets())
+    u64::from(presentation.units()) * u64::from(track.unit_len())
 }
 
 impl MediaOf<File> {
@@ -82,7 +82,7 @@ impl MediaOf<File> {
             let mut places = Vec::new(alloc);
             for track in presentation.tracks() {
                 let file = media.file_of(rt, alloc, &mut paths, presentation, track)?;
-                let octets = track.octets();
+                let octets = track.unit_len();
                 places
                     .push(Place { file, octets })
                     .map_err(AllocError::from)?;
