@@ -4,6 +4,7 @@ pub mod Scheduling
 pub mod Turning
 pub mod Parting
 pub mod Sending
+pub mod Aloneness
 pub mod Wiring
 pub mod Reckoning
 pub mod Founding

@@ -9,6 +9,7 @@ pub mod Pacing
 pub mod Goodbyes
 pub mod Reports
 pub mod Turns
+pub mod Alone
 pub mod Leaving
 pub mod Wire
 pub mod Progress

@@ -35,7 +35,7 @@ mod unit_sending;
 
 pub use buffer::Packet;
 pub use goodbye::ControlSink;
-pub use laws::{law_play_within, law_turn_within, law_unit_within};
+pub use laws::{law_one_packet, law_play_within, law_turn_within, law_unit_within};
 pub use pacer::Pacer;
 pub use part::SlotFault;
 pub use play::sent_before;
