@@ -16,7 +16,10 @@ HEADER = 12
 # What ffmpeg takes for a packet: a header, and a payload of the most that the server sends.
 PACKET = HEADER + 1400
 # What players take as it is, by ffmpeg's name for it; anything else is encoded anew.
-AS_THEY_ARE = {"video": ("h264", "hevc", "vp8", "vp9", "av1"), "audio": ("aac", "opus", "mp3", "mp2", "ac3", "pcm_mulaw", "pcm_alaw")}
+AS_THEY_ARE = {
+    "video": ("h264", "hevc", "vp8", "vp9", "av1"),
+    "audio": ("aac", "opus", "mp3", "mp2", "ac3", "pcm_mulaw", "pcm_alaw"),
+}
 ANEW = {"video": ("libx264", "-preset", "veryfast", "-pix_fmt", "yuv420p"), "audio": ("aac", "-b:a", "160k")}
 FIRST_PAYLOAD_TYPE = 96
 
@@ -58,7 +61,8 @@ def streams_of(path: pathlib.Path, most: int) -> List[FilmStream]:
 def first_time(path: pathlib.Path, selector: str) -> float:
     """The time of the first packet of a stream, which RTP doesn't tell."""
     words = ["-select_streams", selector, "-show_entries", "packet=pts_time", "-read_intervals", "%+#1"]
-    done = subprocess.run(["ffprobe", "-v", "error", *words, "-of", "csv=p=0", str(path.resolve())], capture_output=True, text=True)
+    command = ["ffprobe", "-v", "error", *words, "-of", "csv=p=0", str(path.resolve())]
+    done = subprocess.run(command, capture_output=True, text=True)
     said = re.match(r"-?[\d.]+", done.stdout)
     return float(said[0]) if said else 0.0
 
@@ -169,16 +173,18 @@ def packetize(path: pathlib.Path, stream: FilmStream, encode: List[str]) -> Pack
         by, sdp = pathlib.Path(folder) / "rtp", pathlib.Path(folder) / "sdp"
         listener = _Listener(by, packets)
         words = ["-map", f"0:{stream.selector}", *(encode or ["-c", "copy"]), "-map_metadata", "-1", "-f", "rtp"]
-        words += ["-rtpflags", "skip_rtcp", "-payload_type", str(FIRST_PAYLOAD_TYPE), "-ssrc", "1", "-seq", "0", "-max_delay", "0"]
-        words += ["-strict", "experimental", "-sdp_file", str(sdp), "-type", "seqpacket", "-packetsize", str(PACKET), f"unix:{by}"]
+        words += ["-rtpflags", "skip_rtcp", "-payload_type", str(FIRST_PAYLOAD_TYPE), "-ssrc", "1", "-seq", "0"]
+        words += ["-max_delay", "0", "-strict", "experimental", "-sdp_file", str(sdp)]
+        words += ["-type", "seqpacket", "-packetsize", str(PACKET), f"unix:{by}"]
         command = ["ffmpeg", "-hide_banner", "-nostdin", "-v", "error", "-i", str(path.resolve()), *words]
         try:
-            done = subprocess.run(command, stdout=subprocess.DEVNULL, stderr=subprocess.PIPE, text=True, errors="replace")
+            pipes = {"stdout": subprocess.DEVNULL, "stderr": subprocess.PIPE, "text": True, "errors": "replace"}
+            done = subprocess.run(command, **pipes)
         finally:
             listener.close()
         if done.returncode or not packets.lengths:
-            lines = [it.strip() for it in done.stderr.splitlines() if it.strip()]
-            raise Refused(f"ffmpeg makes no packets of {stream.codec} in {path}: {lines[-1] if lines else 'there is nothing'}")
+            lines = [it.strip() for it in done.stderr.splitlines() if it.strip()] or ["there is nothing"]
+            raise Refused(f"ffmpeg makes no packets of {stream.codec} in {path}: {lines[-1]}")
         packets.described(sdp.read_text())
     packets.first = round(first_time(path, stream.selector) * packets.clock)
     return packets

@@ -43,8 +43,8 @@ class Plan(NamedTuple):
 
 
 def earliest(packets: Packets) -> Tuple["array.array[int]", bytearray]:
-    """The unit in which each packet may be sent at the earliest, which is when its frame would be decoded; and whether it
-    begins a frame that a decoder may begin with."""
+    """The unit in which each packet may be sent at the earliest, which is when its frame would be decoded; and whether
+    it begins a frame that a decoder may begin with."""
     frames, begins = [], []
     for at, stamp in enumerate(packets.stamps):
         if not frames or stamp != frames[-1]:
@@ -101,7 +101,8 @@ def plan(packets: Packets) -> Plan:
         octets[unit] = octets.get(unit, 0) + length
         counts[unit] = counts.get(unit, 0) + 1
     if best is None or max(octets.values()) > MOST_OCTETS or max(counts.values()) > MOST_PACKETS:
-        raise Refused(f"{packets.stream.codec} has more in {LATE_MS} ms than units of {UNIT_MS} ms carry; --mbit makes less of it")
+        much = f"more in {LATE_MS} ms than units of {UNIT_MS} ms carry"
+        raise Refused(f"{packets.stream.codec} has {much}; --mbit makes less of it")
     return Plan(packets, best, max(counts.values()), max(octets.values()))
 
 
