@@ -22,14 +22,16 @@ module _ {S : Type 0} (calls : Calls S) (phase : Phase) (unit_ms i : ℕ) (x : S
       in
       let told : unit.told ≡ unit.heard = subst (λ (o : Packing). Hears calls x.track (first_unit phase + i) (fault_in o x.ticks unit.octets) unit.heard unit.told) single unit.hears in
       let done : u ≡ unit.told = subst (λ (o : Packing). Reports calls x.track (report_behind o phase unit_ms x i states unit.octets) unit.told u) single unit.reports in
-      let same : u ≡ one.0 = done ∙ (told ∙ one.2) in
-      (record {
-        payload = unit.octets;
-        full = unit.full ∙ ap (λ (o : Packing). unit_len o x.octets) single;
-        between = unit.between;
-        took = unit.took;
-        sent = subst (λ (v : S). Sent calls x.track (packet_of x (sent_before phase + i) unit.octets) unit.between v) (sym same) one.1;
-      }, unit.counted ∙ ap (λ (o : Packing). states_behind o unit_ms x i states unit.octets) single)
+      let same : u ≡ one.0 = done ∙ (told ∙ one.2) in (
+        record {
+          payload = unit.octets;
+          full = unit.full ∙ ap (λ (o : Packing). unit_len o x.octets) single;
+          between = unit.between;
+          took = unit.took;
+          sent = subst (λ (v : S). Sent calls x.track (packet_of x (sent_before phase + i) unit.octets) unit.between v) (sym same) one.1;
+        },
+        unit.counted ∙ ap (λ (o : Packing). states_behind o unit_ms x i states unit.octets) single,
+      )
 
   that_is_enough : PacketSent calls phase i x s u → after ≡ states → UnitSent calls phase unit_ms i x states after s u
   that_is_enough packet kept =
