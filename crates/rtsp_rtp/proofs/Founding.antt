@@ -1,5 +1,5 @@
 -- What is found in the rows of a session.
-use Rattle.std.proofs.Common.{inl, inr, ◌≡◌, ℕ, Bool, true, List, [], ◌∷◌, subst, Option, Some}
+use Rattle.std.proofs.Common.{inl, inr, ◌≡◌, ℕ, Bool, true, false, if◌then◌else◌, List, [], ◌∷◌, refl, ap, sym, ◌∙◌, subst, Option, Some, None}
 use Rattle.std.proofs.lemmas.Bool.{cases_Bool}
 use Rattle.std.proofs.lemmas.Option.{none-some}
 use Rattle.rtsp_sessions.specs.Searches.{first_with}

@@ -1,6 +1,6 @@
 -- The packets of a unit of several, one after another, and how much they are together.
-use Rattle.std.proofs.Common.{◌≡◌, ℕ, zero, suc, ◌+◌, ◌-◌, ◌<◌, ◌≤◌, Bool, true, false, if◌then◌else◌, List, [], ◌∷◌, length, drop, refl, ap, ◌∙◌, arith, Option, Some, None, Ok, Err}
-use Rattle.std.specs.Prelude.{nat_le, ◌==◌}
+use Rattle.std.proofs.Common.{◌≡◌, ℕ, zero, suc, ◌+◌, ◌-◌, ◌*◌, ◌/◌, ◌<◌, ◌≤◌, Bool, true, false, if◌then◌else◌, List, [], ◌∷◌, length, drop, refl, ap, sym, ◌∙◌, subst, arith, Option, Some, None, Result, Ok, Err}
+use Rattle.std.specs.Prelude.{nat_le, ◌==◌, ◌%◌, ◌^◌}
 use Rattle.std.specs.List.{sum_by}
 use Rattle.std.proofs.lemmas.List.Sums.{sum_by-cons}
 use Rattle.std.proofs.lemmas.Bool.{leb-true}
@@ -9,10 +9,16 @@ use Rattle.std.proofs.lemmas.List.{length-take-le, length-drop}
 use Rattle.rtsp_content.specs.declared.limits.TheConstants.{MAX_OCTETS}
 use Rattle.rtsp_content.specs.declared.packing.Packing.{Packing}
 use Rattle.rtsp_content.specs.declared.packing.Packing.TheVariants.{Single, Slots, Equal}
+use Rattle.rtsp_rtp.specs.declared.source.Source.{Source}
 use Rattle.rtsp_rtp.specs.declared.part.Part.{Part}
 use Rattle.rtsp_rtp.specs.declared.part.SlotFault.{SlotFault}
 use Rattle.rtsp_rtp.specs.declared.part.SlotFault.TheVariants.{TooLong, Cut, BadFlags}
-use Rattle.rtsp_rtp.specs.Parts.{Found, two_at, four_at, flagged, whole, headed, share_of, equal_part, part_at, after_found, parts_from, payload_in}
+use Rattle.rtsp_rtp.specs.declared.sender_state.SenderState.{SenderState}
+use Rattle.rtsp_rtp.specs.Sinks.{Calls, Sent}
+use Rattle.rtsp_rtp.specs.Turns.{PacketsSent}
+use Rattle.rtsp_rtp.specs.Parts.{Found, two_at, four_at, flagged, whole, headed, slot_at, share_of, equal_part, equal_at, part_at, Parts, after_found, parts_from, payload_in}
+use Rattle.rtsp_rtp.specs.SenderStates.{counted, counted_all}
+use Rattle.rtsp_rtp.specs.UnitPackets.{part_packet, part_packets}
 
 abbrev some_of : Found → Option Part
 some_of (Ok o) = o

@@ -1,6 +1,6 @@
 -- What all turns of a play send together is within what is held for it.
-use Rattle.std.proofs.Common.{◌≡◌, ℕ, zero, suc, ◌+◌, ◌-◌, ◌*◌, ◌/◌, ◌<◌, ◌≤◌, List, [], ◌∷◌, ◌++◌, length, map, take, drop, refl, ap, sym, ◌∙◌, subst, inl, inr, arith}
-use Rattle.std.specs.Prelude.{All, replicate, get_or, min, ◌%◌}
+use Rattle.std.proofs.Common.{◌≡◌, ℕ, zero, suc, ◌+◌, ◌-◌, ◌*◌, ◌/◌, ◌<◌, ◌≤◌, List, [], ◌∷◌, ◌++◌, length, map, take, drop, refl, ap, sym, ◌∙◌, subst, inl, inr, ◌⊎◌, arith}
+use Rattle.std.specs.Prelude.{All, Contains, replicate, get_or, min, ◌%◌}
 use Rattle.std.specs.List.{sum_by}
 use Rattle.std.proofs.lemmas.List.Sums.{sum_by-cons, sum_by-append, sum_by-take-le}
 use Rattle.std.proofs.lemmas.List.Elements.{All-append, All-map, All-take, All-drop, All-contains_itself}
@@ -10,13 +10,14 @@ use Rattle.std.proofs.lemmas.Nat.{mul-le}
 use Rattle.std.proofs.lemmas.Grind.{div_ceil_times}
 use Rattle.std.proofs.lemmas.Bool.{cases_lt}
 use Rattle.std.proofs.Math.Seq.{take-add, take-length}
-use Rattle.std.proofs.Math.Nat.{div-mul-le_self, min-le_right, add-mul, mul-add, suc-mul}
+use Rattle.std.proofs.Math.Nat.{div-mul-le_self, min-le_right, min-le_left, add-mul, mul-add, suc-mul}
 use Rattle.rtsp_record.specs.declared.phases.Phase.{Phase}
 use Rattle.rtsp_record.specs.Moments.{due}
 use Rattle.rtsp_content.specs.declared.limits.TheConstants.{MAX_TRACKS}
 use Rattle.rtsp_content.specs.declared.packing.Packing.{Packing}
 use Rattle.rtsp_content.specs.declared.packing.Packing.TheVariants.{Single, Slots, Equal}
 use Rattle.rtsp_content.specs.PackingLimits.{packet_count, report_rate}
+use Rattle.rtsp_content.specs.Rate.{rate_of, unit_bits}
 use Rattle.rtsp_rtp.specs.declared.source.Source.{Source}
 use Rattle.rtsp_rtp.specs.declared.sender_state.SenderState.{SenderState}
 use Rattle.rtsp_rtp.specs.declared.turn.Turn.{Turn}

@@ -1,5 +1,5 @@
 -- What the reports of a play take: each raises by a second the unit from which its stream reports again.
-use Rattle.std.proofs.Common.{◌≡◌, ◌≢◌, ℕ, zero, suc, ◌+◌, ◌*◌, ◌<◌, ◌≤◌, Bool, true, false, ◌&&◌, if◌then◌else◌, List, [], ◌∷◌, length, set, refl, ap, sym, ◌∙◌, subst, inl, inr, arith, Some, None}
+use Rattle.std.proofs.Common.{◌≡◌, ◌≢◌, ℕ, zero, suc, ◌+◌, ◌-◌, ◌*◌, ◌<◌, ◌≤◌, Bool, true, false, ◌&&◌, if◌then◌else◌, List, [], ◌∷◌, length, set, get_or, replicate, refl, ap, sym, ◌∙◌, subst, inl, inr, ◌⊎◌, arith, Option, Some, None}
 use Rattle.std.specs.Prelude.{All, Contains}
 use Rattle.std.specs.List.{sum_by}
 use Rattle.std.proofs.lemmas.List.Sums.{sum_by-cons}
@@ -8,7 +8,7 @@ use Rattle.std.proofs.lemmas.List.{get_or-set_other}
 use Rattle.std.proofs.lemmas.Grind.{get_or-set_at}
 use Rattle.std.proofs.lemmas.Bool.{cases_lt, leb-true, false≢true}
 use Rattle.std.proofs.Math.ListN.{length-set}
-use Rattle.std.proofs.Math.Nat.{mul-add}
+use Rattle.std.proofs.Math.Nat.{mul-add, add-mul, suc-mul}
 use Rattle.std.proofs.lemmas.Nat.{mul-le}
 use Rattle.rtsp_record.specs.declared.phases.Phase.{Phase}
 use Rattle.rtsp_record.specs.Moments.{sent_before}
@@ -18,13 +18,14 @@ use Rattle.rtsp_content.specs.declared.packing.Packing.TheVariants.{Single, Slot
 use Rattle.rtsp_rtp.specs.declared.source.Source.{Source}
 use Rattle.rtsp_rtp.specs.declared.part.Part.{Part}
 use Rattle.rtsp_rtp.specs.declared.sender_state.SenderState.{SenderState}
+use Rattle.rtsp_rtp.specs.Packets.{timestamp_after}
 use Rattle.rtsp_rtp.specs.Parts.{parts_of}
-use Rattle.rtsp_rtp.specs.SenderStates.{unsent_state, state_of, counted, counted_all, report_every, is_reporting, behind_report}
+use Rattle.rtsp_rtp.specs.SenderStates.{unsent_state, unsent_states, state_of, counted, counted_all, report_every, is_reporting, behind_report}
 use Rattle.rtsp_rtp.specs.UnitPackets.{counted_in, states_behind}
 use Rattle.rtsp_rtp.specs.Reports.{unit_report}
 use Rattle.rtsp_rtp.specs.Sinks.{Calls}
 use Rattle.rtsp_rtp.specs.Pacing.{begun_at, IsSourceWithin}
-use Rattle.rtsp_rtp.specs.Turns.{report_due, report_behind, AllSent}
+use Rattle.rtsp_rtp.specs.Turns.{report_due, report_behind, UnitSent, AllSent}
 use Rattle.rtsp_rtp.specs.Wire.{Way, wire_of, report_wire, behind_wire, all_behind_wire}
 use Rattle.rtsp_rtp.proofs.Wiring.{beside_most}
 

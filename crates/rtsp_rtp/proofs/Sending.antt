@@ -1,5 +1,5 @@
 -- The sending of a unit of several packets.
-use Rattle.std.proofs.Common.{Bool, true, if◌then◌else◌, ◌≡◌, ℕ, suc, ◌+◌, ◌-◌, ◌<◌, ◌≤◌, List, [], length, set, refl, ap, sym, ◌∙◌, subst, arith, Option, Some, None, Ok}
+use Rattle.std.proofs.Common.{Bool, true, if◌then◌else◌, ◌≡◌, ℕ, zero, suc, ◌+◌, ◌-◌, ◌%◌, ◌^◌, ◌<◌, ◌≤◌, List, [], ◌∷◌, ◌++◌, length, set, refl, ap, sym, ◌∙◌, subst, arith, Option, Some, None, Result, Ok, Err}
 use Rattle.rtsp_record.specs.declared.phases.Phase.{Phase}
 use Rattle.rtsp_content.specs.declared.packing.Packing.{Packing}
 use Rattle.rtsp_content.specs.declared.packing.Packing.TheVariants.{Single, Slots, Equal}
@@ -14,7 +14,7 @@ use Rattle.rtsp_rtp.specs.Sinks.{Calls, Took, Sent, Reported}
 use Rattle.rtsp_rtp.specs.Pacing.{begun_at, first_unit}
 use Rattle.rtsp_rtp.specs.Reports.{unit_report}
 use Rattle.rtsp_rtp.specs.Packets.{first_number, timestamp_after}
-use Rattle.rtsp_rtp.specs.Parts.{Found, part_at, after_found, parts_from, parts_of}
+use Rattle.rtsp_rtp.specs.Parts.{Found, part_at, Parts, after_found, parts_from, parts_of}
 use Rattle.rtsp_rtp.specs.SenderStates.{state_of, counted, counted_all, is_reporting, behind_report}
 use Rattle.rtsp_rtp.specs.UnitPackets.{part_packet, part_packets, unit_packets, fault_in, counted_in, states_behind}
 use Rattle.rtsp_rtp.specs.Turns.{PacketsSent, Hears, Reports, UnitSent, report_due, report_behind}

@@ -1,6 +1,8 @@
 -- Sender reports: RTCP by which a stream tells what its timestamps are at a moment (RFC 3550 section 6.4.1).
-use Rattle.std.specs.Prelude.{ℕ, ◌+◌, ◌*◌, ◌/◌, ◌%◌, ◌^◌, ◌-◌, min, List, ◌++◌}
+use Rattle.std.specs.Prelude.{ℕ, ◌+◌, ◌*◌, ◌/◌, ◌%◌, ◌^◌, ◌-◌, min, List, [], ◌∷◌, ◌++◌}
 use Rattle.std.specs.Int.{w32, to_be_bytes}
+use Rattle.rtsp_record.specs.declared.phases.Phase.{Phase}
+use Rattle.rtsp_record.specs.Moments.{sent_before}
 use Rattle.rtsp_rtp.specs.declared.source.Source.{Source}
 use Rattle.rtsp_rtp.specs.declared.sender_state.SenderState.{SenderState}
 use Rattle.rtsp_rtp.specs.Packets.{timestamp_after}

@@ -1,5 +1,5 @@
 -- What the streams of a play have sent in it, whose units have several packets.
-use Rattle.std.specs.Prelude.{ℕ, ◌+◌, ◌-◌, ◌%◌, ◌^◌, Bool, ◌&&◌, nat_lt, nat_le, if◌then◌else◌, List, [], ◌∷◌, replicate, get_or}
+use Rattle.std.specs.Prelude.{ℕ, ◌+◌, ◌-◌, ◌%◌, ◌^◌, Bool, ◌&&◌, nat_lt, nat_le, if◌then◌else◌, List, [], ◌∷◌, replicate, set, get_or}
 use Rattle.std.specs.Int.{div_ceil}
 use Rattle.rtsp_content.specs.declared.limits.TheConstants.{MAX_TRACKS}
 use Rattle.rtsp_rtp.specs.declared.part.Part.{Part}

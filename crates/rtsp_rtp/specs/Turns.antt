@@ -7,7 +7,7 @@ use Rattle.rtsp_rtp.specs.declared.source.Source.{Source}
 use Rattle.rtsp_rtp.specs.declared.turn.Turn.{Turn}
 use Rattle.rtsp_rtp.specs.declared.turn.Turn.TheVariants.{More, AtEnd, OtherPlay, SinkFailed}
 use Rattle.rtsp_content.specs.declared.packing.Packing.{Packing}
-use Rattle.rtsp_content.specs.declared.packing.Packing.TheVariants.{Single}
+use Rattle.rtsp_content.specs.declared.packing.Packing.TheVariants.{Single, Slots, Equal}
 use Rattle.rtsp_content.specs.PackingLimits.{unit_len}
 use Rattle.rtsp_rtp.specs.declared.part.SlotFault.{SlotFault}
 use Rattle.rtsp_rtp.specs.declared.sender_state.SenderState.{SenderState}

@@ -1,7 +1,7 @@
 -- The packets that are made of the octets of a unit.
-use Rattle.std.specs.Prelude.{ℕ, ◌+◌, ◌%◌, ◌^◌, ◌++◌, List, [], ◌∷◌, set, length, Option, None}
+use Rattle.std.specs.Prelude.{ℕ, ◌+◌, ◌%◌, ◌^◌, ◌++◌, List, [], ◌∷◌, set, length, Option, Some, None}
 use Rattle.rtsp_content.specs.declared.packing.Packing.{Packing}
-use Rattle.rtsp_content.specs.declared.packing.Packing.TheVariants.{Single}
+use Rattle.rtsp_content.specs.declared.packing.Packing.TheVariants.{Single, Slots, Equal}
 use Rattle.rtsp_rtp.specs.declared.source.Source.{Source}
 use Rattle.rtsp_rtp.specs.declared.part.Part.{Part}
 use Rattle.rtsp_rtp.specs.declared.part.SlotFault.{SlotFault}

@@ -1,4 +1,4 @@
-use Rattle.std.proofs.Common.{◌∙◌, ℕ, List, slice_index_or, subst}
+use Rattle.std.proofs.Common.{None, ◌∙◌, ℕ, List, slice_index_or, subst}
 use Rattle.rtsp_rtp.specs.declared.source.Source.{Source}
 use Rattle.rtsp_content.specs.declared.packing.Packing.TheVariants.{Single}
 use Rattle.rtsp_rtp.proofs.Leaving.{said_more, said_all}

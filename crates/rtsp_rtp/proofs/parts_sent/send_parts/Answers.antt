@@ -1,16 +1,18 @@
-use Rattle.std.proofs.Common.{◌≡◌, ◌+◌, ◌-◌, ◌%◌, ◌^◌, ◌++◌, [], ◌∙◌, length, ℕ, List, ap, sym, subst, arith, Option, Some, None, Ok, Err}
+use Rattle.std.proofs.Common.{◌≡◌, ◌+◌, ◌-◌, ◌%◌, ◌^◌, ◌++◌, ◌∷◌, [], ◌∙◌, length, ℕ, List, refl, ap, sym, subst, arith, Option, Some, None, Ok, Err}
 use Rattle.std.proofs.Math.Nat.{add-mod-mod}
+use Rattle.std.specs.Prelude.{slice_range}
+use Rattle.rtsp_content.specs.PackingLimits.{packet_count}
 use Rattle.rtsp_rtp.specs.declared.part.Part.{Part}
 use Rattle.rtsp_rtp.specs.declared.part.SlotFault.{SlotFault}
 use Rattle.rtsp_rtp.specs.declared.parts_sent.PartsSent.{PartsSent}
 use Rattle.rtsp_rtp.specs.declared.sender_state.SenderState.{SenderState}
 use Rattle.rtsp_rtp.specs.Packets.{marked_header}
-use Rattle.rtsp_rtp.specs.Parts.{Found, Parts, part_at, parts_from, payload_in}
+use Rattle.rtsp_rtp.specs.Parts.{Found, Parts, after_found, part_at, parts_from, parts_of, payload_in}
 use Rattle.rtsp_rtp.specs.SenderStates.{counted, counted_all}
 use Rattle.rtsp_rtp.specs.UnitPackets.{part_packet, part_packets}
 use Rattle.rtsp_rtp.specs.Sinks.{Sent}
 use Rattle.rtsp_rtp.specs.Turns.{PacketsSent}
-use Rattle.rtsp_rtp.proofs.Parting.{part_inside, parts_by}
+use Rattle.rtsp_rtp.proofs.Parting.{part_inside, parts_by, parts_past}
 use Rattle.rtsp_rtp.proofs.Sending.{sent_more, sent_none}
 use Rattle.rtsp_rtp.proofs.parts_sent.send_parts.Goals as goal
 

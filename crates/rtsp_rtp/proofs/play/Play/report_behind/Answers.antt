@@ -1,4 +1,4 @@
-use Rattle.std.proofs.Common.{◌≡◌, ◌+◌, ◌*◌, ◌<◌, ◌≤◌, ℕ, [], ap, ◌∙◌, arith}
+use Rattle.std.proofs.Common.{◌≡◌, ◌+◌, ◌*◌, ◌-◌, ◌^◌, ◌%◌, ◌<◌, ◌≤◌, min, ℕ, List, [], ap, sym, ◌∙◌, arith}
 use Rattle.rtsp_rtp.specs.Packets.{timestamp_after}
 use Rattle.rtsp_rtp.specs.Reports.{report_of, due_moment, unit_report}
 use Rattle.rtsp_rtp.specs.Progress.{phase_of}

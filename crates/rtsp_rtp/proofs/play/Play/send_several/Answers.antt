@@ -1,4 +1,4 @@
-use Rattle.std.proofs.Common.{◌≡◌, ◌+◌, ◌≤◌, length, ap, sym, ◌∙◌, subst, arith, Option}
+use Rattle.std.proofs.Common.{◌≡◌, ◌+◌, ◌%◌, ◌^◌, ◌≤◌, ℕ, List, length, ap, sym, ◌∙◌, subst, refl, arith, Option, Some}
 use Rattle.std.proofs.lemmas.List.{length-take-le}
 use Rattle.rtsp_record.specs.Moments.{sent_before}
 use Rattle.rtsp_content.specs.PackingLimits.{unit_len}
@@ -7,6 +7,7 @@ use Rattle.rtsp_rtp.specs.declared.sender_state.SenderState.{SenderState}
 use Rattle.rtsp_rtp.specs.Pacing.{first_unit}
 use Rattle.rtsp_rtp.specs.Packets.{timestamp_after}
 use Rattle.rtsp_rtp.specs.Progress.{phase_of}
+use Rattle.rtsp_rtp.specs.SenderStates.{behind_report}
 use Rattle.std.proofs.Common.{set}
 use Rattle.rtsp_rtp.specs.Turns.{Hears}
 use Rattle.rtsp_rtp.proofs.Counting.{timestamp_wraps}
