@@ -50,18 +50,6 @@ part_length i (e ∷ j) p =
     (λ (q : (rest : List Entry) × (i ≡ e ∷ rest) × Part rest j). let le = part_length q.0 j q.2 in let same : length i ≡ suc (length q.0) = ap length q.1 in omega (arith, le, same))
     p
 
--- the same of those that pass a test
-pub part_passing : (p : Entry → Bool) (i j : List Entry) → Part i j → Part (filter p i) (filter p j)
-part_passing p i [] q = ap (filter p) q
-part_passing p i (e ∷ j) q =
-    ⊎_elim
-    (λ (t : Part i j). let rest = part_passing p i j t in elim (p e) as (λ b. Part (filter p i) (cond b (e ∷ filter p j) (filter p j))) [ true ↦ inl rest | false ↦ rest ])
-    (λ (t : (rest : List Entry) × (i ≡ e ∷ rest) × Part rest j).
-    let rest = part_passing p t.0 j t.2 in
-    subst (λ (l : List Entry). Part (filter p l) (cond (p e) (e ∷ filter p j) (filter p j))) (sym t.1)
-    (elim (p e) as (λ b. Part (cond b (e ∷ filter p t.0) (filter p t.0)) (cond b (e ∷ filter p j) (filter p j))) [ true ↦ inr (filter p t.0, refl, rest) | false ↦ rest ]))
-    q
-
 -- a list whose last passing entry is this one, cut at it
 record Split (p : Entry → Bool) (j xs : List Entry) (e : Entry) : Type 0 where
   pub first : List Entry
