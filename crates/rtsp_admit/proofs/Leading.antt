@@ -21,7 +21,7 @@ use Rattle.rtsp_book.proofs.Keeping.{records-append}
 use Rattle.rtsp_book.proofs.Runs.{row_after-append}
 use Rattle.rtsp_lock.specs.Entries.{entries_of, OnlyOf, Part, LeftOf}
 use Rattle.rtsp_lock.proofs.Entries.{filters, own_all}
-use Rattle.rtsp_admit.specs.Refused.{is_use_of, uses}
+use Rattle.rtsp_lock.specs.Numbers.{is_use_of, uses}
 use Rattle.rtsp_admit.proofs.Rows.{Within, Left, count, quiet_row, within_more, no_add_of}
 
 -- Entries left out of a list.
