@@ -22,7 +22,7 @@ abbrev pub serving_of : TableValue → Asker → BookSeat → Serving
 serving_of table asker seat = record { service = served table asker; view = seat_view seat }
 
 -- the same of a desk
-abbrev pub desk_serving : {R B W C P S : Type 0} → Desk R B W C P S → Serving
+abbrev pub desk_serving : {R B W C P S N : Type 0} → Desk R B W C P S N → Serving
 desk_serving desk = record { service = service desk; view = seat_view desk.seat.now }
 
 module _ {B W C P S : Type 0} (d : Devices B W C P S) where
