@@ -3,6 +3,7 @@
 use crate::devices::{Drawing, Noting, Ticking};
 use crate::server::{SERVER, Server, Talk, as_sent, converse};
 use rtsp_engine::law_served_grows;
+use rtsp_lock::AnyNumbers;
 use rtsp_record::Phase;
 use rtsp_traits::{NoShares, PortSet};
 use std::alloc::Global;
@@ -368,5 +369,5 @@ fn a_renewal_that_gains_less_than_the_step_is_left_out(rt: HostRuntime) {
 
 #[test]
 fn the_law_is_called() {
-    law_served_grows::<HostRuntime, PortSet, Drawing, Ticking, Noting, NoShares>();
+    law_served_grows::<HostRuntime, PortSet, Drawing, Ticking, Noting, NoShares, AnyNumbers>();
 }
