@@ -1,11 +1,11 @@
 -- The history backs the journal, through what a holder may leave.
-use Rattle.std.proofs.Common.{◌≡◌, ℕ, Bool, true, false, cond, List, [], ◌∷◌, ◌++◌, refl, sym, ◌∙◌, ap, subst, append-nil, inl, inr, ⊎_elim}
+use Rattle.std.proofs.Common.{◌≡◌, ℕ, Bool, List, [], ◌∷◌, ◌++◌, refl, sym, ◌∙◌, ap, subst, append-nil, ⊎_elim}
 use Rattle.std.specs.Prelude.{filter, is_some}
 use Rattle.std.specs.FinMap.{get}
 use Rattle.std.proofs.lemmas.List.Elements.{filter-append}
 use Rattle.rtsp_record.specs.declared.changes.Entry.{Entry}
 use Rattle.rtsp_record.specs.Records.{session_of}
-use Rattle.rtsp_record.specs.Books.{Book, book_of}
+use Rattle.rtsp_record.specs.Books.{book_of}
 use Rattle.rtsp_record.specs.Journals.{is_add_of, less_ended}
 use Rattle.rtsp_book.specs.Kept.{entries_by}
 use Rattle.rtsp_lock.specs.declared.view.View.{View}

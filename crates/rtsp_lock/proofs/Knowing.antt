@@ -1,11 +1,9 @@
 -- Each step of the lock keeps its rule, and what the seats know of their numbers.
-use Rattle.std.proofs.Common.{◌≡◌, ◌≢◌, ℕ, ◌≤◌, ◌<◌, Bool, true, eqb, set, List, [], ◌∷◌, ◌++◌, length, refl, ap, sym, ◌∙◌, subst, inl, inr, Option, Some}
+use Rattle.std.proofs.Common.{◌≡◌, ℕ, ◌≤◌, ◌<◌, Bool, true, eqb, set, [], ◌∷◌, refl, ap, ◌∙◌, inl, inr, Option, Some}
 use Rattle.std.proofs.lemmas.Bool.{cases_eq}
 use mathlib.Core.Option.{some, none}
-use lib.ListN.{get_elem?}
 use prog.Atomic.{either}
-use Rattle.atomic_table.specs.Table.{State, Me, step, rest, Allows, Splits, opening}
-use Rattle.rtsp_record.specs.declared.changes.Entry.{Entry}
+use Rattle.atomic_table.specs.Table.{Me, step, rest, Allows, Splits, opening}
 use Rattle.rtsp_record.specs.declared.holdings.Whole.{Whole}
 use Rattle.rtsp_record.specs.Rules.{IsLegal}
 use Rattle.rtsp_book.specs.Kept.{History, history}

@@ -1,5 +1,5 @@
 -- A number that a seat drew is used by no other seat, where all use numbers that they drew.
-use Rattle.std.proofs.Common.{◌≡◌, ◌==◌, ℕ, zero, suc, ◌≤◌, Bool, true, false, cond, List, [], ◌∷◌, refl, sym, ◌∙◌, ap, subst, arith, inl, inr, Option}
+use Rattle.std.proofs.Common.{◌≡◌, ◌==◌, ℕ, zero, suc, ◌≤◌, Bool, true, false, cond, List, [], ◌∷◌, refl, sym, ◌∙◌, ap, arith, inl, inr, Option}
 use Rattle.std.specs.Prelude.{filter, Contains}
 use mathlib.Core.Option.{some, some-injective}
 use lib.ListN.{get_elem?}
@@ -10,7 +10,7 @@ use Rattle.rtsp_record.specs.declared.holdings.Whole.{Whole}
 use Rattle.rtsp_book.specs.Kept.{History}
 use Rattle.rtsp_lock.specs.declared.view.View.{View}
 use Rattle.rtsp_lock.specs.Entries.{OnlyOf, Has}
-use Rattle.rtsp_lock.specs.Numbers.{is_use_of, uses, IsUnusedFrom}
+use Rattle.rtsp_lock.specs.Numbers.{is_use_of, uses}
 use Rattle.rtsp_lock.specs.Rule.{OfSeat, EachOfSeat, Keeps}
 use Rattle.rtsp_lock.proofs.Entries.{filters}
 use Rattle.rtsp_lock.proofs.Using.{not_some}

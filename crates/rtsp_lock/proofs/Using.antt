@@ -27,7 +27,6 @@ use Rattle.rtsp_book.specs.declared.steps.Step.TheVariants.{Open, HoldRate, Hold
 use Rattle.rtsp_book.specs.Kept.{entries_by}
 use Rattle.rtsp_book.specs.Made.{hold_chosen, as_pair, as_port, as_chan, adding, binding_to, committing, playing, pausing, finishing, touching, of_living, made}
 use Rattle.rtsp_book.specs.Returns.{dropping, freeing, freeing_rate}
-use Rattle.rtsp_book.specs.Replies.{refusals}
 use Rattle.rtsp_book.specs.Answers.{Answers, written}
 use Rattle.rtsp_book.proofs.Runs.{Giving, fine-append}
 use Rattle.rtsp_book.proofs.Ending.{giving_dropping, giving_freeing, giving_freeing_rate}
