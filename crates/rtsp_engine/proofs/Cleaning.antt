@@ -1,5 +1,5 @@
 -- A connection's seat keeps to the numbers that it drew; and where all seats of its lock do, or it is the only one, nothing is left of a refused SETUP.
-use Rattle.std.proofs.Common.{◌≡◌, ℕ, List, refl, sym, ◌∙◌, subst, inl, inr, Ok, Err}
+use Rattle.std.proofs.Common.{◌≡◌, ℕ, true, List, refl, sym, ◌∙◌, subst, inl, inr, Ok, Err}
 use Rattle.std.specs.Prelude.{Option, None}
 use Rattle.std.proofs.lemmas.Option.{none-some}
 use Rattle.rtsp_grammar.specs.declared.message.Item.{Item}
@@ -20,7 +20,8 @@ use Rattle.rtsp_admit.specs.Runs as runs
 use Rattle.rtsp_admit.specs.Numbers.{IsUnused, OwnsAll}
 use Rattle.rtsp_admit.proofs.Drawing.{acts_use_drawn, looks_use_drawn, draws_give_unused, admissions_keep_drawn}
 use Rattle.rtsp_admit.proofs.Alone.{owns_all_lasts, admissions_keep_all, leaves_nothing_alone}
-use Rattle.rtsp_admit.proofs.Unwinding.{leaves_nothing_drawn, knows_still}
+use Rattle.rtsp_admit.proofs.Keeping.{admissions_keep}
+use Rattle.rtsp_admit.proofs.Unwinding.{leaves_nothing_drawn}
 use Rattle.rtsp_state.specs.declared.plan.Plan.{Plan}
 use Rattle.rtsp_state.specs.declared.plan.Plan.TheVariants as plans
 use Rattle.rtsp_state.specs.declared.request.Screen.{Screen}
@@ -38,8 +39,8 @@ use Rattle.rtsp_engine.specs.Desk.{Service, State, state, service}
 use Rattle.rtsp_engine.specs.DeskAnswers.{AnswersAt, GivesUpAt}
 use Rattle.rtsp_traits.specs.Devices.{Devices}
 use Rattle.rtsp_engine.specs.Drawing.{DrawsNumbers}
-use Rattle.rtsp_engine.specs.Numbers.{DrawsAlone, DeskKeepsNumbers, SetupLeaves, PlanLeaves, FoundLeaves, ResponseLeaves, ItemLeaves, AnswersCleanly, AnswersFromCleanly, ServedKeepsNumbers, ServedLeaving, ServedCleanly, ServedDrawn, VisitedDrawn}
-use Rattle.rtsp_engine.specs.Serving.{Serving, AnswersFrom, GivesUpFrom}
+use Rattle.rtsp_engine.specs.Numbers.{DrawsAlone, DeskKeepsNumbers, SetupLeaves, PlanLeaves, FoundLeaves, ResponseLeaves, ItemLeaves, AnswersCleanly, AnswersMeantCleanly, ServedKeepsNumbers, ServedLeaving, ServedCleanly, ServedDrawn, VisitedDrawn}
+use Rattle.rtsp_engine.specs.Serving.{Serving, AnswersMeant, GivesUpMeant}
 use Rattle.rtsp_engine.specs.declared.conducting.SetUp.{SetUp}
 use Rattle.rtsp_engine.specs.declared.conducting.SetUp.TheVariants.{NoShare, NoWord, NoNumber, Tried}
 use Rattle.rtsp_engine.specs.declared.desk.Asker.{Asker}
@@ -79,7 +80,10 @@ module _ {B W C P S : Type 0} (d : Devices B W C P S) where
   drawn_kept = record {
     looked = λ v u looked is. record { lock = looked.stays.same_numbers ∙ is.lock; own = looks_use_drawn v u is.own looked };
     acted = λ v u step answer none acted is. record { lock = acted.stays.same_numbers ∙ is.lock; own = acts_use_drawn v u step answer is.own (none_named v step none) acted };
-    admitted = λ ask result s t admits drawn is. record { lock = (knows_still d.binder ask result s t admits is.lock drawn).0; own = admissions_keep_drawn d.binder ask result s t admits drawn is.own };
+    admitted = λ ask result s t admits drawn is. record {
+      lock = admissions_keep d.binder ask (λ (x : View). x.numbers_drawn ≡ true) (λ v u step answer of acted on. acted.stays.same_numbers ∙ on) result s t admits is.lock;
+      own = admissions_keep_drawn d.binder ask result s t admits drawn is.own;
+    };
   }
 
   module _ {R N : Type 0} where
@@ -141,13 +145,13 @@ module _ {B W C P S : Type 0} (d : Devices B W C P S) (Left : Ask → View → V
     item_leaves (items.Response response) bytes s t run own = tt
     item_leaves (items.Frame frame) bytes s t run own = tt
 
-  from_cleanly : (s t : Serving) (item : Item) (bytes : List ℕ) → Is s.view → AnswersFrom d s item bytes t → AnswersFromCleanly d Left s item bytes t × Is t.view
-  from_cleanly s t item bytes own h =
+  meant_cleanly : (meant : Serving → Item → Item) (s t : Serving) (item : Item) (bytes : List ℕ) → Is s.view → AnswersMeant d meant s item bytes t → AnswersMeantCleanly d Left meant s item bytes t × Is t.view
+  meant_cleanly meant s t item bytes own h =
       let seen = subst Is (sym h.seen) own in
-      ((h, item_leaves s.service item bytes h.before h.after h.answers seen), subst Is h.sees (keeps_item d Is each s.service item bytes h.before h.after h.answers seen))
+      ((h, item_leaves s.service (meant s item) bytes h.before h.after h.answers seen), subst Is h.sees (keeps_item d Is each s.service (meant s item) bytes h.before h.after h.answers seen))
 
-  from_lost : (s t : Serving) (item : Item) → Is s.view → GivesUpFrom d s item t → Is t.view
-  from_lost s t item own h = subst Is h.sees (keeps_lost d Is each s.service item h.before h.after h.gives_up (subst Is (sym h.seen) own))
+  meant_lost : (meant : Serving → Item → Item) (s t : Serving) (item : Item) → Is s.view → GivesUpMeant d meant s item t → Is t.view
+  meant_lost meant s t item own h = subst Is h.sees (keeps_lost d Is each s.service (meant s item) h.before h.after h.gives_up (subst Is (sym h.seen) own))
 
   module _ {R N : Type 0} where
     cleanly : (s t : Desk R B W C P S N) (item : Item) (bytes : List ℕ) → Is (seat_view s.seat.now) → AnswersAt d s item bytes t → AnswersCleanly d Left s item bytes t × Is (seat_view t.seat.now)
@@ -178,17 +182,20 @@ module _ {B W C P S : Type 0} (d : Devices B W C P S) where
     served_drawn = served_leaving d LeftNothingEver DrawsAlone (drawn_kept d) (λ v is. is.own) (λ ask refusal s t run is unused. leaves_nothing_drawn d.binder ask refusal s t run is.lock unused)
 
   pub visited_drawn : VisitedDrawn d
-  visited_drawn =
-      let R = AnswersFrom d in
-      let M = AnswersFromCleanly d LeftNothingEver in
-      let L = GivesUpFrom d in
-      let Is = λ (s : Serving). DrawsAlone s.view in
-      let own = λ (v : View) (is : DrawsAlone v). is.own in
-      let leaves = λ (ask : Ask) (refusal : Refusal) (s t : runs.State B) (run : Admits d.binder ask (Err refusal) s t) (is : DrawsAlone s.view) (unused : IsUnused s.view ask.admission). leaves_nothing_drawn d.binder ask refusal s t run is.lock unused in
-      let cleanly = from_cleanly d LeftNothingEver DrawsAlone (drawn_kept d) own leaves in
-      let lost = from_lost d LeftNothingEver DrawsAlone (drawn_kept d) own leaves in
-      record {
-        answered = λ bytes rest s t is run. answered_more R M L Is cleanly lost bytes rest s t is run;
-        faulted = λ bytes fault s t is run. fault_more R M L Is cleanly lost bytes fault s t is run;
-        visited = λ start rest end s t is run. visits_more R M L Is cleanly lost end start rest s t is run;
-      }
+  visited_drawn = record {
+    answered = λ meant bytes rest s t is run. answered_more (AnswersMeant d meant) (AnswersMeantCleanly d LeftNothingEver meant) (GivesUpMeant d meant) (λ (x : Serving). DrawsAlone x.view) (cleanly meant) (lost meant) bytes rest s t is run;
+    faulted = λ meant bytes fault s t is run. fault_more (AnswersMeant d meant) (AnswersMeantCleanly d LeftNothingEver meant) (GivesUpMeant d meant) (λ (x : Serving). DrawsAlone x.view) (cleanly meant) (lost meant) bytes fault s t is run;
+    visited = λ meant start rest end s t is run. visits_more (AnswersMeant d meant) (AnswersMeantCleanly d LeftNothingEver meant) (GivesUpMeant d meant) (λ (x : Serving). DrawsAlone x.view) (cleanly meant) (lost meant) end start rest s t is run;
+  }
+    where
+      own : (v : View) → DrawsAlone v → UsesDrawn v
+      own v is = is.own
+
+      leaves : (ask : Ask) (refusal : Refusal) (s t : runs.State B) → Admits d.binder ask (Err refusal) s t → DrawsAlone s.view → IsUnused s.view ask.admission → LeftNothingEver ask s.view t.view
+      leaves ask refusal s t run is unused = leaves_nothing_drawn d.binder ask refusal s t run is.lock unused
+
+      cleanly : (meant : Serving → Item → Item) (s t : Serving) (item : Item) (bytes : List ℕ) → DrawsAlone s.view → AnswersMeant d meant s item bytes t → AnswersMeantCleanly d LeftNothingEver meant s item bytes t × DrawsAlone t.view
+      cleanly meant = meant_cleanly d LeftNothingEver DrawsAlone (drawn_kept d) own leaves meant
+
+      lost : (meant : Serving → Item → Item) (s t : Serving) (item : Item) → DrawsAlone s.view → GivesUpMeant d meant s item t → DrawsAlone t.view
+      lost meant = meant_lost d LeftNothingEver DrawsAlone (drawn_kept d) own leaves meant

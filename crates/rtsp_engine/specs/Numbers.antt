@@ -32,7 +32,7 @@ use Rattle.rtsp_engine.specs.declared.conducting.SetUp.{SetUp}
 use Rattle.rtsp_engine.specs.declared.conducting.SetUp.TheVariants.{NoShare, NoWord, NoNumber, Tried}
 use Rattle.rtsp_engine.specs.declared.desk.Asker.{Asker}
 use Rattle.rtsp_engine.specs.declared.desk.Desk.{Desk}
-use Rattle.rtsp_engine.specs.Serving.{Serving, AnswersFrom, GivesUpFrom}
+use Rattle.rtsp_engine.specs.Serving.{Serving, AnswersMeant, GivesUpMeant}
 use Rattle.rtsp_engine.specs.Visiting.{Visits}
 use Rattle.rtsp_engine.specs.declared.serving.ServeEnd.{ServeEnd}
 use Rattle.rtsp_engine.specs.declared.visiting.VisitEnd.{VisitEnd}
@@ -95,10 +95,10 @@ module _ {B W C P S : Type 0} (d : Devices B W C P S) (Left : Ask → View → V
     ItemLeaves (items.Response response) bytes s t run = Unit {0}
     ItemLeaves (items.Frame frame) bytes s t run = Unit {0}
 
-  -- so it is with an item that is answered from devices as they are then
-  abbrev pub AnswersFromCleanly : Serving → Item → List ℕ → Serving → Type 0
-  AnswersFromCleanly old item bytes new =
-      (run : AnswersFrom d old item bytes new) × ItemLeaves old.service item bytes run.before run.after run.answers
+  -- what an item means is answered with these bytes, from devices as they are then, and of a SETUP that is refused this is left
+  abbrev pub AnswersMeantCleanly : (Serving → Item → Item) → Serving → Item → List ℕ → Serving → Type 0
+  AnswersMeantCleanly meant old item bytes new =
+      (run : AnswersMeant d meant old item bytes new) × ItemLeaves old.service (meant old item) bytes run.before run.after run.answers
 
   module _ {R N : Type 0} where
     -- an item is answered with these bytes, and of a SETUP that is refused this is left
@@ -141,11 +141,15 @@ module _ {B W C P S : Type 0} (d : Devices B W C P S) (R N : Type 0) where
   ServedDrawn = ServedLeaving d R N LeftNothingEver DrawsAlone
 
 module _ {B W C P S : Type 0} (d : Devices B W C P S) where
-  -- so it is of the items of a connection whose devices are lent for one piece at a time, and over its visits
+  -- so it is of the items of a connection whose devices are lent for one piece at a time, each answered by what it is taken to mean, and over its
+  -- visits
   pub record VisitedDrawn : Type 0 where
-    pub answered : (bytes rest : List ℕ) (s t : Output Serving) → DrawsAlone s.answerer.view → Answered (AnswersFrom d) (GivesUpFrom d) bytes rest s t
-        → Answered (AnswersFromCleanly d LeftNothingEver) (GivesUpFrom d) bytes rest s t × DrawsAlone t.answerer.view
-    pub faulted : (bytes : List ℕ) (fault : MessageFault) (s t : Output Serving) → DrawsAlone s.answerer.view → FaultedAfter (AnswersFrom d) (GivesUpFrom d) bytes fault s t
-        → FaultedAfter (AnswersFromCleanly d LeftNothingEver) (GivesUpFrom d) bytes fault s t × DrawsAlone t.answerer.view
-    pub visited : (start rest : List ℕ) (end : VisitEnd) (s t : Line Serving) → DrawsAlone s.output.answerer.view → Visits (AnswersFrom d) (GivesUpFrom d) start rest end s t
-        → Visits (AnswersFromCleanly d LeftNothingEver) (GivesUpFrom d) start rest end s t × DrawsAlone t.output.answerer.view
+    pub answered : (meant : Serving → Item → Item) (bytes rest : List ℕ) (s t : Output Serving) → DrawsAlone s.answerer.view
+        → Answered (AnswersMeant d meant) (GivesUpMeant d meant) bytes rest s t
+        → Answered (AnswersMeantCleanly d LeftNothingEver meant) (GivesUpMeant d meant) bytes rest s t × DrawsAlone t.answerer.view
+    pub faulted : (meant : Serving → Item → Item) (bytes : List ℕ) (fault : MessageFault) (s t : Output Serving) → DrawsAlone s.answerer.view
+        → FaultedAfter (AnswersMeant d meant) (GivesUpMeant d meant) bytes fault s t
+        → FaultedAfter (AnswersMeantCleanly d LeftNothingEver meant) (GivesUpMeant d meant) bytes fault s t × DrawsAlone t.answerer.view
+    pub visited : (meant : Serving → Item → Item) (start rest : List ℕ) (end : VisitEnd) (s t : Line Serving) → DrawsAlone s.output.answerer.view
+        → Visits (AnswersMeant d meant) (GivesUpMeant d meant) start rest end s t
+        → Visits (AnswersMeantCleanly d LeftNothingEver meant) (GivesUpMeant d meant) start rest end s t × DrawsAlone t.output.answerer.view

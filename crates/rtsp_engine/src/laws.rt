@@ -36,8 +36,8 @@ pub fn law_served_drawn<R, B: Binder, W: Words, C: Clock, P: Plays, S: Shares, N
     ensures { ServedDrawn (devices B.calls W.calls C.tells P.calls S.calls) R N }
 {}
 
-/// And so it is of the items of a connection whose devices are lent for one piece at a time, and over
-/// its visits.
+/// And so it is of the items of a connection whose devices are lent for one piece at a time, each
+/// answered by what it is taken to mean, and over its visits.
 pub fn law_visited_drawn<B: Binder, W: Words, C: Clock, P: Plays, S: Shares>()
     ensures { VisitedDrawn (devices B.calls W.calls C.tells P.calls S.calls) }
 {}
