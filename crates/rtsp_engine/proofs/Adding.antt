@@ -189,5 +189,5 @@ module _ {B W C P S : Type 0} (d : Devices B W C P S) where
         (fault_records d run.rest fault run.between.answerer t.output.answerer run.faulted)
         (grown_answered (start ++ run.progress.bytes) run.rest s.output run.between run.progress.answered) (grown_fault run.rest fault run.between.answerer t.output.answerer run.faulted)
 
-    pub served_grows : ServedGrows d R
+    pub served_grows : ServedGrows d R N
     served_grows = record { answered = grown_answered; faulted = grown_faulted; ended = grown_end }
