@@ -31,6 +31,8 @@ mod seats;
 #[cfg(test)]
 mod single_ports;
 #[cfg(test)]
+mod sleepers;
+#[cfg(test)]
 mod steps;
 #[cfg(test)]
 mod sweeps;

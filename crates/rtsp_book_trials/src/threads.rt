@@ -20,8 +20,8 @@ use std::thread;
 use std::thread::Threads;
 use std::time::{Clock, Duration};
 
-// So many sessions are opened and ended by each of four threads.
-const TURNS: u64 = 100;
+// So many sessions are opened and ended by each thread.
+pub const TURNS: u64 = 100;
 
 #[test]
 fn four_threads_leave_one_journal(rt: HostRuntime) -> Result<(), Fail> {
@@ -98,7 +98,7 @@ fn by_four<R: Threads + Wait + Sync>(
 }
 
 // Opens and ends sessions, one after another.
-fn open_and_end<R: Wait>(rt: &R, lock: &BookLock, mut seat: BookSeat)
+pub fn open_and_end<R: Wait>(rt: &R, lock: &BookLock, mut seat: BookSeat)
     requires { IsSeatOf seat lock.now }
 {
     for _ in 0..TURNS {
@@ -117,7 +117,7 @@ fn one_session<R: Wait>(rt: &R, lock: &BookLock, seat: &mut BookSeat) -> Result<
     Ok(())
 }
 
-fn opening(session: u64) -> Step
+pub fn opening(session: u64) -> Step
     ensures { IsAskable result }
 {
     Step::Open(Life {

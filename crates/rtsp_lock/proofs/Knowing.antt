@@ -11,6 +11,7 @@ use Rattle.rtsp_lock.specs.declared.view.View.{View}
 use Rattle.rtsp_lock.specs.Rule.{Leaves, Keeps, KeepsTo, first_view}
 use Rattle.rtsp_lock.specs.Steps.{noting, parent, child, taken, noted, given, given_undrawn}
 use Rattle.rtsp_lock.proofs.Views.{each_set, each_snoc}
+use Rattle.rtsp_lock.proofs.Keeping.{IsTaking}
 use Rattle.rtsp_lock.proofs.Keeping as keeping
 
 -- the first seat knows what all of its lock may use
@@ -35,9 +36,9 @@ keeps_known drawn w slots id m f then allows same s g wide at lt =
       a.4,
     )
 
-pub takes_it : (drawn : Bool) (w : Whole) (slots id : ℕ) (m : Me (Option History) View) → Allows (KeepsTo drawn w) slots id m 0 (λ n. either (eqb n 0) 1 n) (taken (step slots 0 0 1 none) m)
-takes_it drawn w slots id m =
-    keeps_known drawn w slots id m (λ n. either (eqb n 0) 1 n) (taken (step slots 0 0 1 none) m) (λ _. keeping.takes_it w slots id m) (λ n m' told. elim (cases_eq n 0) [
+pub takes_it : (drawn : Bool) (w : Whole) (slots id : ℕ) (m : Me (Option History) View) (f : ℕ → ℕ) → IsTaking f → Allows (KeepsTo drawn w) slots id m 0 f (taken (step slots 0 0 0 none) m)
+takes_it drawn w slots id m f is =
+    keeps_known drawn w slots id m f (taken (step slots 0 0 0 none) m) (λ _. keeping.takes_it w slots id m f is) (λ n m' told. elim (cases_eq n 0) [
       | inl free ↦ ap (λ (x : View). x.numbers_drawn) (told.0 free).view
       | inr held ↦ ap (λ (x : Me (Option History) View). x.0.numbers_drawn) (told.1 held)
     ])
@@ -49,14 +50,14 @@ notes_it drawn w slots id m value holds leaves up =
     keeps_known drawn w slots id m (λ n. either (eqb n 1) 1 n) (noted (step slots 0 1 1 (some (Some value))) m) (λ known. keeping.notes_it w slots id m value holds (leaves known) up) (λ n m' told. ap (λ (x : Me (Option History) View). x.0.numbers_drawn) told)
 
 pub gives_as : (drawn : Bool) (w : Whole) (slots id : ℕ) (m : Me (Option History) View) → slots ≡ 1 → m.0.holds ≡ true → IsLegal m.0.whole m.0.left → m.1 ≡ (0, Some (history m.0.whole m.0.left m.0.left_next m.0.left_rounds)) ∷ rest m.1
-    → Allows (KeepsTo drawn w) slots id m 0 (λ _. 0) (λ _. given (step slots 0 0 0 none) m 0)
+    → Allows (KeepsTo drawn w) slots id m 0 (λ _. 0) (given (step slots 0 0 0 none) m)
 gives_as drawn w slots id m one holds legal value =
-    keeps_known drawn w slots id m (λ _. 0) (λ _. given (step slots 0 0 0 none) m 0) (λ _. keeping.gives_as w slots id m one holds legal value) (λ n m' told. ap (λ (x : Me (Option History) View). x.0.numbers_drawn) told)
+    keeps_known drawn w slots id m (λ _. 0) (given (step slots 0 0 0 none) m) (λ _. keeping.gives_as w slots id m one holds legal value) (λ n m' told. ap (λ (x : Me (Option History) View). x.0.numbers_drawn) told)
 
 pub gives_undrawn : (drawn : Bool) (w : Whole) (slots id : ℕ) (m : Me (Option History) View) → slots ≡ 1 → m.0.holds ≡ true → IsLegal m.0.whole m.0.left → m.1 ≡ (0, Some (history m.0.whole m.0.left m.0.left_next m.0.left_rounds)) ∷ rest m.1
-    → Allows (KeepsTo drawn w) slots id m 0 (λ _. 0) (λ _. given_undrawn (step slots 0 0 0 none) m 0)
+    → Allows (KeepsTo drawn w) slots id m 0 (λ _. 0) (given_undrawn (step slots 0 0 0 none) m)
 gives_undrawn drawn w slots id m one holds legal value =
-    keeps_known drawn w slots id m (λ _. 0) (λ _. given_undrawn (step slots 0 0 0 none) m 0) (λ _. keeping.gives_undrawn w slots id m one holds legal value) (λ n m' told. ap (λ (x : Me (Option History) View). x.0.numbers_drawn) told)
+    keeps_known drawn w slots id m (λ _. 0) (given_undrawn (step slots 0 0 0 none) m) (λ _. keeping.gives_undrawn w slots id m one holds legal value) (λ n m' told. ap (λ (x : Me (Option History) View). x.0.numbers_drawn) told)
 
 -- so does the seat that is made
 pub splits_it : (drawn : Bool) (w : Whole) (id : ℕ) (v : View) → v.holds ≡ true → v.next < v.left_next → (v.left ≡ v.found) × (v.left_rounds ≡ v.found_rounds) → Splits (KeepsTo drawn w) id v (parent v) (child v)

@@ -1,7 +1,7 @@
 //! Which ports others were found to have lately.
 
-ghost use Rattle.std.specs.Prelude.{◌≡◌, ◌-◌, ◌↔◌, IsTrue, IfOk, None, Some, replicate};
-ghost use Rattle.rtsp_sockets.specs.Taken.{IsTaken, PutsAt};
+ghost use Rattle.std.specs.Prelude.{◌≡◌, ℕ, ◌-◌, ◌↔◌, IsTrue, IfOk, None, Some, replicate};
+ghost use Rattle.rtsp_sockets.specs.Taken.{IsTaken, PutsAt, IsOfRange};
 
 use std::alloc::{AllocError, Global};
 
@@ -58,10 +58,11 @@ impl TakenPorts {
         }
     }
 
-    // All ports are tried again.
-    pub(crate) fn forget(&mut self) {
-        for host in self.hosts.iter_mut() {
-            *host = None;
-        }
+    // All ports are tried again, and what is found of them is noted as before.
+    pub(crate) fn forget(&mut self)
+        ensures none { (host : ℕ) → (port : ℕ) → ¬ IsTaken self.new host port }
+        ensures range { IsOfRange self.old self.new }
+    {
+        self.hosts.fill(None);
     }
 }
