@@ -2,8 +2,9 @@
 import argparse
 import os
 import pathlib
+import signal
 import sys
-from typing import Dict, NoReturn
+from typing import Any, Dict, NoReturn
 
 # The tools by their place in the git tree, and the name of each in a package.
 INSTALLED = {
@@ -16,6 +17,8 @@ INSTALLED = {
     "examples/import": "rtspd-import",
 }
 BAD_COMMAND_LINE = 2
+# What asks for the end: ^C, whoever started it, and a terminal that is closed.
+STOPS = (signal.SIGINT, signal.SIGTERM, signal.SIGHUP)
 
 
 def own_name() -> str:
@@ -40,6 +43,19 @@ def program_beside(top: pathlib.Path) -> str:
     return str(in_tree if in_tree.is_file() else top.parent.parent / "bin/rtspd")
 
 
+def at_a_stop(handler: Any) -> None:
+    """What is done at a stop; one that is ignored, as under nohup, stays so."""
+    for number in STOPS:
+        if signal.getsignal(number) != signal.SIG_IGN:
+            signal.signal(number, handler)
+
+
+def stopped(_number: int, _frame: object) -> NoReturn:
+    """Each stop ends it as ^C does, by what it has to clean up, and no other one comes between."""
+    at_a_stop(signal.SIG_IGN)
+    raise KeyboardInterrupt
+
+
 def path_word(text: str) -> str:
     """A path among the words, which an empty one is not."""
     if not text:
@@ -61,7 +77,12 @@ class Words(argparse.ArgumentParser):
         for word in words:
             if word.startswith("--") and words.count(word) > 1:
                 self.error(f"{word} is given twice")
-        return self.parse_args(words)
+        return self.parse_args([self.as_path(word) for word in words])
+
+    def as_path(self, word: str) -> str:
+        """A file or folder whose name begins with a dash is no option."""
+        is_option = word.partition("=")[0] in self._option_string_actions
+        return f"./{word}" if word[:1] == "-" and word != "-" and not is_option and os.path.lexists(word) else word
 
     def error(self, message: str) -> NoReturn:
         print(f"{own_name()}: bad command line: {message}; {self.prog} --help says how", file=sys.stderr)

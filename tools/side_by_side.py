@@ -17,7 +17,7 @@ import subprocess
 import tempfile
 import threading
 import time
-from typing import Callable, Deque, Dict, Iterable, List, Set
+from typing import Callable, Deque, Dict, Iterable, List, Optional, Set
 
 TOP = pathlib.Path(__file__).resolve().parent.parent
 # What rt reads of a crate.
@@ -67,13 +67,13 @@ def cost(name: str) -> int:
     return READING + sum(it.stat().st_size for it in crate_of(TOP, name).glob("src/**/*.rt"))
 
 
-def chains(uses: Uses) -> Dict[str, int]:
+def chains_of(uses: Uses, costs: Dict[str, float]) -> Dict[str, float]:
     """What the longest chain of crates from each crate upwards costs, itself included."""
-    found: Dict[str, int] = {}
+    found: Dict[str, float] = {}
 
-    def chain(name: str) -> int:
+    def chain(name: str) -> float:
         if name not in found:
-            found[name] = cost(name) + max((chain(it) for it in uses if name in uses[it]), default=0)
+            found[name] = costs[name] + max((chain(it) for it in uses if name in uses[it]), default=0)
         return found[name]
 
     for name in uses:
@@ -113,8 +113,8 @@ class Run:
     def __init__(self, name: str, folder: pathlib.Path, words: List[str], lines: "queue.Queue") -> None:
         self.name, self.folder = name, folder
         self.tail: Deque[str] = collections.deque(maxlen=40)
-        # How many functions rt says that the crate has.
-        self.count = 0
+        # How many functions rt says that the crate has, and how many were checked when it was last looked.
+        self.count = self.done = 0
         self.began = time.time()
         self.process = subprocess.Popen(
             ["rt", *words],
@@ -136,7 +136,7 @@ class Run:
 
     def begin(self, name: str, folder: pathlib.Path) -> None:
         """The command has come to another crate."""
-        self.name, self.folder, self.count = name, folder, 0
+        self.name, self.folder, self.count, self.done, self.began = name, folder, 0, 0, time.time()
 
     def note(self, line: str) -> None:
         so_far = SO_FAR.match(line)
@@ -145,9 +145,22 @@ class Run:
         if not PLAIN.match(line):
             self.tail.append(line)
 
+    def look(self) -> None:
+        self.done = functions_kept(self.folder, self.name, self.began)
+
+    @property
+    def left(self) -> Optional[float]:
+        """Which part of its crate is left, where that is known."""
+        return 1 - min(self.done, self.count) / self.count if self.count else None
+
+    @property
+    def seconds(self) -> float:
+        """How long it has been at its crate."""
+        return time.time() - self.began
+
     def progress(self) -> str:
-        done = functions_kept(self.folder, self.name, self.began)
-        return f"{self.name} {min(done, self.count)} of {self.count} functions" if self.count else f"{self.name} {done} functions"
+        counted = f"{min(self.done, self.count)} of {self.count}" if self.count else f"{self.done}"
+        return f"{self.name} {counted} functions"
 
 
 def stop(runs: Iterable[Run]) -> None:
@@ -177,6 +190,11 @@ def link_what_was_proved(old: str, new: str) -> None:
 
 def crate_of(tree: pathlib.Path, name: str) -> pathlib.Path:
     return tree / "crates" / name
+
+
+def is_kept(name: str) -> bool:
+    """Whether a crate was built before, so that it only is gone over."""
+    return (crate_of(TOP, name) / "out/rlib/stamp").exists()
 
 
 def link_kept(name: str, part: str, tree: pathlib.Path, how: Callable[[str, str], None]) -> None:
@@ -232,7 +250,7 @@ class Libraries:
     """The crates below the program, and how far their proofs are."""
 
     def __init__(self, uses: Uses, program: str) -> None:
-        self.uses, self.chains = uses, chains(uses)
+        self.uses, self.chains = uses, chains_of(uses, {it: cost(it) for it in uses})
         self.left = {it for it in uses if it != program}
         self.proved: Set[str] = set()
         self.free: List[Tree] = []
@@ -241,7 +259,7 @@ class Libraries:
 
     def are_many(self) -> bool:
         """Whether more than one of them was never built."""
-        return sum(not (crate_of(TOP, it) / "out/rlib/stamp").exists() for it in self.left) > 1
+        return sum(not is_kept(it) for it in self.left) > 1
 
     def start_some(self, folder: str, at_once: int, lines: "queue.Queue") -> None:
         """Starts those that rest on proved crates alone, as long as there are jobs for them."""

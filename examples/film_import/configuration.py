@@ -1,17 +1,21 @@
 """The configuration that presentations are added to."""
+import contextlib
 import json
 import os
 import pathlib
 import re
+import signal
 import subprocess
 import sys
 import tempfile
 import tomllib
-from typing import Any, Dict, List, NamedTuple
+from typing import Any, Dict, Iterator, List, NamedTuple
 
-from command import called, is_installed
+from command import STOPS, called, is_installed
 
 EXPLAIN = pathlib.Path(__file__).resolve().parent.parent.parent / "explain-configuration"
+# What explain-configuration ends with where the program takes a configuration, whether or not its files are there.
+TAKEN = (0, 3)
 NAME = re.compile(r"[a-z0-9_-]{1,64}")
 MOST_PRESENTATIONS = 256
 # IP, UDP and RTP, as the server counts them into a stream's rate.
@@ -31,6 +35,16 @@ players = "gstreamer"
 def new_configuration() -> str:
     keys = "rtspd.toml(5)" if is_installed() else "docs/REFERENCE.md"
     return f"# Made by {called('examples/import')}. {keys} says what the keys mean.\n{NEW_CONFIGURATION}"
+
+
+@contextlib.contextmanager
+def unstopped() -> Iterator[None]:
+    """Holds a stop back, which would leave the one of two files without the other."""
+    before = signal.pthread_sigmask(signal.SIG_BLOCK, STOPS)
+    try:
+        yield
+    finally:
+        signal.pthread_sigmask(signal.SIG_SETMASK, before)
 
 
 class Refused(Exception):
@@ -88,7 +102,7 @@ class Configuration:
     def check(self, path: pathlib.Path) -> None:
         """The program has to take it."""
         done = subprocess.run([sys.executable, EXPLAIN, path], capture_output=True, text=True)
-        if done.returncode:
+        if done.returncode not in TAKEN:
             faults = [line for line in (done.stdout or done.stderr).splitlines() if not line.startswith("note: ")]
             raise Refused(f"the program refuses {faults[0] if faults else path}")
 
@@ -117,15 +131,21 @@ class Configuration:
     def add(self, made: Made, file: str, unfinished_media: pathlib.Path) -> None:
         """Adds a presentation at the end, and gives its media the name; both files are whole at all times."""
         text = self.text + ("" if self.text.endswith("\n") else "\n") + made.table(self.file_named(file))
-        with tempfile.NamedTemporaryFile("w", dir=self.path.parent, suffix=".toml", delete=False) as out:
-            out.write(text)
-        unfinished = pathlib.Path(out.name)
+        number, name = tempfile.mkstemp(dir=self.path.parent, prefix=".", suffix=".toml")
+        unfinished = pathlib.Path(name)
         try:
+            with os.fdopen(number, "w") as out:
+                out.write(text)
             document = tomllib.loads(text)
             self.check(unfinished)
             os.chmod(unfinished, 0o644 if self.is_new else self.path.stat().st_mode & 0o777)
-            os.replace(unfinished_media, self.folder / file)
-            os.replace(unfinished, self.path)
+            with unstopped():
+                os.replace(unfinished_media, self.folder / file)
+                try:
+                    os.replace(unfinished, self.path)
+                except OSError:
+                    (self.folder / file).unlink()
+                    raise
         finally:
             unfinished.unlink(missing_ok=True)
         self.text, self.document, self.is_new = text, document, False

@@ -1,5 +1,6 @@
 """A connection to a server of RTSP 2.0: requests go out, and answers, frames and the server's requests come in."""
 import collections
+import re
 import select
 import socket
 import struct
@@ -28,15 +29,23 @@ class Refused(Exception):
     """Why it doesn't go on, in one line."""
 
 
+def without_user(uri: str) -> str:
+    """A URI without the user and the password that it may have: a server writes into its log what it is asked for."""
+    return re.sub(r"^(\w+://)[^/?#]*@", r"\1", uri)
+
+
 def address_of(uri: str) -> Tuple[str, int]:
     """The host and the port of an `rtsp` URI."""
+    shown = without_user(uri)
     try:
         parts = urlsplit(uri)
         host, port = parts.hostname, parts.port or DEFAULT_PORT
     except ValueError as why:
-        raise Refused(f"{uri!r} is no URI: {why}") from None
+        raise Refused(f"{shown!r} is no URI: {why}") from None
     if parts.scheme != "rtsp" or not host:
-        raise Refused(f"{uri!r} is no URI of the form rtsp://HOST:PORT/NAME")
+        raise Refused(f"{shown!r} is no URI of the form rtsp://HOST:PORT/NAME")
+    if ":" in host:
+        raise Refused(f"{host} is an address of IPv6, and this player has IPv4 alone")
     return host, port
 
 

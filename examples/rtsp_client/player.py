@@ -4,7 +4,7 @@ import re
 import time
 from typing import Callable, List, NamedTuple, Optional, Tuple, Union
 
-from .connection import Connection, LentPair, Refused, UdpPair, UdpPort, address_of
+from .connection import Connection, LentPair, Refused, UdpPair, UdpPort, address_of, without_user
 from .messages import Message
 from .rtp import Reception
 
@@ -28,6 +28,7 @@ class Track(NamedTuple):
     payload_type: int
     encoding: str
     clock: int
+    channels: int = 1
 
 
 def read_description(text: str, base: str) -> List[Track]:
@@ -38,10 +39,11 @@ def read_description(text: str, base: str) -> List[Track]:
         control = re.search(r"(?m)^a=control:(\S+)", part)
         if not media or not control:
             continue
-        mapped = re.search(rf"(?m)^a=rtpmap:{media[2]} ([^/\s]+)/(\d+)", part)
+        mapped = re.search(rf"(?m)^a=rtpmap:{media[2]} ([^/\s]+)/(\d+)(?:/(\d+))?", part)
         encoding, clock = (mapped[1], int(mapped[2])) if mapped else ("unknown", TELEPHONE_CLOCK)
+        channels = max(int(mapped[3] or 1), 1) if mapped else 1
         uri = control[1] if "://" in control[1] else base + control[1]
-        tracks.append(Track(uri, media[1], int(media[2]), encoding, clock))
+        tracks.append(Track(uri, media[1], int(media[2]), encoding, clock, channels))
     return tracks
 
 
@@ -79,7 +81,7 @@ class Player:
     """One session on one connection."""
 
     def __init__(self, uri: str, way: Way, receive_buffer: Optional[int] = None) -> None:
-        self.uri = uri
+        self.uri = without_user(uri)
         self.way = way
         self.connection = Connection(*address_of(uri), receive_buffer)
         self.streams: List[Stream] = []

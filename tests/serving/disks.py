@@ -11,8 +11,9 @@ from checks import Failed
 # Of each kind calls are counted, and those from the first to the last are made late by milliseconds, and then refused
 # with an error's number. Where there is a number of bytes the first of them takes so many at most, and without an error
 # the others too. The milliseconds of the time of day are added to it.
-# A read is one of the media slow.raw, of what wasn't read before: the system keeps what was, and 128 KiB about it.
-KINDS = "write", "create", "sync", "time of day", "read"
+# A read is one of the media slow.raw, of what wasn't read before: the system keeps what was, and 128 KiB about it. Of the
+# media forgotten.raw it keeps nothing.
+KINDS = "write", "create", "sync", "time of day", "read", "read of what is forgotten"
 PLAN = struct.Struct("@5Lq")
 FOR_EVER = (1 << 63) - 1
 
@@ -29,7 +30,7 @@ LIBRARY = r"""
 #include <time.h>
 #include <unistd.h>
 
-enum { WRITE, CREATE, SYNC, TIME_OF_DAY, READ, KINDS };
+enum { WRITE, CREATE, SYNC, TIME_OF_DAY, READ, FORGOTTEN, KINDS };
 
 struct plan { unsigned long asked, first, last, error, most; long milliseconds; };
 
@@ -46,10 +47,14 @@ __attribute__((constructor)) static void begin(void) {
 
 static int is_journal(const char *path) { return strstr(path, "/journal-") && strstr(path, ".txt"); }
 
-static int is_slow(const char *path) {
+static int is_named(const char *path, const char *wanted) {
     const char *name = strrchr(path, '/');
-    return name && !strcmp(name + 1, "slow.raw");
+    return name && !strcmp(name + 1, wanted);
 }
+
+static int is_slow(const char *path) { return is_named(path, "slow.raw"); }
+
+static int is_forgotten(const char *path) { return is_named(path, "forgotten.raw"); }
 
 /* Whether the path of what is open is one of these. */
 static int is_one(int fd, int (*is_meant)(const char *path)) {
@@ -93,8 +98,9 @@ static int is_new(size_t size, off64_t at) {
 }
 
 ssize_t pread64(int fd, void *to, size_t size, off64_t at) {
-    int is_held = is_one(fd, is_slow) && is_new(size, at);
-    return is_held && is_refused(READ, &size) ? -1 : syscall(SYS_pread64, fd, to, size, at);
+    int is_held = is_one(fd, is_slow) && is_new(size, at) && is_refused(READ, &size);
+    is_held |= is_one(fd, is_forgotten) && is_refused(FORGOTTEN, &size);
+    return is_held ? -1 : syscall(SYS_pread64, fd, to, size, at);
 }
 
 ssize_t pread(int fd, void *to, size_t size, off_t at) { return pread64(fd, to, size, at); }

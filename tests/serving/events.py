@@ -9,7 +9,7 @@ import signal
 import socket
 import subprocess
 import time
-from typing import Callable, Iterator, List
+from typing import Callable, Dict, Iterator, List
 
 from checks import Checks
 from rtsp_client.connection import Refused
@@ -22,7 +22,7 @@ from .runner import serving_test
 from .server import HERE, Presentation, Server, Track, lease, leases
 from .shares import ONE, ONE_TRACK, Talk
 
-SOON = 5.0
+SOON = 15.0
 # A second has so many lines of events at most, but for those of its start and stop.
 A_SECOND = 50
 # The least files that aren't held in memory, by which a pacer reads each unit anew.
@@ -104,9 +104,13 @@ def start_and_stop_are_told(checks: Checks) -> None:
 
 
 def session_numbers(server: Server, ids: List[str]) -> List[int]:
-    """The numbers of sessions, as the journal's files name them."""
-    text = "".join(it.read_text() for it in sorted(server.path.glob("journals/journal-*.txt")))
-    found = {it[2]: int(it[1]) for it in re.finditer(r"(?m)^\d+ open (\d+) ([0-9a-f]{32}) ", text)}
+    """The numbers of sessions, as the journal's files name them, once they are there."""
+    found: Dict[str, int] = {}
+    until = time.monotonic() + SOON
+    while not set(ids) <= set(found) and time.monotonic() < until:
+        time.sleep(0.05)
+        text = "".join(it.read_text() for it in sorted(server.path.glob("journals/journal-*.txt")))
+        found = {it[2]: int(it[1]) for it in re.finditer(r"(?m)^\d+ open (\d+) ([0-9a-f]{32}) ", text)}
     return [found[it] for it in ids]
 
 
@@ -120,10 +124,9 @@ def a_session_that_expires_is_told(checks: Checks) -> None:
         left = [it.session for it in leases(talk, f"{server.uri}/a", 2)]
         ended = lease(talk, f"{server.uri}/a")
         talk.ask("TEARDOWN", server.uri, [("Session", ended.session)])
-        is_told(checks, server, "the sessions expire", rb"info session \d+ expired", 12.0)
+        is_told(checks, server, "the sessions expire", rb"info session \d+ expired", 20.0)
         time.sleep(1.5)
         last = lease(talk, f"{server.uri}/a")
-        time.sleep(0.3)
         numbers = session_numbers(server, [*left, last.session])
         stops(checks, server)
         talk.close()

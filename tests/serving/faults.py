@@ -1,4 +1,5 @@
-"""A server whose memory and system calls are refused, by number, while it runs: a library before the C library does it."""
+"""A server whose memory and system calls are refused or held up, by number, while it runs: a library before the C library
+does it."""
 import mmap
 import pathlib
 import struct
@@ -7,9 +8,10 @@ from typing import Dict
 
 from checks import Failed
 
-# Of each kind calls are counted, and those from the first to the last are refused with an error's number.
+# Of each kind calls are counted, and those from the first to the last are refused with an error's number, or, where there
+# are milliseconds, held up for so long.
 KINDS = "memory", "receive", "send", "datagram", "bind", "words", "accept", "thread", "clock"
-PLAN = struct.Struct("@4L")
+PLAN = struct.Struct("@5L")
 FOR_EVER = (1 << 63) - 1
 
 LIBRARY = r"""
@@ -31,7 +33,7 @@ enum { MEMORY, RECEIVE, SEND, DATAGRAM, BIND, WORDS, ACCEPT, THREAD, CLOCK, KIND
 /* As many random bytes are read at once. */
 enum { POOL = 32 };
 
-struct plan { unsigned long asked, first, last, error; };
+struct plan { unsigned long asked, first, last, error, milliseconds; };
 
 static struct plan none[KINDS], *plans = none;
 static unsigned long low, high;
@@ -64,6 +66,12 @@ static int is_refused(int kind) {
     unsigned long number = __atomic_add_fetch(&plans[kind].asked, 1, __ATOMIC_SEQ_CST);
     if (number < plans[kind].first || number > plans[kind].last)
         return 0;
+    unsigned long milliseconds = plans[kind].milliseconds;
+    if (milliseconds) {
+        struct timespec time = {milliseconds / 1000, milliseconds % 1000 * 1000000};
+        syscall(SYS_nanosleep, &time, 0);
+        return 0;
+    }
     errno = plans[kind].error;
     return 1;
 }
@@ -136,9 +144,16 @@ class Faults:
 
     def refuse(self, kind: str, first: int, last: int = FOR_EVER, error: int = 0) -> None:
         """From now on counts the calls of a kind anew, and refuses those from the first to the last."""
+        self._plan(kind, first, last, error, 0)
+
+    def hold(self, kind: str, milliseconds: int, first: int = 1, last: int = 1) -> None:
+        """From now on counts the calls of a kind anew; those from the first to the last stand for so long, and go on."""
+        self._plan(kind, first, last, 0, milliseconds)
+
+    def _plan(self, kind: str, first: int, last: int, error: int, milliseconds: int) -> None:
         at = KINDS.index(kind) * PLAN.size
-        self.plans[at : at + PLAN.size] = PLAN.pack(0, 0, 0, error)
-        self.plans[at : at + PLAN.size] = PLAN.pack(0, first, last, error)
+        self.plans[at : at + PLAN.size] = PLAN.pack(0, 0, 0, error, milliseconds)
+        self.plans[at : at + PLAN.size] = PLAN.pack(0, first, last, error, milliseconds)
 
     def stop(self) -> None:
         """Refuses nothing more."""

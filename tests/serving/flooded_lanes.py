@@ -1,5 +1,6 @@
 """Connections that ask without end, hundreds on each lane: what others wait for beside them, and that the server ends in
 time whatever they ask."""
+import concurrent.futures
 import contextlib
 import itertools
 import multiprocessing
@@ -7,12 +8,13 @@ import select
 import signal
 import socket
 import time
-from typing import Dict, Iterator, List
+from typing import Dict, Iterator, List, Tuple
 
 from checks import Checks
 from rtsp_client.messages import written
 
 from .clean_stops import ends_cleanly
+from .floods import at_99
 from .runner import serving_test
 from .server import HERE, Presentation, Server
 
@@ -115,10 +117,10 @@ def flooded(server: Server, addresses: List[str], asked: bytes) -> Iterator[None
             it.join()
 
 
-def asked_once(talk: socket.socket) -> float:
-    """After how many milliseconds an OPTIONS is answered."""
+def asked_once(talk: socket.socket, asked: bytes = OPTIONS) -> float:
+    """After how many milliseconds a request is answered."""
     began = time.monotonic()
-    talk.sendall(OPTIONS)
+    talk.sendall(asked)
     answer = b""
     while ENDED not in answer:
         piece = talk.recv(4096)
@@ -134,10 +136,6 @@ def asked_anew(server: Server) -> float:
     with server.socket() as talk:
         asked_once(talk)
     return 1000 * (time.monotonic() - began)
-
-
-def at_99(waits: List[float]) -> float:
-    return sorted(waits)[len(waits) * 99 // 100]
 
 
 @serving_test(limit=60, is_alone=True)
@@ -169,8 +167,8 @@ def stops_beside_a_flooded_lane(checks: Checks) -> None:
 
 
 def spent_share(checks: Checks) -> Server:
-    """A server that looks at many sessions before it refuses one more."""
-    return Server(checks, ONE_TRACK, holds_signals=True, workers=1, sessions=2000, sessions_per_address=200, uplink=10**10)
+    """A server of one lane, with room for more sessions than the share of an address."""
+    return Server(checks, ONE_TRACK, holds_signals=True, workers=1, sessions=4000, sessions_per_address=2000, uplink=10**10)
 
 
 @serving_test(limit=60, is_timed=True)
@@ -219,3 +217,49 @@ def a_player_that_sips(checks: Checks) -> None:
                 talk.recv(SIP)
         seconds = time.monotonic() - began
         checks.that("it is gone after half a minute to a minute", GONE_AFTER <= seconds <= GONE_BEFORE, seconds)
+
+
+ANSWERED = b"RTSP/2.0 200 OK\r\n"
+# Requests whose answers wait all at once, and what one reads in a second that takes a little more than it has to.
+DRAINED, STEADY = 450, 2_000
+
+
+def asks_and_ends(server: Server, receive_buffer: int) -> socket.socket:
+    """Asks, says that it asks no more, and has read nothing yet: its connection is read no more, and ends once all is
+    written."""
+    talk = socket.socket()
+    talk.setsockopt(socket.SOL_SOCKET, socket.SO_RCVBUF, receive_buffer)
+    talk.connect((server.host, server.port))
+    talk.sendall(written(f"DESCRIBE {server.uri} RTSP/2.0", [("CSeq", "1")]) * DRAINED)
+    talk.shutdown(socket.SHUT_WR)
+    return talk
+
+
+def answers_that_come(talk: socket.socket, piece: int, each: float) -> int:
+    """Reads a piece each so many seconds to the end: how many answers came."""
+    came = b""
+    with contextlib.suppress(OSError), talk:
+        while more := talk.recv(piece):
+            came += more
+            time.sleep(each)
+    return came.count(ANSWERED)
+
+
+@serving_test(limit=150, is_timed=True, is_long=True)
+def what_drains_has_a_deadline(checks: Checks) -> None:
+    """Of what waits for a player that asks no more it has to take 1,000 bytes a second, too: one that does gets all."""
+    with Server(checks) as server:
+        server.descriptors_at_rest()
+        steadily, sipping = asks_and_ends(server, 4 * SIP), asks_and_ends(server, SIP)
+        began = time.monotonic()
+        time.sleep(0.5)
+        both = server.descriptors()
+        with concurrent.futures.ThreadPoolExecutor() as readers:
+            steady = readers.submit(answers_that_come, steadily, STEADY, 1.0)
+            sips = readers.submit(answers_that_come, sipping, SIP, EACH_SECONDS)
+            server.descriptors_fall_to(both - 1, GONE_BEFORE + 10)
+            seconds = time.monotonic() - began
+            checks.that("one that sips is gone after half a minute to a minute", GONE_AFTER <= seconds <= GONE_BEFORE, seconds)
+            checks.that("the other one is not", server.descriptors() == both - 1, server.descriptors())
+        checks.same(f"answers that one gets who takes {STEADY} bytes a second", DRAINED, steady.result())
+        checks.that("one that sips doesn't get all", sips.result() < DRAINED, sips.result())

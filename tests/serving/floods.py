@@ -2,7 +2,7 @@
 import contextlib
 import multiprocessing
 import time
-from typing import Callable, Iterator
+from typing import Callable, Iterator, List
 
 from .server import Server
 
@@ -21,6 +21,11 @@ def flooded(server: Server, count: int, address: str, asks: Callable[[int, str, 
         for process in running:
             process.kill()
             process.join()
+
+
+def at_99(waits: List[float]) -> float:
+    """What 99 of 100 waits aren't longer than."""
+    return sorted(waits)[len(waits) * 99 // 100]
 
 
 def seconds_to(what: Callable[[], object]) -> float:

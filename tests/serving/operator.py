@@ -4,7 +4,7 @@ import re
 import signal
 import socket
 import time
-from typing import Dict, List, Tuple
+from typing import Dict, List, Set, Tuple
 
 import open_metrics
 import status_page
@@ -167,7 +167,15 @@ def figures_at_rest(port: int) -> Tuple[Dict[str, float], Dict[str, status_page.
             return before, page
 
 
-@serving_test(limit=40)
+def figures_once_counted(port: int, names: Set[str]) -> Tuple[Dict[str, float], Dict[str, status_page.Rows]]:
+    """The figures and the page of one moment, once these figures have counted something, or after half a minute."""
+    until = time.monotonic() + 30.0
+    while not all(figures(port)[it] for it in names) and time.monotonic() < until:
+        time.sleep(0.1)
+    return figures_at_rest(port)
+
+
+@serving_test(limit=60)
 def the_page_shows_the_figures(checks: Checks) -> None:
     """Each number of the page is one of /metrics, and the page leaves none of them out."""
     port, address = shown_at()
@@ -182,8 +190,8 @@ def the_page_shows_the_figures(checks: Checks) -> None:
         talk = server.connect()
         for method, path, headers in ASKED:
             talk.ask(method, f"{server.uri}{path}", [*headers])
-        time.sleep(7.5)
-        found, page = figures_at_rest(port)
+        ends = {"rtspd_sessions_expired_total", "rtspd_journal_shortenings_total"}
+        found, page = figures_once_counted(port, ends)
         checks.same("after a play", shown_by(found), page)
         counted = [it for it in found if "_total" in it or it.endswith("_count")]
         is_moved = {it for it in counted if found[it]}
@@ -197,8 +205,7 @@ def the_page_shows_the_figures(checks: Checks) -> None:
             "rtspd_refusals_total,reason=session",
             "rtspd_refusals_total,reason=transport",
             "rtspd_refusals_total,reason=unavailable",
-            "rtspd_sessions_expired_total",
-            "rtspd_journal_shortenings_total",
+            *ends,
         }
         checks.same("what was to be counted, and wasn't", set(), wanted - is_moved)
         shown = {name for rows in page.values() for name in rows}

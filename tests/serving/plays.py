@@ -361,7 +361,8 @@ LONG = Presentation("long", units=200_000, tracks=(Track("a", octets=1400),))
 
 @serving_test(limit=30, is_timed=True)
 def a_file_that_is_cut_short(checks: Checks) -> None:
-    """A file too large to be held in memory is cut while it plays: its packets stop, the server goes on."""
+    """A file too large to be held in memory is cut while it plays: behind what was read ahead its packets stop, the server
+    goes on."""
     server = Server(checks, LONG)
     server.may_tell = b"can't be read"
     track = LONG.tracks[0]
@@ -379,7 +380,8 @@ def a_file_that_is_cut_short(checks: Checks) -> None:
         before = len(came)
         checks.that("it plays", before >= 40, before)
         os.truncate(server.path / "a.raw", 0)
-        player.connection.wait(0.3)
+        # What was read ahead is less than a second.
+        player.connection.wait(1.1)
         stopped_at = len(came)
         player.connection.wait(0.7)
         checks.same("without its file nothing is sent", stopped_at, len(came))

@@ -16,12 +16,14 @@ from checks import Checks, Failed, run
 
 from .witness import wait_for_calm
 
-# So many tests at once: more would disturb those that wait for seconds to pass.
+# So many tests at once, and three for two cores: more would disturb those that wait for seconds to pass.
 SIDE_BY_SIDE = 6
 # A test that measures time is tried so often before it fails, since the machine has other work.
 TRIES = 5
 # One that holds milliseconds is tried more often, since a host may be busy for minutes.
 ALONE_TRIES = 10
+# Any other that failed beside others is tried so often again, alone: each test has seconds in which something has to come.
+AGAIN_TRIES = 2
 # Before each try one that holds milliseconds waits so many seconds at most until the machine is calm.
 CALM_WITHIN = 60.0
 
@@ -113,36 +115,49 @@ def work(script: pathlib.Path, waiting: "queue.Queue[Test]", outcomes: "queue.Qu
         outcomes.put(tried(script, test))
 
 
-def tell(checks: Checks, outcome: Outcome) -> None:
+def say_how(how: str, outcome: Outcome) -> None:
+    """One line of a test, and what each try of it said where one failed."""
     tries = f", at try {outcome.tries}" if outcome.tries > 1 else ""
-    how = "passed" if outcome.has_passed else "FAILED"
     print(f"{how} after {outcome.seconds:4.1f} s{tries}: {outcome.test.name}", flush=True)
-    if not checks.that(outcome.test.name, outcome.has_passed) or outcome.tries > 1:
+    if not outcome.has_passed or outcome.tries > 1:
         print("".join(f"  {line}\n" for line in outcome.said.splitlines()), end="", flush=True)
+
+
+def tell(checks: Checks, outcome: Outcome) -> None:
+    """How a test ended, which counts."""
+    say_how("passed" if checks.that(outcome.test.name, outcome.has_passed) else "FAILED", outcome)
     # Each try says it.
     for what in dict.fromkeys(re.findall(r"(?m)^skipped: (.*)$", outcome.said)):
         print(f"skipped: {outcome.test.name}: {what}", flush=True)
 
 
-def run_beside(script: pathlib.Path, checks: Checks, chosen: List[Test], side_by_side: int) -> None:
-    """Runs tests, the longest first, so many at once."""
+def run_beside(script: pathlib.Path, checks: Checks, chosen: List[Test], side_by_side: int) -> List[Test]:
+    """Runs tests, the longest first, so many at once; which are to be tried again, since they failed beside others."""
     waiting: "queue.Queue[Test]" = queue.Queue()
     outcomes: "queue.Queue[Outcome]" = queue.Queue()
     for test in sorted(chosen, key=lambda it: -it.limit):
         waiting.put(test)
     for _ in range(side_by_side):
         threading.Thread(target=work, args=(script, waiting, outcomes), daemon=True).start()
+    again: List[Test] = []
     for _ in chosen:
-        tell(checks, outcomes.get())
+        outcome = outcomes.get()
+        if outcome.has_passed or side_by_side == 1:
+            tell(checks, outcome)
+        else:
+            say_how("failed beside others, and is tried again,", outcome)
+            again.append(outcome.test._replace(tries=AGAIN_TRIES, is_alone=True))
+    return again
 
 
 def run_all(script: pathlib.Path, checks: Checks) -> None:
     """Runs all tests but those by name, with RTSPD_FAST those that take no minute: last, one by one, those that hold
-    milliseconds."""
+    milliseconds, and those that failed beside others."""
     is_fast = bool(os.environ.get("RTSPD_FAST"))
     chosen = [test for test in TESTS.values() if not (test.is_by_name or test.is_long and is_fast)]
-    run_beside(script, checks, [test for test in chosen if not test.is_alone], SIDE_BY_SIDE)
-    run_beside(script, checks, [test for test in chosen if test.is_alone], 1)
+    side_by_side = max(2, min(SIDE_BY_SIDE, 3 * len(os.sched_getaffinity(0)) // 2))
+    again = run_beside(script, checks, [test for test in chosen if not test.is_alone], side_by_side)
+    run_beside(script, checks, [test for test in chosen if test.is_alone] + again, 1)
 
 
 def run_one(test: Test) -> NoReturn:

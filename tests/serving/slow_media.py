@@ -32,9 +32,10 @@ LEFT_AT, LEFT_AFTER = 100.0, 0.4
 STOPPED_AT = 200.0
 # Of all streams no more than so many seconds may be under way.
 SOME = 0.1
-# A stop's time and a second are over before such a read comes back.
-LONG_HELD = 5.0
-STOP_WAITS = b"warning the stop waits for a read of a track's file"
+STOPS_WITHIN = 3.0
+# A stop is over long before such a read comes back.
+LONG_HELD = 30.0
+STOP_LEAVES = b"warning the stop leaves a read behind of the file of track 0 of presentation 1"
 FAILURES = "rtspd_media_failures_total"
 
 
@@ -54,19 +55,25 @@ def write_film(server: Server, film: Presentation, *begins: float) -> None:
             file.write(b"".join(map(track.unit, range(first, first + PLAYED_UNITS))))
 
 
-def on_a_slow_disk(checks: Checks) -> Tuple[Server, Disk, int]:
-    """A server of all films, the disk of the slow one, and where its figures are."""
+def server_of(checks: Checks, *films: Presentation) -> Tuple[Server, Disk, int]:
+    """A server of films, a disk that makes reads of some late, and where its figures are."""
     port, address = shown_at()
     pairs = STREAMS + 8
-    server = Server(checks, QUICK, holds_signals=True, pairs=pairs, uplink=pairs * QUICK.whole_rate, status=address)
-    for film in SLOW, CUT:
+    server = Server(checks, films[0], holds_signals=True, pairs=pairs, uplink=pairs * QUICK.whole_rate, status=address)
+    for film in films[1:]:
         _, head, tracks = configuration(film, 0).partition("[[presentation]]")
         server.text += head + tracks
+    disk = Disk(server.path)
+    server.environment = disk.environment
+    return server, disk, port
+
+
+def on_a_slow_disk(checks: Checks) -> Tuple[Server, Disk, int]:
+    """A server of all films, the disk of the slow one, and where its figures are."""
+    server, disk, port = server_of(checks, QUICK, SLOW, CUT)
     write_film(server, QUICK)
     write_film(server, SLOW, 0.0, LEFT_AT)
     write_film(server, CUT)
-    disk = Disk(server.path)
-    server.environment = disk.environment
     return server, disk, port
 
 
@@ -135,14 +142,14 @@ def a_slow_disk_holds_up_its_own_film(checks: Checks) -> None:
         slow, reads = player_of(server, SLOW), disk.asked("read")
         slow.play(STOPPED_AT)
         checks.that("a read is under way", until(lambda: disk.asked("read") > reads))
-        stops(checks, server, HELD + 3.0)
+        stops(checks, server)
         for player in cut, slow:
             player.close()
 
 
 @serving_test(limit=60)
-def a_stop_tells_that_media_is_waited_for(checks: Checks) -> None:
-    """Once, a second after its time, where a read of a film is under way that its disk holds up."""
+def a_stop_leaves_a_read_behind(checks: Checks) -> None:
+    """It ends in time, and tells of which film a read is under way that its disk holds up."""
     server, disk, _ = on_a_slow_disk(checks)
     with server:
         disk.meet("read", late=int(LONG_HELD * SECOND))
@@ -150,8 +157,11 @@ def a_stop_tells_that_media_is_waited_for(checks: Checks) -> None:
         slow.play(STOPPED_AT)
         checks.that("a read is under way", until(lambda: disk.asked("read") > 0))
         server.process.send_signal(signal.SIGTERM)
+        began = time.monotonic()
         checks.same("the status", 0, server.ends(LONG_HELD + 5.0))
+        took = time.monotonic() - began
+        checks.that(f"it ends within {STOPS_WITHIN} s", took <= STOPS_WITHIN, took)
         slow.close()
         told = [it.partition(b" ")[2] for it in server.process.stderr.read().splitlines()]
-        checks.same("the last lines", [STOP_WAITS, b"info stopped"], told[-2:])
-        checks.same("how often", 1, told.count(STOP_WAITS))
+        # What is played is read, and what comes behind it.
+        checks.same("the last lines", [STOP_LEAVES, STOP_LEAVES, b"info stopped"], told[-3:])

@@ -26,7 +26,7 @@ SLOW = Presentation("slow", units=600, unit_ms=100, tracks=(Track("a", octets=80
 # A session of one track that plays has 5 entries and is owed as many. No checkpoint pays up to 6,000 entries, so before
 # the write that is held up the journal is filled to less, since renewals make entries too, and then to more: it is crowded.
 JOURNAL, BEFORE, CROWDED = 10_000, 5_200, 6_600
-# A lane waits once for the thread that writes, 127 ms at most; each other answer comes at once.
+# A connection waits once for the thread that writes, 127 ms at most; each other answer comes at once.
 MOST_WAITS, AT_ONCE = 4, 60.0
 ROOM = 1 << 23
 # What is told of the write.

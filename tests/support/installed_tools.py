@@ -61,8 +61,9 @@ rtspd-import: bad command line: none.wav isn't there; rtspd-import --help says h
 status 2
 """
 IMPORTED = """\
-sound: 1.000 s of PCMU in media/sound.pcmu
-sound: 0.080 Mbit/s with the headers
+sound.wav as sound: 1.000 s of PCMU in media/sound.pcmu
+sound.wav as sound: 0.080 Mbit/s with the headers
+next: rtspd serve --config films.toml
 # Made by rtspd-import. rtspd.toml(5) says what the keys mean.
 the program takes it
 """

@@ -5,3 +5,4 @@ pub mod Listing
 pub mod Units
 pub mod Leaving
 pub mod Crediting
+pub mod Channeling

@@ -9,3 +9,5 @@ pub mod Refusals
 pub mod Reports
 pub mod Beginning
 pub mod Credits
+pub mod Channels
+pub mod Drops

@@ -4,14 +4,18 @@ ghost use Rattle.std.specs.Prelude.{◌≤◌};
 ghost use Rattle.rtsp_lock.specs.Calls.{IsSeatOf};
 
 use crate::bell::Bell;
+use crate::dropped::Dropped;
+use crate::told::ToldSessions;
 use rtsp_book::{Refusal, SessionView, Step};
 use rtsp_content::Table;
 use rtsp_lock::{AnyNumbers, BookLock, BookSeat, Name, Numbers};
+use rtsp_log::{Event, FrameLoss, Log};
 use rtsp_metrics::Counters;
 use rtsp_npt::UnitLength;
 use rtsp_record::Phase;
 use rtsp_rtp::Packet;
 use rtsp_sockets::{Decisions, Media, Outlets, PortTable, RunningClock};
+use std::alloc::Global;
 use std::rt::Clock;
 use std::sync::Wait;
 use std::time::{Duration, Instant};
@@ -32,6 +36,8 @@ pub struct PacerParts<'a, N: Numbers = AnyNumbers> {
     pub decisions: &'a Decisions,
     /// What is told of packets is counted there.
     pub counters: &'a Counters,
+    /// Frames that are dropped are told there.
+    pub log: &'a Log,
     /// When the server began. Its moments count from there.
     pub begun: Instant,
 }
@@ -65,6 +71,8 @@ pub(crate) struct PacerDesk<'a, R, N: Numbers> {
     turns_left: u32,
     // Whether that one is before the present, since a lane is deciding.
     is_held: bool,
+    // Of which sessions it was told that frames were dropped.
+    told: ToldSessions,
     seat: BookSeat,
     ghost ours: { IsSeatOf seat parts.lock.now },
 }
@@ -72,6 +80,7 @@ pub(crate) struct PacerDesk<'a, R, N: Numbers> {
 impl<'a, R, N: Numbers> PacerDesk<'a, R, N> {
     pub(crate) fn new(
         rt: &'a R,
+        alloc: Global,
         parts: PacerParts<'a, N>,
         clock: RunningClock<'a, R>,
         seat: BookSeat,
@@ -93,6 +102,7 @@ impl<'a, R, N: Numbers> PacerDesk<'a, R, N> {
             moment: 0,
             turns_left: 0,
             is_held: false,
+            told: ToldSessions::new(alloc),
             seat,
         }
     }
@@ -167,6 +177,20 @@ impl<R: Wait, N: Numbers> PacerDesk<'_, R, N> {
         credit.lock(self.rt).take(most, rate, moment)
     }
 
+    // Forgets of which sessions it was told that don't live any more, before more memory would be taken.
+    fn forget_told(&mut self) {
+        if !self.told.is_full() {
+            return;
+        }
+        for place in (0..self.told.len()).rev() {
+            if let Some(session) = self.told.at(place)
+                && self.phase(session).is_none()
+            {
+                self.told.forget(place);
+            }
+        }
+    }
+
     // The session of this number as it is now.
     pub(crate) fn look(&mut self, session: u64) -> Option<SessionView> {
         self.seat
@@ -193,6 +217,21 @@ impl<R: Wait, N: Numbers> PacerDesk<'_, R, N> {
         match self.seat.act(self.rt, self.parts.lock, &step) {
             Ok(_) => Ok(()),
             Err(refusal) => Err(refusal),
+        }
+    }
+}
+
+impl<R: Wait + Clock, N: Numbers> PacerDesk<'_, R, N> {
+    // Tells that frames of a session were dropped, once for each session.
+    pub(crate) fn tell_dropped(&mut self, session: u64, dropped: Dropped) {
+        self.forget_told();
+        if self.told.note(session) {
+            let loss = FrameLoss {
+                frames: dropped.frames,
+                cause: dropped.cause,
+            };
+            let event = Event::FramesDropped { session, loss };
+            self.parts.log.event(self.rt, event);
         }
     }
 }

@@ -3,14 +3,17 @@
 //! A lane notes each play that is begun, in `noted`, and hands it over to the pacer that has the
 //! session, by its `bell`. A pacer is a thread that runs `pace`: it sleeps until the next moment of
 //! its `wheel` at which one of its `plays` has something due, and takes the turn of each play there
-//! (`play`). The packets, and the RTCP that ends a play of GStreamer, go the `ways` of their streams.
+//! (`play`). The packets, and the RTCP that ends a play of GStreamer, go the `ways` of their streams, of
+//! which one may be a `channel` of a connection; of frames that are `dropped` there it is told.
 //! The other way round, `reports` is what a lane does with RTCP that a player sends.
 
 #![tactic(auto)]
 
 mod bell;
+mod channel;
 mod credit;
 mod desk;
+mod dropped;
 mod inbox;
 mod left_early;
 mod noted;
@@ -22,7 +25,9 @@ mod refusals;
 mod renewal;
 mod reports;
 mod sink;
+mod told;
 mod ways;
+mod went;
 mod wheel;
 mod when;
 

@@ -141,7 +141,7 @@ pub fn pace<'a, R: Wait + Clock, N: Numbers>(
 {
     let clock = RunningClock::new(rt, parts.begun);
     let bell = parts.bell;
-    let mut desk = PacerDesk::new(rt, parts, clock, seat);
+    let mut desk = PacerDesk::new(rt, alloc, parts, clock, seat);
     let wheel = Wheel::new(desk.now());
     let mut pacing = Pacing {
         alloc,
@@ -167,5 +167,11 @@ pub fn pace<'a, R: Wait + Clock, N: Numbers>(
         more = PLAYS_AT_ONCE;
         pacing.turn_due();
     }
-    pacing.desk.paced
+    let Pacing {
+        mut desk,
+        plays,
+        ..
+    } = pacing;
+    plays.tell_rest(&mut desk);
+    desk.paced
 }

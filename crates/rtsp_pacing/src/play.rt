@@ -1,16 +1,18 @@
 //! A play that a pacer sends.
 
 mod ending;
+mod leaving;
 
 ghost use Rattle.std.specs.Prelude.{◌≡◌, ◌<◌, ◌≤◌, ◌↔◌, IsTrue, IfSome, Some, unwrap_or, if◌then◌else◌};
 ghost use Rattle.rtsp_pacing.specs.Beginning.{Begins, IsApart};
 
 use crate::desk::PacerDesk;
+use crate::dropped::Dropped;
 use crate::noted::NewPlay;
 use crate::renewal::Renewal;
 use crate::sink::{PacketSink, failures_in};
 use crate::ways::{Ways, rate_of};
-use crate::when::{at_pace, is_given_up, look_again, measured, next_unit};
+use crate::when::{at_pace, is_given_up, look_again, measured, next_unit, waited_on};
 use rtsp_book::SessionView;
 use rtsp_content::Presentation;
 use rtsp_lock::Numbers;
@@ -19,13 +21,6 @@ use rtsp_rtp::{LastTurn, Pacer, Turn, sent_before};
 use std::alloc::Global;
 use std::rt::Clock;
 use std::sync::Wait;
-
-// Within how many milliseconds a pacer hears of a play, unless a thread is kept from running.
-const HEARD_WITHIN: u64 = 250;
-
-// For how many milliseconds a play waits to hear of the next where its session's phase tells that there
-// was one: that one is on its way, however long its lane is kept from running.
-const AWAITED_FOR: u64 = 10_000;
 
 // How far a play is.
 #[derive(Clone, Copy, PartialEq, Eq)]
@@ -48,8 +43,10 @@ pub(crate) struct PacedPlay {
     stage: Stage,
     // The phase for which the session has left the play, as it was seen first.
     left: Option<Phase>,
-    // Until when it waits to hear of the session's next play.
-    waits_until: Option<u64>,
+    // For how many milliseconds more it waits to hear of the session's next play.
+    patience: Option<u64>,
+    // For how many it has waited for the media of what was counted when it was left.
+    waited: u64,
     renewal: Renewal,
     // The moments of its last turn and of its next one. A wheel that is late may come to the play before
     // that one.
@@ -60,6 +57,8 @@ pub(crate) struct PacedPlay {
     reached: u64,
     // What its session holds of the uplink, in bits per second.
     rate: u64,
+    // Its frames that were dropped, and that it isn't told of.
+    dropped: Option<Dropped>,
 }
 
 // What came of sending: a turn, with when the next packet is due; or, where the unit that is due isn't
@@ -126,12 +125,14 @@ impl PacedPlay {
             ways: Ways::of(desk.rt, &desk.parts, view),
             stage: Stage::Sending,
             left: None,
-            waits_until: None,
+            patience: None,
+            waited: 0,
             renewal: Renewal::unseen(),
             last: due,
             next: due,
             reached: due,
             rate: rate_of(view),
+            dropped: None,
         };
         Some((play, due))
     }
@@ -149,15 +150,15 @@ impl PacedPlay {
     pub(crate) fn leave(&mut self, next: Phase) -> bool
         ensures left { self.new.left ≡ Some (unwrap_or self.old.left next) }
         ensures pacer { self.new.pacer ≡ self.old.pacer }
-        ensures waits { self.new.waits_until ≡ (if result then Some 0 else self.old.waits_until) }
-        ensures rest { self.new ≡ record self.old { left = self.new.left; waits_until = self.new.waits_until } }
+        ensures waits { self.new.patience ≡ (if result then Some 0 else self.old.patience) }
+        ensures rest { self.new ≡ record self.old { left = self.new.left; patience = self.new.patience } }
         ensures apart { IsTrue result ↔ IsApart (unwrap_or self.old.left next) next }
     {
         let left = *self.left.get_or_insert(next);
         if sent_before(&left) != sent_before(&next) {
             return false;
         }
-        self.waits_until = Some(0);
+        self.patience = Some(0);
         true
     }
 
@@ -176,7 +177,35 @@ impl PacedPlay {
         if let Next::At(due) = next {
             self.next = due;
         }
+        self.tell_dropped(desk, next, moment);
         next
+    }
+
+    // Tells of frames that were dropped, once they were counted for long enough or the play is over.
+    fn tell_dropped<R: Wait + Clock, N: Numbers>(
+        &mut self,
+        desk: &mut PacerDesk<'_, R, N>,
+        next: Next,
+        moment: u64,
+    ) {
+        let Some(dropped) = self.dropped else {
+            return;
+        };
+        let is_due = match next {
+            Next::At(_) => dropped.is_counted(moment),
+            Next::Never => true,
+        };
+        if is_due {
+            self.dropped = None;
+            desk.tell_dropped(self.session(), dropped);
+        }
+    }
+
+    // Tells of frames that were dropped, where it wasn't: the pacer is at its end.
+    pub(crate) fn tell_rest<R: Wait + Clock, N: Numbers>(&self, desk: &mut PacerDesk<'_, R, N>) {
+        if let Some(dropped) = self.dropped {
+            desk.tell_dropped(self.session(), dropped);
+        }
     }
 
     // Does what is next: sends, or reports the play, or says goodbye.
@@ -214,6 +243,7 @@ impl PacedPlay {
     ) -> Next {
         let unit_ms = presentation.unit_ms().ms();
         self.heed_renewal(desk, moment);
+        let passed = moment.saturating_sub(self.last);
         let (turn, due) = match self.send(desk, phase, unit_ms, moment) {
             Sending::Waits(until) => return Next::At(until),
             Sending::Turned(turn, due) => (turn, due),
@@ -224,7 +254,7 @@ impl PacedPlay {
                 Next::At(next_unit(due, unit_ms, moment))
             }
             (Turn::AtEnd | Turn::SinkFailed, _) => self.finish(alloc, desk, presentation, moment),
-            (Turn::OtherPlay, _) => self.wait(unit_ms, moment),
+            (Turn::OtherPlay, _) => self.wait(unit_ms, passed, moment),
             (Turn::More, None) => Next::Never,
         }
     }
@@ -280,7 +310,9 @@ impl PacedPlay {
         requires { 0 < unit_ms }
     {
         let session = self.session();
+        let passed = moment.saturating_sub(self.last);
         let due = self.pacer.next_due().unwrap_or(moment);
+        let late = moment.saturating_sub(due);
         let until = self.sends_until(desk, due, unit_ms, moment);
         let mut sink = PacketSink {
             rt: desk.rt,
@@ -289,8 +321,10 @@ impl PacedPlay {
             ways: &self.ways,
             presentation: usize::from(self.presentation),
             now: moment,
+            room: self.ways.room_when_late(late),
             packets: 0,
             lost: 0,
+            dropped: None,
             failed: 0,
             waits: false,
         };
@@ -305,57 +339,22 @@ impl PacedPlay {
         };
         let (packets, lost, waits) = (sink.packets, sink.lost, sink.waits);
         let failed = failures_in(sink.failed, waits);
-        desk.count(packets, lost, failed, moment.saturating_sub(due));
+        self.dropped = Dropped::count(self.dropped, sink.dropped);
+        desk.count(packets, lost, failed, late);
         let next = self.pacer.next_due();
         self.last = moment;
         if waits {
             self.reached = next.unwrap_or(until);
         }
+        if waits && last.is_some() {
+            self.waited = waited_on(self.waited, passed);
+        }
         match next {
-            Some(due) if waits && !(last.is_some() && is_given_up(due, moment)) => {
+            Some(due) if waits && !(last.is_some() && is_given_up(self.waited)) => {
                 self.left = last.map(|_| left).or(self.left);
                 Sending::Waits(look_again(due, moment))
             }
-            next => Sending::Turned(self.after(turn, last, left, moment), next),
+            next => Sending::Turned(self.after(turn, last, left), next),
         }
-    }
-
-    // What came of a turn. `last` is what came of the last one of a play that the session has left, for
-    // the phase `left`. Media of such a play that can't be read is lost. Where no phase of that play leads
-    // to it, there was another play between, of which the pacer hears.
-    fn after(&mut self, turn: Turn, last: Option<LastTurn>, left: Phase, moment: u64) -> Turn {
-        match last {
-            None => turn,
-            Some(LastTurn::NotLeft) => {
-                self.waits_until
-                    .get_or_insert(moment.saturating_add(AWAITED_FOR));
-                Turn::OtherPlay
-            }
-            Some(LastTurn::SinkFailed) => {
-                self.waits_until = Some(0);
-                Turn::OtherPlay
-            }
-            Some(LastTurn::More) => {
-                self.left = Some(left);
-                Turn::More
-            }
-            Some(LastTurn::Done) => {
-                self.left = Some(left);
-                Turn::OtherPlay
-            }
-        }
-    }
-
-    // When this play has its next turn, where the session has left it and nothing of it is to be sent now.
-    // The session's next play may be on its way to the pacer: its phase says how far this play goes, and
-    // what this play has sent is not to be sent by the next one, too.
-    fn wait(&mut self, unit_ms: u32, moment: u64) -> Next {
-        let until = *self
-            .waits_until
-            .get_or_insert(moment.saturating_add(HEARD_WITHIN));
-        if until <= moment {
-            return Next::Never;
-        }
-        Next::At(until.min(moment.saturating_add(u64::from(unit_ms))))
     }
 }

@@ -121,6 +121,13 @@ impl PacerPlays {
         }
     }
 
+    // Tells of frames of all plays that were dropped, where it wasn't: the pacer is at its end.
+    pub(crate) fn tell_rest<R: Wait + Clock, N: Numbers>(&self, desk: &mut PacerDesk<'_, R, N>) {
+        for (_, linked) in self.plays.iter() {
+            linked.play.tell_rest(desk);
+        }
+    }
+
     // Drops the play of a key.
     pub(crate) fn remove(&mut self, key: usize)
         ensures gone { get self.new.plays key ≡ None }

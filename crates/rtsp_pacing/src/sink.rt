@@ -2,14 +2,16 @@
 
 ghost use Rattle.std.specs.Prelude.{◌≡◌, ◌-◌, if◌then◌else◌};
 
+use crate::dropped::Dropped;
 use crate::ways::Ways;
+use crate::went::Went;
 use rtsp_metrics::Counters;
 use rtsp_rtp::{ControlSink, Packet, Sink, SinkFault};
-use rtsp_sockets::Media;
+use rtsp_sockets::{FrameRoom, Media, NotTaken};
 use std::sync::Wait;
 
 // Media and ways of one turn of a play. A packet that can't be sent is lost, and the play goes on;
-// media that can't be read is a failure. A unit that isn't at hand breaks the turn off, too, since it
+// media that can't be read is a failure. A unit that isn't read yet breaks the turn off, too, since it
 // isn't waited for.
 #[derive(Drop)]
 pub(crate) struct PacketSink<'a, 'w, R> {
@@ -19,38 +21,16 @@ pub(crate) struct PacketSink<'a, 'w, R> {
     pub(crate) ways: &'w Ways,
     pub(crate) presentation: usize,
     pub(crate) now: u64,
+    // How much of the play's streams may wait for a connection.
+    pub(crate) room: FrameRoom,
     pub(crate) packets: u64,
     pub(crate) lost: u64,
+    // What of the lost was dropped for want of room.
+    pub(crate) dropped: Option<Dropped>,
     // The calls that have failed, for whatever reason.
     pub(crate) failed: u64,
-    // Whether the last of them was for a unit that isn't at hand.
+    // Whether the last of them was for a unit that isn't read yet.
     pub(crate) waits: bool,
-}
-
-// Whether a unit was had, or why not.
-#[derive(Clone, Copy, PartialEq, Eq)]
-enum Had {
-    Whole,
-    // It isn't at hand, and was asked for.
-    Later,
-    Unreadable,
-}
-
-impl<R: Wait> PacketSink<'_, '_, R> {
-    // Fills `out` with the octets of a unit, where that needn't wait for a disk.
-    fn take(&self, track: u16, unit: u32, out: &mut [u8]) -> Had {
-        let presentation = self.presentation;
-        if !self
-            .media
-            .is_at_hand(self.rt, presentation, track, unit, self.now)
-        {
-            return Had::Later;
-        }
-        match self.media.octets(presentation, track, unit, out) {
-            Ok(()) => Had::Whole,
-            Err(_) => Had::Unreadable,
-        }
-    }
 }
 
 // How many of the failed calls of a turn are failures of the media: the last one isn't, where it was
@@ -67,24 +47,32 @@ impl<R: Wait> Sink for PacketSink<'_, '_, R> {
     ghost calls = { record { octets = λ s track unit bytes u. ⊤; sends = λ s track packet u. ⊤; fails = λ s u. ⊤; failures = λ s. s.failed } };
 
     fn octets(&mut self, track: u16, unit: u32, out: &mut [u8]) -> Result<(), SinkFault> {
-        let had = self.take(track, unit, out);
-        if had == Had::Whole {
+        let presentation = self.presentation;
+        let taken = self
+            .media
+            .take(self.rt, presentation, track, unit, self.now, out);
+        let Err(why) = taken else {
             return Ok(());
-        }
+        };
         self.failed = self.failed.saturating_add(1);
-        self.waits = had == Had::Later;
-        if had == Had::Unreadable {
-            let presentation = u16::try_from(self.presentation).unwrap_or(u16::MAX);
+        self.waits = why == NotTaken::Later;
+        if why == NotTaken::Unreadable {
+            let presentation = u16::try_from(presentation).unwrap_or(u16::MAX);
             self.counters.media_failed(presentation, track);
         }
         Err(SinkFault)
     }
 
     fn send(&mut self, track: u16, packet: &mut Packet) -> Result<(), SinkFault> {
-        if self.ways.send(self.rt, self.now, track, packet) {
+        let went = self.ways.send(self.rt, self.now, self.room, track, packet);
+        if went == Went::Sent {
             self.packets = self.packets.saturating_add(1);
         } else {
             self.lost = self.lost.saturating_add(1);
+        }
+        if let Went::Dropped(cause) = went {
+            let one = Dropped::one(cause, self.now);
+            self.dropped = Dropped::count(self.dropped, Some(one));
         }
         Ok(())
     }

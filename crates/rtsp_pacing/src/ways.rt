@@ -1,12 +1,14 @@
 //! Where the packets of the streams of a play go.
 
+use crate::channel::{Channel, room_when_late};
 use crate::desk::PacerParts;
 use crate::refusals::Refusals;
+use crate::went::Went;
 use rtsp_book::SessionView;
 use rtsp_lock::Numbers;
 use rtsp_record::{Admission, Stream, Thing};
 use rtsp_rtp::Packet;
-use rtsp_sockets::{FrameRoom, Outlet, PortSockets, Put};
+use rtsp_sockets::{FrameRoom, PortSockets};
 use std::cell::Cell;
 use std::io::ErrorKind;
 use std::net::{Ipv4Addr, SocketAddrV4};
@@ -26,15 +28,6 @@ pub(crate) struct PlayerPort {
     refusals: Cell<Refusals>,
 }
 
-// A channel of a connection that frames go to.
-#[derive(Drop)]
-pub(crate) struct Channel {
-    outlet: Arc<Outlet>,
-    number: u8,
-    // How much may wait there of all streams of the session.
-    room: FrameRoom,
-}
-
 // Where the packets of a stream go.
 #[derive(Drop)]
 pub(crate) enum Way {
@@ -52,6 +45,8 @@ pub(crate) struct Ways {
     ways: [Way; TRACKS],
     // Until when one of the ports at least is sent none.
     spared_until: Cell<u64>,
+    // What the streams that go over connections hold of the uplink, in bits per second.
+    frame_rate: u64,
 }
 
 // The way of datagrams to a stream's player, where its address is still bound.
@@ -76,25 +71,20 @@ fn way_of<R: Wait, N: Numbers>(
     number: u64,
     admission: &Admission,
     stream: &Stream,
-    room: FrameRoom,
 ) -> Way {
     match admission.address {
         Some(Thing::Pair(pair)) => datagrams(parts.ports.pair_sockets(rt, number, pair), stream),
         Some(Thing::Port(port)) => datagrams(parts.ports.port_socket(rt, number, port), stream),
         Some(Thing::Chan(conn, number)) => match parts.outlets.get(rt, conn) {
-            Some(outlet) => Way::Frames(Channel {
-                outlet,
-                number,
-                room,
-            }),
+            Some(outlet) => Way::Frames(Channel::new(outlet, number)),
             None => Way::Nowhere,
         },
         Some(Thing::Rate(_)) | None => Way::Nowhere,
     }
 }
 
-// How much may wait of what a session's streams send over connections.
-fn room_of(view: &SessionView) -> FrameRoom {
+// What the streams of a session that go over connections hold of the uplink, in bits per second.
+fn frame_rate_of(view: &SessionView) -> u64 {
     let admissions = view.admissions();
     let mut rate = 0u64;
     for place in 0..admissions.len() {
@@ -103,7 +93,7 @@ fn room_of(view: &SessionView) -> FrameRoom {
             rate = rate.saturating_add(admission.rate.unwrap_or(0));
         }
     }
-    FrameRoom::of_rate(rate)
+    rate
 }
 
 // What a session's streams hold of the uplink, in bits per second.
@@ -151,12 +141,6 @@ impl PlayerPort {
     }
 }
 
-impl Channel {
-    fn put<R: Wait>(&self, rt: &R, now: u64, frame: &[u8]) -> Put {
-        self.outlet.put_frame(rt, now, self.room, frame)
-    }
-}
-
 impl Way {
     // Until when its player's port is sent none.
     fn spared_until(&self) -> u64 {
@@ -166,26 +150,29 @@ impl Way {
         }
     }
 
-    // Sends a packet. Whether it was sent, or waits.
-    fn send<R: Wait>(&self, rt: &R, now: u64, packet: &mut Packet) -> bool {
+    // Sends a packet, which may wait within this room where it is a frame.
+    fn send<R: Wait>(&self, rt: &R, now: u64, room: FrameRoom, packet: &mut Packet) -> Went {
         match self {
-            Way::Nowhere => false,
-            Way::Datagrams(port) => port.send(now, packet.datagram()),
-            Way::Frames(channel) => {
-                let put = channel.put(rt, now, packet.frame(channel.number));
-                matches!(put, Put::Sent | Put::Kept)
+            Way::Nowhere => Went::Lost,
+            Way::Datagrams(port) => {
+                if port.send(now, packet.datagram()) {
+                    Went::Sent
+                } else {
+                    Went::Lost
+                }
             }
+            Way::Frames(channel) => channel.put(rt, now, room, packet.frame(channel.number())),
         }
     }
 
     // Sends an RTCP packet, on a connection on the second channel of a pair, which is odd. One that
     // can't be sent is lost.
-    fn send_control<R: Wait>(&self, rt: &R, now: u64, packet: &mut Packet) {
+    fn send_control<R: Wait>(&self, rt: &R, now: u64, room: FrameRoom, packet: &mut Packet) {
         match self {
             Way::Nowhere => {}
             Way::Datagrams(port) => port.send_control(packet.datagram()),
             Way::Frames(channel) => {
-                channel.put(rt, now, packet.frame(channel.number | 1));
+                channel.put(rt, now, room, packet.frame(channel.number() | 1));
             }
         }
     }
@@ -210,15 +197,15 @@ impl Ways {
                 Way::Nowhere,
             ],
             spared_until: Cell::new(0),
+            frame_rate: frame_rate_of(view),
         };
-        let room = room_of(view);
         let admissions = view.admissions();
         for place in 0..admissions.len() {
             let (number, admission) = admissions.at(place);
             if let Some(stream) = admission.stream
                 && let Some(way) = ways.ways.get_mut(usize::from(stream.track))
             {
-                *way = way_of(rt, parts, number, &admission, &stream, room);
+                *way = way_of(rt, parts, number, &admission, &stream);
             }
         }
         ways
@@ -239,23 +226,35 @@ impl Ways {
         self.spared_until.set(0);
     }
 
-    // Sends a packet of a track. Whether it was sent, or waits.
-    pub(crate) fn send<R: Wait>(&self, rt: &R, now: u64, track: u16, packet: &mut Packet) -> bool {
+    // How much of the streams may wait, where the play is late by so many milliseconds.
+    pub(crate) fn room_when_late(&self, late: u64) -> FrameRoom {
+        room_when_late(self.frame_rate, late)
+    }
+
+    // Sends a packet of a track, which may wait within this room where it is a frame.
+    pub(crate) fn send<R: Wait>(
+        &self,
+        rt: &R,
+        now: u64,
+        room: FrameRoom,
+        track: u16,
+        packet: &mut Packet,
+    ) -> Went {
         let Some(way) = self.ways.get(usize::from(track)) else {
-            return false;
+            return Went::Lost;
         };
-        let is_sent = way.send(rt, now, packet);
-        if !is_sent {
+        let went = way.send(rt, now, room, packet);
+        if went != Went::Sent {
             let until = way.spared_until().max(self.spared_until.get());
             self.spared_until.set(until);
         }
-        is_sent
+        went
     }
 
     // Sends an RTCP packet of a track.
     pub(crate) fn send_control<R: Wait>(&self, rt: &R, now: u64, track: u16, packet: &mut Packet) {
         if let Some(way) = self.ways.get(usize::from(track)) {
-            way.send_control(rt, now, packet);
+            way.send_control(rt, now, self.room_when_late(0), packet);
         }
     }
 }

@@ -70,13 +70,30 @@ pub(crate) fn look_again(due: u64, moment: u64) -> u64
     moment.saturating_add((late / 8).max(SOONEST).min(LATEST))
 }
 
-// How late, in milliseconds, what was counted of a play that was left may come.
+// For how long, in milliseconds, the media of what was counted of a play that was left is waited for.
 const LEFT_FOR: u64 = 10_000;
 
-// Whether what was counted of a play that was left is waited for no longer, at a moment, where the
-// next of it was due at `due`. Otherwise a player could make play after play that waits for a disk.
-pub(crate) fn is_given_up(due: u64, moment: u64) -> bool
-    ensures { IsTrue result ↔ (due + LEFT_FOR < moment) }
+// For how long that was waited for, where it was for `waited` before, and so much time has passed since the
+// last look. A longer time than that between two looks is one in which the server stood still, or its
+// pacer was held up, and the disk may have been, too.
+pub(crate) fn waited_on(waited: u64, passed: u64) -> u64
+    ensures { result ≡ min (waited + min passed LATEST) u64.MAX }
 {
-    moment.saturating_sub(due) > LEFT_FOR
+    waited.saturating_add(passed.min(LATEST))
+}
+
+// Whether what was counted of a play that was left is waited for no longer. Otherwise a player could make
+// play after play that waits for a disk.
+pub(crate) fn is_given_up(waited: u64) -> bool
+    ensures { IsTrue result ↔ (LEFT_FOR < waited) }
+{
+    waited > LEFT_FOR
+}
+
+// For how many of so many milliseconds more a play waits to hear of the next one, where so much time has
+// passed since its last turn: of a pause of the server no more counts than a unit and `MADE_UP`.
+pub(crate) fn patience_after(patience: u64, unit_ms: u32, passed: u64) -> u64
+    ensures { result ≡ patience - min passed (unit_ms + MADE_UP) }
+{
+    patience.saturating_sub(passed.min(u64::from(unit_ms) + MADE_UP))
 }

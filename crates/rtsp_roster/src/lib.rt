@@ -11,4 +11,5 @@
 mod line;
 mod roster;
 
+pub use line::Line;
 pub use roster::{IN_A_ROW, Roster};

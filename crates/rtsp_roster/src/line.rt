@@ -8,9 +8,9 @@ use std::alloc::Global;
 use std::collections::VecDeque;
 use std::marker::Model;
 
-// Keys in a line, each once at most. There is room in it for all keys that are less than a number.
+/// Keys in a line, each once at most. There is room in it for all keys that are less than a number.
 #[derive(Drop)]
-pub(crate) struct Line {
+pub struct Line {
     keys: VecDeque<usize>,
     // By key, whether it is in the line.
     holds: Vec<bool>,
@@ -42,8 +42,8 @@ fn place_of(keys: &VecDeque<usize>, key: usize) -> Option<usize>
 }
 
 impl Line {
-    // No key, and room for none.
-    pub(crate) fn new(alloc: Global) -> Line
+    /// No key, and room for none.
+    pub fn new(alloc: Global) -> Line
         ensures { result ≡ record { keys = []; room = 0 } }
     {
         Line {
@@ -52,28 +52,30 @@ impl Line {
         }
     }
 
-    pub(crate) fn len(&self) -> usize
+    /// How many keys are in the line.
+    pub fn len(&self) -> usize
         ensures count { result ≡ length self.now.keys }
         ensures fits { result < 2 ^ 63 }
     {
         self.keys.len()
     }
 
-    // The keys that are less than this have room.
-    pub(crate) fn room(&self) -> usize
+    /// The keys that are less than this have room.
+    pub fn room(&self) -> usize
         ensures { result ≡ self.now.room }
     {
         self.holds.len()
     }
 
-    pub(crate) fn is_in(&self, key: usize) -> bool
+    /// Whether a key is in the line.
+    pub fn is_in(&self, key: usize) -> bool
         ensures { IsTrue result ↔ IsIn key self.now.keys }
     {
         self.holds.get(key) == Some(&true)
     }
 
-    // Makes room for the keys that are less than a number. Whether there is.
-    pub(crate) fn make_room(&mut self, room: usize) -> bool
+    /// Makes room for the keys that are less than a number. Whether there is.
+    pub fn make_room(&mut self, room: usize) -> bool
         ensures keys { self.new.keys ≡ self.old.keys }
         ensures more { self.old.room ≤ self.new.room }
         ensures enough { OnTrue result (room ≤ self.new.room) }
@@ -90,9 +92,9 @@ impl Line {
         true
     }
 
-    // Puts a key that has room behind the others, unless it is there.
+    /// Puts a key that has room behind the others, unless it is there.
     #[tactic(auto, using(crate::proofs::Lining::came))]
-    pub(crate) fn put(&mut self, key: usize)
+    pub fn put(&mut self, key: usize)
         ensures { Puts self.old key self.new }
     {
         if key < self.room() && !self.is_in(key) {
@@ -101,8 +103,8 @@ impl Line {
         }
     }
 
-    // Takes the first key out.
-    pub(crate) fn take(&mut self) -> Option<usize>
+    /// Takes the first key out.
+    pub fn take(&mut self) -> Option<usize>
         ensures { TakesFirst self.old result self.new }
     {
         let key = self.keys.pop_front()?;
@@ -110,8 +112,8 @@ impl Line {
         Some(key)
     }
 
-    // Takes a key out, wherever it is.
-    pub(crate) fn remove(&mut self, key: usize)
+    /// Takes a key out, wherever it is. Where it is, it takes time by how many keys stand before it.
+    pub fn remove(&mut self, key: usize)
         ensures { TakesOut self.old key self.new }
     {
         if self.is_in(key)

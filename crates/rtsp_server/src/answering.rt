@@ -17,7 +17,7 @@ use rtsp_log::Event;
 use rtsp_pacing::NotedPlays;
 use rtsp_sockets::{Outlet, PieceClock, PortBinder, RandomWords};
 use rtsp_state::Room;
-use rtsp_threads::{ANSWERS, Activity, LaneShares, PAUSE};
+use rtsp_threads::{ANSWERS, Activity, LaneShares, PAUSE, PIECE};
 use rtsp_watch::push_lent;
 use std::alloc::Global;
 use std::cell::Cell;
@@ -41,6 +41,8 @@ pub(crate) struct Front<'a, R> {
     pub(crate) plays: &'a mut NotedPlays,
     pub(crate) heard: &'a Cell<Channels>,
     pub(crate) activity: &'a mut Activity,
+    /// Whether the journal has room for what the next piece may record.
+    pub(crate) has_room: bool,
 }
 
 // Has a piece of a connection's input answered at a desk over the connection's handle of the book,
@@ -120,7 +122,6 @@ impl<R: Wait + Net + rt::Clock> PieceAnswerer for Front<'_, R> {
         piece: &[u8],
         room: &mut Room,
     ) -> Result<(), MessageFault> {
-        self.service.make_room(self.lane);
         let Service {
             rt,
             shared,
@@ -158,12 +159,15 @@ impl<R: Wait + Net + rt::Clock> PieceAnswerer for Front<'_, R> {
         if witness.is_unavailable() {
             shared.note_unavailable(rt, self.lane);
         }
+        // A piece that was full may be followed by another one.
+        self.has_room = piece.len() < PIECE || self.service.make_room(self.lane);
         pushed
     }
 
-    // Where a play is among the answers, it is handed over once they are written.
+    // Where a play is among the answers, it is handed over once they are written. Where there is no room
+    // for what the next piece may record, none is read.
     fn is_due(&self, gathered: usize) -> bool {
-        !self.plays.is_empty() || gathered >= ANSWERS
+        !self.has_room || !self.plays.is_empty() || gathered >= ANSWERS
     }
 
     // A play is handed over after its answer is written, so that no packet comes before it. No more is
@@ -171,6 +175,6 @@ impl<R: Wait + Net + rt::Clock> PieceAnswerer for Front<'_, R> {
     fn has_written(&mut self) -> bool {
         let Service { rt, shared, .. } = self.service;
         let is_heard = self.plays.hand_over(rt, &shared.bells, self.asker.conn);
-        is_heard && self.outlet.waiting(rt) <= PAUSE
+        self.has_room && is_heard && self.outlet.waiting(rt) <= PAUSE
     }
 }

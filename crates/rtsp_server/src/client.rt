@@ -1,5 +1,7 @@
 //! A connection of a lane.
 
+mod holding_back;
+
 use crate::answering::Front;
 use crate::channels::Channels;
 use crate::hearing::Hearing;
@@ -7,7 +9,7 @@ use crate::service::Service;
 use crate::shared::{Lent, Shared};
 use crate::tools::Tools;
 use crate::unread::UnreadLoan;
-use crate::visiting::Read;
+use crate::visiting::{Part, Read, Visit};
 use mio::event::Event;
 use mio::net::TcpStream;
 use rtsp_content::Players;
@@ -17,23 +19,12 @@ use rtsp_lock::BookHandle;
 use rtsp_log::{Event as LogEvent, Log};
 use rtsp_metrics::Counters;
 use rtsp_sockets::{Loan, Outlet, prepare};
-use rtsp_threads::{Activity, PAUSE, PIECES, take_leave};
+use rtsp_threads::{Activity, LaneShares, PAUSE, PIECES, RoomWait, take_leave};
 use std::alloc::Global;
 use std::net::{Ipv4Addr, Net, SocketAddr};
 use std::os::fd::{AsRawFd, RawFd};
 use std::rt;
 use std::sync::{Arc, Wait};
-
-/// What comes of a visit to a connection.
-#[derive(Clone, Copy, PartialEq, Eq)]
-pub(crate) enum Visit {
-    /// Nothing is left to be done until the system tells of it.
-    Done,
-    /// There may be more to read.
-    More,
-    /// The connection has ended.
-    Ended,
-}
 
 // How far a connection has come.
 #[derive(Clone, Copy, PartialEq, Eq)]
@@ -63,6 +54,8 @@ pub(crate) struct Client {
     is_ending: bool,
     // Whether it has been silent, or has owed the rest of a message, for too long.
     is_over: bool,
+    // For room in the journal.
+    room_wait: RoomWait,
     activity: Activity,
     hearing: Hearing,
 }
@@ -119,6 +112,7 @@ impl Client {
             is_writable: false,
             is_ending: false,
             is_over: false,
+            room_wait: RoomWait::new(),
             activity: Activity::new(service.now),
             hearing: Hearing::new(),
         })
@@ -165,9 +159,13 @@ impl Client {
             return Visit::Done;
         }
         if self.hearing.is_held_up(&service.shared.bells) {
-            return Visit::More;
+            return Visit::Held;
         }
-        let read = self.read(service, tools, lane, until);
+        let part = match self.part_to_read(service, tools, lane) {
+            Ok(part) => part,
+            Err(visit) => return visit,
+        };
+        let read = self.read(service, tools, lane, part, until);
         self.hear(service, tools);
         self.end_visit(service, tools, read)
     }
@@ -190,12 +188,13 @@ impl Client {
         }
     }
 
-    // Reads what is there, has it answered, and puts the answers into the outlet.
+    // Reads a part of what is there, has it answered, and puts the answers into the outlet.
     fn read<R: Wait + Net + rt::Clock>(
         &mut self,
         service: &Service<'_, R>,
         tools: &mut Tools,
         lane: &mut BookHandle,
+        part: Part,
         until: u64,
     ) -> Read {
         let Tools {
@@ -228,8 +227,9 @@ impl Client {
             plays,
             heard,
             activity,
+            has_room: true,
         };
-        front.visit(input, room, piece.as_mut_slice(), *is_ending, until)
+        front.visit(input, room, piece.as_mut_slice(), part, *is_ending, until)
     }
 
     // Where the players are GStreamer, RTCP keeps the session alive that plays over the connection.
@@ -337,7 +337,8 @@ impl Client {
     pub(crate) fn sweep<R: Wait>(&mut self, rt: &R, timeout: u64, moment: u64) -> bool {
         self.outlet.close_stalled(rt, moment);
         self.is_over = self.is_overdue(moment, timeout);
-        let waits = self.outlet.waiting(rt) > 0;
+        // A pacer may have written what the lane waits for, which the system doesn't tell of then.
+        let waits = self.outlet.waiting(rt) > 0 || self.stage != Stage::Open;
         self.is_writable = self.is_writable || waits;
         self.is_over || waits
     }
@@ -345,19 +346,21 @@ impl Client {
     // Whether the player has been silent for too long, or has owed the rest of a message for too
     // long, where the connection is read.
     fn is_overdue(&self, moment: u64, timeout: u64) -> bool {
-        if self.stage != Stage::Open {
+        if self.stage != Stage::Open || self.room_wait.is_begun() {
             return false;
         }
         self.activity.is_overdue(moment, timeout)
     }
 
-    /// Takes leave of the connection, and of its sessions.
-    pub(crate) fn end<R: Wait + Net>(mut self, rt: &R, shared: &Shared) {
+    /// Takes leave of the connection, and of its sessions. By the lane's handle it is looked which of them
+    /// live still.
+    pub(crate) fn end<R: Wait + Net>(mut self, rt: &R, shared: &Shared, lane: &mut BookHandle) {
         let Asker { conn, peer } = self.asker;
         self.outlet.close(rt);
         shared.outlets.remove(rt, conn);
         let mut binder = shared.unbinder(rt);
-        if take_leave(rt, &mut self.handle, &mut binder, conn) {
+        let mut shares = LaneShares::new(rt, shared.session_shares.as_ref(), lane);
+        if take_leave(rt, &mut self.handle, &mut binder, conn, &mut shares) {
             shared.ends.note();
         }
         shared.gate.leave(rt, peer);
@@ -379,6 +382,7 @@ impl Drop for Client {
             is_writable: _,
             is_ending: _,
             is_over: _,
+            room_wait: _,
             activity: _,
             hearing: _,
         } = self;

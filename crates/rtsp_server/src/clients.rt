@@ -1,16 +1,19 @@
 //! The connections of a lane of sockets, and its turns.
 
 use crate::all_lanes::AllLanes;
-use crate::client::{Client, Visit};
+use crate::client::Client;
 use crate::lane_lines::LaneLines;
 use crate::service::Service;
 use crate::shared::Shared;
 use crate::tools::Tools;
+use crate::visiting::Visit;
 use mio::unix::SourceFd;
 use mio::{Events, Interest, Poll, Token, Waker};
 use rtsp_lock::BookHandle;
-use rtsp_roster::Roster;
-use rtsp_threads::{Acceptor, LaneTurn, SWEEP_EVERY, TURN_EVERY, TURN_TIME, VISIT_TIME};
+use rtsp_roster::{Line, Roster};
+use rtsp_threads::{
+    Acceptor, HELD_REST, LaneTurn, RoomLooks, SWEEP_EVERY, TURN_EVERY, TURN_TIME, VISIT_TIME,
+};
 use std::alloc::Global;
 use std::fs::File;
 use std::net::Net;
@@ -34,6 +37,8 @@ pub(crate) struct Clients {
     pub(crate) poll: Poll,
     events: Events<Global>,
     pub(crate) roster: Roster<Client>,
+    // The keys of those that were put aside, since the journal has no room for what they ask.
+    pub(crate) aside: Line,
     pub(crate) acceptor: Acceptor,
     tools: Tools,
     // The moment of the last turn, of the last sweep, and that up to which all that had come was
@@ -44,8 +49,9 @@ pub(crate) struct Clients {
     // The key of the connection that is hung up next where the server is at its end: those before it
     // had their turn.
     hung: usize,
-    // How many have ended in this turn.
+    // How many have ended in this turn, and how many were held up in it, which are in the queue.
     ended: u64,
+    held: usize,
 }
 
 // Written out, as that of `Shared` is.
@@ -56,6 +62,7 @@ impl Drop for Clients {
             poll: _poll,
             events: _events,
             roster: _roster,
+            aside: _aside,
             acceptor: _acceptor,
             tools: _tools,
             now: _,
@@ -63,6 +70,7 @@ impl Drop for Clients {
             read: _,
             hung: _,
             ended: _,
+            held: _,
         } = self;
     }
 }
@@ -96,6 +104,7 @@ impl Clients {
             poll,
             events,
             roster: Roster::new(alloc),
+            aside: Line::new(alloc),
             acceptor,
             tools,
             now: 0,
@@ -103,15 +112,17 @@ impl Clients {
             read: 0,
             hung: 0,
             ended: 0,
+            held: 0,
         })
     }
 
     // How long it may wait for something to do, in milliseconds: not at all where connections are to be
-    // visited or hung up.
-    fn patience(&self, lanes: &AllLanes, lines: &LaneLines) -> u64 {
-        if self.roster.ready() > 0 || self.hung > 0 {
+    // visited or hung up, and not for long where all of these were held up.
+    fn patience(&self, lanes: &AllLanes, lines: &LaneLines, looks: RoomLooks) -> u64 {
+        if self.roster.ready() > self.held || self.hung > 0 {
             return 0;
         }
+        let until_heard = if self.held > 0 { HELD_REST } else { TURN_EVERY };
         let until_stop = match lanes.stop_by() {
             Some(by) => by.saturating_sub(self.now),
             None => TURN_EVERY,
@@ -119,8 +130,9 @@ impl Clients {
         self.acceptor
             .patience(self.now)
             .min(lines.patience(self.now))
+            .min(self.patience_aside(self.now, looks))
             .min(until_stop)
-            .min(TURN_EVERY)
+            .min(until_heard)
     }
 
     /// Waits for something to do, but no longer than the lines of the log may wait. Returns the moment up
@@ -131,8 +143,9 @@ impl Clients {
         rt: &R,
         lanes: &AllLanes,
         lines: &LaneLines,
+        looks: RoomLooks,
     ) -> Option<u64> {
-        let time = Duration::from_millis(self.patience(lanes, lines));
+        let time = Duration::from_millis(self.patience(lanes, lines, looks));
         if self.poll.poll(&mut self.events, Some(time)).is_err() {
             thread::sleep(rt, Duration::from_millis(1));
             return None;
@@ -149,6 +162,7 @@ impl Clients {
     pub(crate) fn begin_turn(&mut self, now: u64) -> u64 {
         self.now = self.now.max(now);
         self.ended = 0;
+        self.held = 0;
         self.now
     }
 
@@ -230,33 +244,43 @@ impl Clients {
         } else {
             client.visit(service, &mut self.tools, handle, until)
         };
+        if visit == Visit::Aside {
+            self.aside.put(key);
+            return;
+        }
+        self.aside.remove(key);
         match visit {
-            Visit::Done => {}
+            Visit::Done | Visit::Aside => {}
             Visit::More => self.roster.queue(key),
-            Visit::Ended => self.end(service.rt, service.shared, key),
+            Visit::Held => {
+                self.held = self.held.saturating_add(1);
+                self.roster.queue(key);
+            }
+            Visit::Ended => self.end(service.rt, service.shared, handle, key),
         }
     }
 
     // Takes leave of a connection.
-    fn end<R: Wait + Net>(&mut self, rt: &R, shared: &Shared, key: usize) {
+    fn end<R: Wait + Net>(&mut self, rt: &R, shared: &Shared, handle: &mut BookHandle, key: usize) {
+        self.aside.remove(key);
         if let Some(client) = self.roster.remove(key) {
             let fd = client.fd();
             let _ = self.poll.registry().deregister(&mut SourceFd(&fd));
-            client.end(rt, shared);
+            client.end(rt, shared, handle);
             self.ended = self.ended.saturating_add(1);
         }
     }
 
     // Ends all connections, whatever waits for them: first those that are in the queue, since others
     // needn't be looked for there.
-    fn end_all<R: Wait + Net>(&mut self, service: &Service<'_, R>) {
+    fn end_all<R: Wait + Net>(&mut self, service: &Service<'_, R>, handle: &mut BookHandle) {
         for _ in 0..self.roster.ready() {
             if let Some(key) = self.roster.next_ready() {
-                self.end(service.rt, service.shared, key);
+                self.end(service.rt, service.shared, handle, key);
             }
         }
         for key in 0..self.roster.keys() {
-            self.end(service.rt, service.shared, key);
+            self.end(service.rt, service.shared, handle, key);
         }
         self.hung = 0;
     }
@@ -318,7 +342,7 @@ impl Clients {
                 self.visit_ready(service, handle);
                 self.hang_up_some(service, handle);
             }
-            Some(_) => self.end_all(service),
+            Some(_) => self.end_all(service, handle),
         }
     }
 
@@ -330,12 +354,14 @@ impl Clients {
         handle: &mut BookHandle,
         told: Option<u64>,
     ) -> LaneTurn {
+        self.call_back(service, handle);
         self.gather();
         let is_none_new = self.accept_some(service, handle);
         self.visit_some(service, handle);
         if let Some(moment) = told
             && is_none_new
             && self.roster.ready() == 0
+            && self.aside.len() == 0
         {
             self.tell_read(service, moment);
         }

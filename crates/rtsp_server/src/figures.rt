@@ -129,6 +129,9 @@ impl<R: Wait + rt::Clock> Witness for AnswerCounter<'_, R> {
         if method == Method::Teardown {
             shared.ends.note();
         }
+        if let Some(session) = told.ended {
+            shared.end_place(rt, session);
+        }
         if method == Method::Setup && may_have_opened(told.status) {
             self.setups.set(self.setups.get().saturating_add(1));
         }

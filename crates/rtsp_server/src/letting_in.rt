@@ -86,13 +86,15 @@ impl Clients {
         is_taken_in
     }
 
-    // The system tells of the connection from now on. Whether it does.
+    // The system tells of the connection from now on, which may also be put aside. Whether it does, and
+    // there was memory for that.
     fn watch(&mut self, fd: i32, key: usize) -> bool {
         let both = Interest::READABLE | Interest::WRITABLE;
         let registry = self.poll.registry();
-        let is_watched = registry
-            .register(&mut SourceFd(&fd), Token(key), both)
-            .is_ok();
+        let is_watched = self.aside.make_room(key.saturating_add(1))
+            && registry
+                .register(&mut SourceFd(&fd), Token(key), both)
+                .is_ok();
         if !is_watched {
             drop(self.roster.remove(key));
         }

@@ -4,7 +4,8 @@
 //! `server` starts all of them and joins them, with what `opening` gives; `threads` is what each does,
 //! and `shared` what all share, `all_lanes` and `end_note` among it. `socket_lane` is a lane of sockets,
 //! `clients` its connections and its turns, and `letting_in` lets them in; `client` is one of them, and
-//! `visiting` reads it. `answering` is what is done with its input over its handle of the book, `writing`
+//! `visiting` reads it. While the journal has no room `foresight` tells what may be read, and
+//! `putting_aside` has the others wait. `answering` is what is done with its input over its handle of the book, `writing`
 //! and `hearing` what is done with its output and its RTCP; `unread` is what it holds of a message that
 //! isn't whole. Of a lane, `service` and `tools` are what it answers with, `lane_lines` what it holds of
 //! the log, and `recorded` whether it has to look at the journal's room. `sweeper` and `stopping` are the
@@ -22,10 +23,13 @@ mod clients;
 mod end_note;
 mod fault;
 mod figures;
+mod foresight;
 mod hearing;
 mod lane_lines;
 mod letting_in;
 mod opening;
+mod putting_aside;
+mod readers;
 mod recorded;
 mod server;
 mod service;

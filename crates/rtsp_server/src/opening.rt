@@ -31,7 +31,7 @@ const LANE: u64 = 6;
 // What sends the packets of plays, and reads their media ahead.
 #[derive(Drop)]
 pub(crate) struct Sending {
-    pub(crate) media: Media,
+    pub(crate) media: Arc<Media>,
     pub(crate) readers: Vec<Reader>,
     pub(crate) pacers: Vec<OnePacer>,
 }
@@ -49,6 +49,9 @@ impl Sending {
         let readers = media.readers(alloc)?;
         let count = (cores(rt) / 2).max(1);
         let pacers = open_pacers(rt, alloc, handle, count, table.server().sessions)?;
+        let Ok(media) = Arc::new(alloc, media) else {
+            return Err(ServerFault::OutOfMemory);
+        };
         Ok(Sending {
             media,
             readers,

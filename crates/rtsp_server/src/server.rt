@@ -20,7 +20,6 @@ use std::net::{Net, SocketAddr};
 use std::random::RandomSource;
 use std::rt::Files;
 use std::sync::Wait;
-use std::sync::atomic::AtomicU64;
 use std::thread::Threads;
 use std::{net, rt};
 
@@ -133,16 +132,16 @@ impl Server {
             parts: Parts {
                 table,
                 media,
+                readers,
                 shared,
                 over: StopBell::new(),
-                readings: AtomicU64::new(0),
             },
             start: Start {
                 handle,
                 others,
                 lanes,
                 pacers,
-                readers,
+                is_short: false,
             },
             shown,
             last,
@@ -178,8 +177,8 @@ impl Server {
     }
 
     /// Runs the server until it has served as many connections as it was opened for, or the process is
-    /// asked to end, and joins all threads. Then no session lives in the last journal, so nothing is
-    /// held. `DeviceFailed` where the folder of the journal takes no file, or where it couldn't be told
+    /// asked to end, and joins all threads, but for those that read ahead: one that a disk holds up is left
+    /// behind. Then no session lives in the last journal, so nothing is held. `DeviceFailed` where the folder of the journal takes no file, or where it couldn't be told
     /// on which address the server listens.
     pub fn run<
         A: Announce,
@@ -190,7 +189,10 @@ impl Server {
             + rt::Clock
             + Files<File = File>
             + Eprint
-            + Sync,
+            + Copy
+            + Send
+            + Sync
+            + 'static,
     >(self, rt: &R, announcer: A, errors: E) -> Result<ServerEnd, ServerFault>
         ensures { IfOk result (λ end. IfSome end.book (λ k. book_of k.journal ≡ empty)) }
     {
@@ -199,7 +201,7 @@ impl Server {
         let Self {
             alloc,
             parts,
-            start,
+            mut start,
             shown,
             last,
             operation: _operation,
@@ -207,6 +209,7 @@ impl Server {
             address,
             connections: _,
         } = self;
+        start.is_short = !parts.start_readers(rt);
         let beside = Beside {
             signals: OwnStatus::open(rt).ok(),
             status,

@@ -9,7 +9,9 @@ use rtsp_content::Table;
 use rtsp_lock::BookHandle;
 use rtsp_metrics::AnswerCounters;
 use rtsp_sockets::LaneDecisions;
+use rtsp_threads::RoomLooks;
 use std::alloc::{AllocError, Global};
+use std::cell::Cell;
 use std::rt;
 use std::sync::Wait;
 
@@ -23,6 +25,8 @@ pub(crate) struct Service<'a, R> {
     pub(crate) answers: &'a AnswerCounters,
     pub(crate) lines: &'a LaneLines,
     pub(crate) recorded: &'a Recorded,
+    /// When the lane looks again for room in the journal, where it found none.
+    pub(crate) looks: &'a Cell<RoomLooks>,
     /// The number of the lane.
     pub(crate) lane: usize,
     pub(crate) now: u64,
@@ -49,11 +53,25 @@ impl<'a, R> Service<'a, R> {
 }
 
 impl<R: Wait + rt::Clock> Service<'_, R> {
-    /// Keeps the journal from filling, where the lane may have made entries since it did so last: the
-    /// look for that takes the lock of all lanes.
-    pub(crate) fn make_room(&self, lane: &mut BookHandle) {
-        if self.recorded.take() {
-            self.shared.make_room(self.rt, self.table, lane);
+    /// Keeps the journal from filling, and tells whether there is room for what a piece may record. The
+    /// look for that takes the lock of all lanes: the lane looks where it may have made entries since it
+    /// found room last, and where it found none it looks again a little later.
+    pub(crate) fn make_room(&self, lane: &mut BookHandle) -> bool {
+        let mut looks = self.looks.get();
+        if !looks.is_due(self.now) {
+            return false;
         }
+        if !self.recorded.take() {
+            return true;
+        }
+        let has_room = self.shared.make_room(self.rt, self.table, lane);
+        if has_room {
+            looks.find();
+        } else {
+            self.recorded.note();
+            looks.miss(self.now);
+        }
+        self.looks.set(looks);
+        has_room
     }
 }

@@ -14,7 +14,8 @@ use rtsp_shares::{ShareTable, Watermark};
 use rtsp_sockets::{Decisions, LENT_IN_ALL, Outlets, PortBinder, PortTable, SharedRoom};
 use rtsp_status::Halt;
 use rtsp_threads::{
-    FEW_LINES, Gate, LAST_ROOM, LOG_LINES, Refused, ScribeBell, StopBell, ask_for_room, make_room,
+    FEW_LINES, Gate, LAST_ROOM, LOG_LINES, Refused, ScribeBell, StopBell, ask_for_room, end_place,
+    make_room,
 };
 use std::alloc::{AllocError, Global};
 use std::net::Ipv4Addr;
@@ -96,8 +97,7 @@ impl Drop for Shared {
 }
 
 // What addresses have of the sessions, where each has at most so many. There is room for all that live
-// and for one more of each lane, and for as many that don't live any more: so it is seldom that these
-// have to be looked for.
+// and for one more of each lane, and for as many whose end nobody has told yet.
 fn session_shares(alloc: Global, numbers: Server) -> Result<Option<Mutex<ShareTable>>, AllocError> {
     let Some(share) = numbers.sessions_per_address else {
         return Ok(None);
@@ -179,16 +179,23 @@ impl Shared {
         PortBinder::new(rt, &self.ports, Ipv4Addr::UNSPECIFIED)
     }
 
-    /// Keeps the journal from filling, before a lane has a piece answered.
+    /// Keeps the journal from filling. Whether there is room for what a piece may record.
     pub(crate) fn make_room<R: Wait + rt::Clock>(
         &self,
         rt: &R,
         table: &Table,
         lane: &mut BookHandle,
-    ) {
+    ) -> bool {
         match &self.scribe {
             Some(scribe) => ask_for_room(rt, table, lane, scribe),
             None => make_room(rt, table, lane),
+        }
+    }
+
+    /// A session has ended: the place that its address had for it is given back.
+    pub(crate) fn end_place<R: Wait>(&self, rt: &R, session: u64) {
+        if let Some(places) = &self.session_shares {
+            end_place(rt, places, session);
         }
     }
 

@@ -9,8 +9,9 @@ use crossbeam_utils::CachePadded;
 use rtsp_content::Table;
 use rtsp_lock::{BookHandle, DrawnNumbers};
 use rtsp_metrics::AnswerCounters;
-use rtsp_threads::{Lane, LaneTurn};
+use rtsp_threads::{Lane, LaneTurn, RoomLooks};
 use std::alloc::Global;
+use std::cell::Cell;
 use std::fs::File;
 use std::net::Net;
 use std::rt::Files;
@@ -25,6 +26,7 @@ pub struct SocketLane {
     answers: Arc<CachePadded<AnswerCounters>>,
     lines: LaneLines,
     recorded: Recorded,
+    looks: Cell<RoomLooks>,
     clients: Clients,
     // Whether it has begun.
     stands: bool,
@@ -47,6 +49,7 @@ impl SocketLane {
             answers,
             lines: LaneLines::new(alloc),
             recorded: Recorded::new(),
+            looks: Cell::new(RoomLooks::new()),
             clients,
             stands: false,
         })
@@ -70,10 +73,11 @@ impl Lane<DrawnNumbers> for SocketLane {
             answers,
             lines,
             recorded,
+            looks,
             clients,
             ..
         } = self;
-        let told = clients.wait(rt, &shared.lanes, lines);
+        let told = clients.wait(rt, &shared.lanes, lines, looks.get());
         let now = clients.begin_turn(shared.now(rt));
         let service = Service {
             rt,
@@ -83,6 +87,7 @@ impl Lane<DrawnNumbers> for SocketLane {
             answers: &***answers,
             lines,
             recorded,
+            looks,
             lane: clients.number,
             now,
         };

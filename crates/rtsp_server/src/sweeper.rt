@@ -13,12 +13,13 @@ use std::rt;
 use std::sync::{Mutex, Wait};
 use std::time::Duration;
 
-// Ends the sessions that had expired at a moment, and tells of each. How many have ended.
+// Ends the sessions that had expired at a moment, gives the place of each back, and tells of it. How many
+// have ended.
 fn end_expired<R: Wait + Net + rt::Clock>(
     rt: &R,
     handle: &mut BookHandle,
     binder: &mut PortBinder<'_, R>,
-    log: &Log,
+    shared: &Shared,
     moment: u64,
 ) -> u64 {
     let mut ended = 0u64;
@@ -26,7 +27,8 @@ fn end_expired<R: Wait + Net + rt::Clock>(
         let Some(session) = end_next_expired(rt, handle, binder, moment) else {
             break;
         };
-        log.event(rt, Event::Expired { session });
+        shared.end_place(rt, session);
+        shared.log.event(rt, Event::Expired { session });
         ended = ended.saturating_add(1);
     }
     ended
@@ -79,8 +81,8 @@ fn begin_sweep<R: Wait>(rt: &R, watermark: &Mutex<Watermark>, now: u64) -> u64 {
 }
 
 /// Ends from time to time the sessions that had expired when all lanes had read what had come, until
-/// it is told to stop. After each sweep the places of all sessions that have ended by then, however they
-/// ended, are given back to their addresses. Then it forgets these sessions, and has those that live
+/// it is told to stop. After each sweep places are given back that are kept for sessions of whose end
+/// nobody told. Then it forgets the sessions that have ended, and has those that live
 /// restated where they have done much. So the journal is as long as what lives and what was done since.
 /// Where the journal is written to files, the thread that does that shortens it, and this one doesn't.
 /// Ports that others were found to have are tried again from each sweep on.
@@ -103,7 +105,7 @@ pub(crate) fn run_sweeper<R: Wait + Net + rt::Clock>(
         tell_media_failure(rt, &shared.counters, &shared.log);
         held.tell(rt, shared);
         shared.ports.forget_taken(rt);
-        let ended = end_expired(rt, &mut handle, &mut binder, &shared.log, moment);
+        let ended = end_expired(rt, &mut handle, &mut binder, shared, moment);
         if ended > 0 {
             shared.ends.note();
             shared.counters.expired(ended);

@@ -21,7 +21,6 @@ use std::fs::File;
 use std::io::{Eprint, Write};
 use std::net::{Net, SocketAddr};
 use std::rt::Files;
-use std::sync::atomic::{AtomicU64, Ordering};
 use std::sync::{Arc, Wait};
 use std::thread::Threads;
 use std::time::Duration;
@@ -30,12 +29,12 @@ use std::{net, rt, thread};
 // What all threads of a server are lent.
 pub(crate) struct Parts {
     pub(crate) table: Table,
-    pub(crate) media: Media,
+    pub(crate) media: Arc<Media>,
+    // Those that read ahead, where that is wanted.
+    pub(crate) readers: Vec<Reader>,
     pub(crate) shared: Arc<Shared>,
     // The bell of the thread that looks for signals, rung once nothing is waited for any more.
     pub(crate) over: StopBell,
-    // How many threads run that may wait for the disk of a track's file.
-    pub(crate) readings: AtomicU64,
 }
 
 // Written out, as that of `Shared` is.
@@ -44,9 +43,9 @@ impl Drop for Parts {
         let Self {
             table: _table,
             media: _media,
+            readers: _readers,
             shared: _shared,
             over: _over,
-            readings: _readings,
         } = self;
     }
 }
@@ -59,8 +58,8 @@ pub(crate) struct Start {
     pub(crate) others: Vec<BookHandle>,
     pub(crate) lanes: Vec<SocketLane>,
     pub(crate) pacers: Vec<OnePacer>,
-    // Those that read ahead, where that is wanted.
-    pub(crate) readers: Vec<Reader>,
+    // Whether a thread that reads ahead couldn't be made.
+    pub(crate) is_short: bool,
 }
 
 // Written out, as that of `Shared` is.
@@ -71,7 +70,7 @@ impl Drop for Start {
             others: _others,
             lanes: _lanes,
             pacers: _pacers,
-            readers: _readers,
+            is_short: _,
         } = self;
     }
 }
@@ -135,9 +134,9 @@ impl Parts {
         let Parts {
             table,
             media,
+            readers: _,
             shared,
             over: _,
-            readings,
         } = self;
         if let Some(bell) = shared.bells.as_slice().get(number) {
             let parts = PacerParts {
@@ -149,19 +148,11 @@ impl Parts {
                 bell,
                 decisions: &shared.decisions,
                 counters: &shared.counters,
+                log: &shared.log,
                 begun: shared.begun,
             };
-            readings.fetch_add(1, Ordering::Relaxed);
             pace(rt, alloc, parts, seat, plays);
-            readings.fetch_sub(1, Ordering::Relaxed);
         }
-    }
-
-    // The body of a thread that reads ahead.
-    fn read_ahead<R: Wait + rt::Clock>(&self, rt: &R, reader: Reader) {
-        self.readings.fetch_add(1, Ordering::Relaxed);
-        reader.run(rt, &self.media, self.shared.begun);
-        self.readings.fetch_sub(1, Ordering::Relaxed);
     }
 
     // The body of the sweeper's thread.
@@ -201,17 +192,13 @@ impl Parts {
         shared.lanes.standing() > 0
     }
 
-    // Which disk a stop waits for, if for one: the journal's, or a film's once the lanes are over.
+    // Which disk a stop waits for, if for one.
     pub(crate) fn waits_for<R: Wait + rt::Clock>(&self, rt: &R) -> Option<Event> {
         let shared = &self.shared;
         if let Some(bell) = &shared.scribe
             && bell.is_held_for(rt, STOP_TOLD_AFTER)
         {
             return Some(Event::StopWaitsForJournal);
-        }
-        let are_lanes_over = shared.stop_bell.wait(rt, Duration::ZERO);
-        if are_lanes_over && self.readings.load(Ordering::Relaxed) > 0 {
-            return Some(Event::StopWaitsForMedia);
         }
         None
     }
@@ -312,6 +299,7 @@ impl Parts {
                 return Err(ServerFault::NoThread);
             }
             let (scribe, served) = start.serve(self, rt, alloc, announcer, address, scribe);
+            self.leave_readers(rt);
             let ended = match served {
                 Ok(pool) => {
                     self.finish(rt, &mut last, scribe);
@@ -409,21 +397,16 @@ impl Start {
             mut others,
             lanes,
             pacers,
-            readers,
+            is_short,
         } = self;
         let (Some(sweeper), Some(own)) = (others.pop(), others.pop()) else {
             parts.stop_for_want_of_threads(rt);
             return (scribe, Err(ServerFault::NoThread));
         };
         thread::scope(thread::scope_env(), rt, move |scope| {
-            let mut missing = 0u64;
+            let mut missing = u64::from(is_short);
             for pacer in pacers {
                 if scope.spawn(move || parts.pace(rt, alloc, pacer)).is_err() {
-                    missing = missing.saturating_add(1);
-                }
-            }
-            for reader in readers {
-                if scope.spawn(move || parts.read_ahead(rt, reader)).is_err() {
                     missing = missing.saturating_add(1);
                 }
             }

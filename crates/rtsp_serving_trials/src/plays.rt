@@ -14,6 +14,7 @@ use rtsp_book::Step;
 use rtsp_content::Table;
 use rtsp_engine::{Binder, Plays};
 use rtsp_lock::{BookLock, BookSeat, open};
+use rtsp_log::Log;
 use rtsp_metrics::Counters;
 use rtsp_pacing::{Bells, NotedPlays, Paced, PacerParts, PacerPlays, pace};
 use rtsp_record::{Phase, Whole};
@@ -346,6 +347,7 @@ fn paced<R: Threads + Wait + Clock + AllocGlobal + Sync>(
         stage,
     } = served;
     let counters = Counters::new();
+    let log = Log::new(rt.alloc(), 1, false).ok()?;
     let parts = PacerParts {
         lock,
         table,
@@ -355,6 +357,7 @@ fn paced<R: Threads + Wait + Clock + AllocGlobal + Sync>(
         bell: stage.bells.of(2)?,
         decisions: &stage.decisions,
         counters: &counters,
+        log: &log,
         begun,
     };
     let plays = PacerPlays::open(rt.alloc(), 4).ok()?;

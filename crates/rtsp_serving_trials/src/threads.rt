@@ -6,12 +6,12 @@ use rtsp_content::{Operation, Table};
 use rtsp_engine::{ShareSpent, Shares};
 use rtsp_lock::{BookHandle, open_book};
 use rtsp_log::Log;
-use rtsp_shares::ShareTable;
+use rtsp_shares::{NoPlace, ShareTable};
 use rtsp_sockets::{PortBinder, PortTable};
 use rtsp_threads::{
-    Gate, LaneShares, OwnStatus, Refused, Scribe, ScribeBell, StopAsked, StopBell, ask_for_room,
-    close_book, descriptor_limit, end_expired, end_next_expired, give_back_ended, make_room,
-    take_leave,
+    Gate, LaneShares, OwnStatus, Refused, RoomLooks, RoomWait, Scribe, ScribeBell, StopAsked,
+    StopBell, ask_for_room, close_book, descriptor_limit, end_expired, end_next_expired, end_place,
+    give_back_ended, make_room, take_leave,
 };
 use std::alloc::{AllocError, Global};
 use std::fs::{self, File};
@@ -125,6 +125,25 @@ fn a_session_that_has_ended_leaves_its_place(rt: HostRuntime) {
     assert!(rt; leaves_its_place(&rt) == Some(true));
 }
 
+// Whether the only place of an address is had again once its session is told to have ended, and not once
+// another one is.
+fn is_had_again<R: Wait + AllocGlobal>(rt: &R) -> Option<bool> {
+    let mut table = ShareTable::new(rt.alloc(), 1, 8).ok()?;
+    let is_taken = table.take(7).is_ok();
+    table.keep(7, 1_000);
+    let places = Mutex::new(table);
+    end_place(rt, &places, 1_001);
+    let is_in_use = places.lock(rt).take(7) == Err(NoPlace::Share);
+    end_place(rt, &places, 1_000);
+    let is_free = places.lock(rt).take(7).is_ok();
+    Some(is_taken && is_in_use && is_free)
+}
+
+#[test]
+fn whoever_ends_a_session_gives_its_place_back(rt: HostRuntime) {
+    assert!(rt; is_had_again(&rt) == Some(true));
+}
+
 // How many places are left of three, once those are given back whose sessions don't live: two are kept
 // for such, and one is held.
 fn left_of_three<R: Wait + AllocGlobal>(rt: &R) -> Option<usize> {
@@ -132,7 +151,7 @@ fn left_of_three<R: Wait + AllocGlobal>(rt: &R) -> Option<usize> {
     let places = Mutex::new(ShareTable::new(rt.alloc(), 3, 8).ok()?);
     for session in [Some(1_000), None, Some(1_001)] {
         let mut places = places.lock(rt);
-        places.take(7);
+        let _ = places.take(7);
         if let Some(session) = session {
             places.keep(7, session);
         }
@@ -153,7 +172,12 @@ fn ends_nobody<R: Net + Wait>(
     mut handle: BookHandle,
     binder: &mut PortBinder<'_, R>,
 ) -> bool {
-    let has_ended = take_leave(rt, &mut handle, binder, 1);
+    let Some(mut lane) = handle.split(rt) else {
+        return false;
+    };
+    let mut shares = LaneShares::new(rt, None, &mut lane);
+    let has_ended = take_leave(rt, &mut handle, binder, 1, &mut shares);
+    drop(lane);
     let ended = end_expired(rt, &mut handle, binder, 9);
     let next = end_next_expired(rt, &mut handle, binder, 9);
     !has_ended && ended == 0 && next.is_none() && close_book(rt, handle, binder).is_some()
@@ -201,11 +225,43 @@ fn a_turn_is_timed(rt: HostRuntime) {
     assert!(rt; rests && works && !bell.is_held_for(&rt, 0));
 }
 
-// There is room in an empty book, so nobody is waited for.
-fn has_room<R: Wait + Clock>(rt: &R, table: &Table, handle: &mut BookHandle, bell: &ScribeBell) {
-    make_room(rt, table, handle);
+#[test]
+fn a_wait_for_room_ends(rt: HostRuntime) {
+    let mut wait = RoomWait::new();
+    let waits_not = !wait.is_begun() && !wait.is_over(u64::MAX);
+    wait.begin(5);
+    wait.begin(9);
+    let waits = wait.is_begun() && !wait.is_over(5 + 126) && wait.is_over(5 + 127);
+    wait.end();
+    assert!(rt; waits_not && waits && !wait.is_begun());
+}
+
+#[test]
+fn looks_for_room_are_spaced(rt: HostRuntime) {
+    let mut looks = RoomLooks::new();
+    let mut now = 100u64;
+    let mut waited = looks.patience(now);
+    for pause in [1, 2, 4, 8, 8] {
+        looks.miss(now);
+        assert!(rt; looks.patience(now) == pause && !looks.is_due(now));
+        waited = waited.saturating_add(pause);
+        now = now.saturating_add(pause);
+        assert!(rt; looks.is_due(now));
+    }
+    looks.find();
+    assert!(rt; waited == 23 && looks.is_due(0));
+}
+
+// Whether there is room, in a book that is empty, for a lane that asks by itself or a scribe.
+fn has_room<R: Wait + Clock>(
+    rt: &R,
+    table: &Table,
+    handle: &mut BookHandle,
+    bell: &ScribeBell,
+) -> bool {
+    let is_made = make_room(rt, table, handle);
     handle.keep_entries();
-    ask_for_room(rt, table, handle, bell);
+    is_made && ask_for_room(rt, table, handle, bell)
 }
 
 fn scribe_of<R: Files<File = File> + AllocGlobal>(rt: &R) -> Option<Scribe> {
@@ -236,7 +292,9 @@ fn written_at_end<R: Files<File = File> + Wait + Clock + AllocGlobal>(
     let table = tone(rt.alloc(), "")?;
     let mut handle = empty_book(rt.alloc())?;
     let bell = ScribeBell::new();
-    has_room(rt, &table, &mut handle, &bell);
+    if !has_room(rt, &table, &mut handle, &bell) {
+        return None;
+    }
     let length = length_at_end(rt, &mut handle, &bell)?;
     Some([length, handle.tally(rt).entries])
 }

@@ -1,10 +1,11 @@
 //! A presentation of two tracks, both of one file with eight units of two bytes.
 
 use rtsp_content::Table;
-use rtsp_sockets::{Media, MediaFault};
+use rtsp_sockets::{Media, MediaFault, NotTaken};
 use std::alloc::Global;
 use std::fs::{self, File};
 use std::rt::Files;
+use std::sync::Wait;
 
 /// The units' bytes.
 pub const UNITS: &[u8; 16] = b"aabbccddeeffgghh";
@@ -57,23 +58,23 @@ fn tells_of_faults<R: Files<File = File> + AllocGlobal>(
     Some([missing, short] == [Some(MediaFault::Unreadable), Some(MediaFault::WrongLength)])
 }
 
-fn unit_of(media: &Media, track: u16, number: u32) -> Result<[u8; 2], MediaFault> {
+fn unit_of<R: Wait>(rt: &R, media: &Media, track: u16, number: u32) -> Result<[u8; 2], NotTaken> {
     let mut unit = [0; 2];
-    media.octets(0, track, number, &mut unit)?;
+    media.take(rt, 0, track, number, 0, &mut unit)?;
     Ok(unit)
 }
 
 // Whether units of both tracks are found, and none behind the last one and of no track.
-fn has_its_units(media: &Media) -> bool {
-    unit_of(media, 1, 7) == Ok(*b"hh")
-        && unit_of(media, 0, 0) == Ok(*b"aa")
-        && unit_of(media, 0, 8) == Err(MediaFault::Unreadable)
-        && unit_of(media, 2, 0) == Err(MediaFault::Unreadable)
+fn has_its_units<R: Wait>(rt: &R, media: &Media) -> bool {
+    unit_of(rt, media, 1, 7) == Ok(*b"hh")
+        && unit_of(rt, media, 0, 0) == Ok(*b"aa")
+        && unit_of(rt, media, 0, 8) == Err(NotTaken::Unreadable)
+        && unit_of(rt, media, 2, 0) == Err(NotTaken::Unreadable)
 }
 
-fn media_is_read<R: Files<File = File> + AllocGlobal>(rt: &R, path: &str) -> Option<bool> {
+fn media_is_read<R: Files<File = File> + AllocGlobal + Wait>(rt: &R, path: &str) -> Option<bool> {
     let table = tone(rt.alloc(), path)?;
-    Some(tells_of_faults(rt, &table, path)? && has_its_units(&media_of(rt, &table, path)?))
+    Some(tells_of_faults(rt, &table, path)? && has_its_units(rt, &media_of(rt, &table, path)?))
 }
 
 #[test]

@@ -1,14 +1,30 @@
 -- The places that are kept for something with a number, and how they are looked for.
-use Rattle.std.specs.Prelude.{◌≡◌, ⊤, ℕ, ◌+◌, ◌≤◌, ◌<◌, List, Option, Some, None, slice_get, min}
+use Rattle.std.specs.Prelude.{◌≡◌, ⊤, ℕ, ◌+◌, ◌≤◌, ◌<◌, List, [], ◌∷◌, Option, Some, None, slice_get, min}
 use Rattle.rtsp_shares.specs.declared.place.Place.{Place}
 use Rattle.rtsp_shares.specs.declared.kept_place.KeptPlace.{KeptPlace}
 use Rattle.rtsp_shares.specs.declared.search.Search.{Search}
 use Rattle.rtsp_shares.specs.declared.search.TheConstants.{LOOKS}
-use Rattle.rtsp_shares.specs.Places.{Places, places_of}
+use Rattle.rtsp_shares.specs.Places.{Places, places_of, SameLimits, Exchanges}
 
 -- the place of an address that is kept for a number
 abbrev pub kept : ℕ → ℕ → Place
 kept address number = record { address = address; number = Some number }
+
+-- at an index stands a place that is kept for this number, of some address
+abbrev pub IsKeptAt : ℕ → List Place → ℕ → Type 0
+IsKeptAt number places at = (address : ℕ) × (slice_get places at ≡ Some (kept address number))
+
+-- a place is kept for this number
+pub record HasKept (number : ℕ) (places : List Place) : Type 0 where
+  pub at : ℕ
+  pub address : ℕ
+  pub there : slice_get places at ≡ Some (kept address number)
+
+-- a place that was kept for this number is gone, and none else
+pub record GivesBackKept (number : ℕ) (old new : Places) : Type 0 where
+  pub limits : SameLimits old new
+  pub address : ℕ
+  pub gone : Exchanges old.taken new.taken (kept address number ∷ []) []
 
 -- a place that was found stands where it was
 abbrev pub Stands : KeptPlace → List Place → Type 0

@@ -1,6 +1,8 @@
 -- The places that addresses have taken, and how they change.
-use Rattle.std.specs.Prelude.{◌≡◌, ℕ, ◌+◌, ◌≤◌, ◌==◌, Bool, List, length, count_by, Some, None, slice_get}
+use Rattle.std.specs.Prelude.{◌≡◌, ℕ, ◌+◌, ◌≤◌, ◌<◌, ◌==◌, Bool, List, length, count_by, Some, None, slice_get}
 use Rattle.rtsp_shares.specs.declared.place.Place.{Place}
+use Rattle.rtsp_shares.specs.declared.no_place.NoPlace.{NoPlace}
+use Rattle.rtsp_shares.specs.declared.no_place.NoPlace.TheVariants.{Share, Full}
 
 -- the places that are taken, how many of one address there may be, and of all
 pub record Places : Type 0 where
@@ -25,6 +27,16 @@ pub record HasHeld (address : ℕ) (places : List Place) : Type 0 where
 pub record ArePlacesWithin (places : Places) : Type 0 where
   pub share : (address : ℕ) → places_of address places.taken ≤ places.share
   pub most : length places.taken ≤ places.most
+
+-- an address may take one more
+pub record HasRoom (address : ℕ) (places : Places) : Type 0 where
+  pub share : places_of address places.taken < places.share
+  pub most : length places.taken < places.most
+
+-- why an address gets no place: as many of its own as its share are in use, or else all are that there may be
+abbrev pub Lacks : ℕ → Places → NoPlace → Type 0
+Lacks address places Share = places.share ≤ places_of address places.taken
+Lacks address places Full = (places_of address places.taken < places.share) × (places.most ≤ length places.taken)
 
 -- how many there may be stays
 pub record SameLimits (old new : Places) : Type 0 where

@@ -92,7 +92,7 @@ impl Headcount {
         match &mut self.inside {
             Inside::All(count) => *count += 1,
             Inside::Each(places) => {
-                if !places.take(address) {
+                if places.take(address).is_err() {
                     return Err(Refused::Share);
                 }
             }

@@ -1,8 +1,8 @@
 //! Whose places are asked about, so that an address may have one more.
 
 /// The most places of an address that one who asks for one more has asked about, where its share is
-/// spent.
-pub const LOOKS: usize = 16;
+/// spent. Whoever ends what a place is kept for gives it back, so seldom is one found.
+pub const LOOKS: usize = 1;
 
 /// Whose places are to be asked about, and how many of them at most.
 #[derive(Clone, Copy, PartialEq, Eq)]

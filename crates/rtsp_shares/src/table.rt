@@ -1,12 +1,13 @@
 //! The places that addresses have taken.
 
-ghost use Rattle.std.specs.Prelude.{◌≡◌, ◌++◌, ◌∷◌, ◌≤◌, ◌<◌, ◌⊎◌, ◌↔◌, [], length, IsTrue, IfOk, IfSome, IfNone, slice_get, Some, None};
+ghost use Rattle.std.specs.Prelude.{◌≡◌, ◌++◌, ◌∷◌, ◌<◌, ◌↔◌, [], length, IsTrue, IfOk, IfErr, OnOk, OnErr, IfSome, IfNone, slice_get, Some, None};
 ghost use Rattle.std.specs.Bool.{OnTrue, OnFalse};
 ghost use Rattle.rtsp_shares.specs.declared.place.Place.{Place};
-ghost use Rattle.rtsp_shares.specs.Places.{places_of, held, HasHeld, SameLimits, Exchanges};
-ghost use Rattle.rtsp_shares.specs.Keeping.{kept, Stands, IsOf, NoneKept, IsLastBelow, IsFound, IsSearch};
+ghost use Rattle.rtsp_shares.specs.Places.{places_of, held, HasHeld, HasRoom, Lacks, SameLimits, Exchanges};
+ghost use Rattle.rtsp_shares.specs.Keeping.{kept, HasKept, IsKeptAt, GivesBackKept, Stands, IsOf, NoneKept, IsLastBelow, IsFound, IsSearch};
 
 use crate::kept_place::{EndedPlace, KeptPlace};
+use crate::no_place::NoPlace;
 use crate::place::Place;
 use crate::search::{LOOKS, Search};
 use std::alloc::{AllocError, Global};
@@ -57,6 +58,21 @@ fn held_at(places: &[Place], address: u32) -> Option<usize>
     while at > 0 {
         at -= 1;
         if places[at].address == address && places[at].number.is_none() {
+            return Some(at);
+        }
+    }
+    None
+}
+
+// The index of a place that is kept for a number: of several, the last one in the table.
+fn kept_at(places: &[Place], number: u64) -> Option<usize>
+    ensures there { IfSome result (IsKeptAt number places.now) }
+    ensures none { IfNone result (HasKept number places.now → ⊥) }
+{
+    let mut at = places.len();
+    while at > 0 {
+        at -= 1;
+        if places[at].number == Some(number) {
             return Some(at);
         }
     }
@@ -125,28 +141,36 @@ impl ShareTable {
         self.taken.len()
     }
 
-    // Whether an address may have one more.
-    fn has_room(&self, address: u32) -> bool
-        ensures { IsTrue result ↔ (places_of address self.now.taken < self.now.share) × (length self.now.taken < self.now.most) }
+    // Why an address gets no place, if it gets none.
+    fn lacks(&self, address: u32) -> Option<NoPlace>
+        ensures lacks { IfSome result (Lacks address self.now) }
+        ensures room { IfNone result (HasRoom address self.now) }
     {
-        places_of(&self.taken, address) < self.share && self.taken.len() < self.most
+        if places_of(&self.taken, address) >= self.share {
+            Some(NoPlace::Share)
+        } else if self.taken.len() >= self.most {
+            Some(NoPlace::Full)
+        } else {
+            None
+        }
     }
 
-    /// An address takes a place, if its share isn't spent and the table isn't full, and whoever took it
-    /// holds it. Each place that is taken has to be given back, or kept for what it was taken for.
-    pub fn take(&mut self, address: u32) -> bool
-        ensures taken { OnTrue result (self.new ≡ record self.old { taken = self.old.taken ++ held address ∷ [] }) }
-        ensures refused { OnFalse result (self.new ≡ self.old) }
-        ensures spent { OnFalse result ((self.old.share ≤ places_of address self.old.taken) ⊎ (self.old.most ≤ length self.old.taken)) }
+    /// An address takes a place, and whoever took it holds it. It is refused where as many of its places
+    /// as its share are in use, or else where all that there are for addresses are. Each place that is
+    /// taken has to be given back, or kept for what it was taken for.
+    pub fn take(&mut self, address: u32) -> Result<(), NoPlace>
+        ensures taken { OnOk result (self.new ≡ record self.old { taken = self.old.taken ++ held address ∷ [] }) }
+        ensures refused { OnErr result (self.new ≡ self.old) }
+        ensures in_use { IfErr result (Lacks address self.old) }
     {
-        if !self.has_room(address) {
-            return false;
+        if let Some(why) = self.lacks(address) {
+            return Err(why);
         }
         self.taken.push_reserved(Place {
             address,
             number: None,
         });
-        true
+        Ok(())
     }
 
     // Drops the place at an index, where the last one comes to stand.
@@ -194,6 +218,19 @@ impl ShareTable {
                 },
             );
         }
+    }
+
+    /// What has this number has ended: the place that is kept for it is given back. Whether one was kept.
+    pub fn end(&mut self, number: u64) -> bool
+        ensures kept { IsTrue result ↔ HasKept number self.old.taken }
+        ensures given { OnTrue result (GivesBackKept number self.old self.new) }
+        ensures none { OnFalse result (self.new ≡ self.old) }
+    {
+        let Some(ended) = kept_at(&self.taken, number) else {
+            return false;
+        };
+        self.drop_at(ended);
+        true
     }
 
     /// Whose places are to be asked about, so that an address may have one more: its own where its share

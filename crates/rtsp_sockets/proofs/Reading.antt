@@ -2,7 +2,7 @@
 use Rattle.std.proofs.Common.{◌≡◌, ◌≤◌, ℕ, ◌+◌, ◌-◌, ◌*◌, List, Option, Some, Result, Ok, Err, ◌∙◌, ap, subst, sym, take, drop, take-take, length, arith}
 use Rattle.std.specs.Prelude.{slice_range, slice_get, None, IfSome, IfNone, OnOk, unwrap_or}
 use Rattle.std.specs.Global.{Vec}
-use Rattle.std.proofs.lemmas.List.{drop-take}
+use Rattle.std.proofs.lemmas.List.{drop-drop, drop-take}
 use Rattle.rtsp_sockets.specs.declared.media.Place.{Place}
 use Rattle.rtsp_sockets.specs.Files.{StandAt}
 use Rattle.rtsp_sockets.specs.Media.{IsPlaceOf, StandInFile}
@@ -18,6 +18,30 @@ front xs n at m within =
 -- what stands at a place of what is held stands there in the file
 pub stand_held : (text : Option (List ℕ)) (bytes : List ℕ) (at : ℕ) (out : List ℕ) → StandAt text 0 bytes → at + length out ≤ length bytes → out ≡ slice_range bytes at (at + length out) → StandAt text at out
 stand_held text bytes at out held within there file known = there ∙ ap (λ l. slice_range l at (at + length out)) (held file known) ∙ front file (length bytes) at (length out) within
+
+-- a range within a range is a range of the whole
+inner : (xs : List ℕ) (base n at m : ℕ) → at + m ≤ n → slice_range (slice_range xs base (base + n)) at (at + m) ≡ slice_range xs (base + at) (base + at + m)
+inner xs base n at m within =
+    let all : (base + n) - base ≡ at + (n - at) = omega arith in
+    let some : (base + at + m) - (base + at) ≡ (at + m) - at = omega arith in
+    ap (λ k. take ((at + m) - at) (drop at (take k (drop base xs)))) all
+    ∙ ap (take ((at + m) - at)) (drop-take at (n - at) (drop base xs))
+    ∙ take-take ((at + m) - at) (n - at) (drop at (drop base xs)) (omega arith)
+    ∙ ap (take ((at + m) - at)) (drop-drop at base xs)
+    ∙ ap (λ k. take k (drop (base + at) xs)) (sym some)
+
+-- what stands at a place of what is kept, which stands at a place itself, stands behind that in the file
+stand_behind : (text : Option (List ℕ)) (bytes : List ℕ) (base at : ℕ) (out : List ℕ) → StandAt text base bytes → at + length out ≤ length bytes → out ≡ slice_range bytes at (at + length out) → StandAt text (base + at) out
+stand_behind text bytes base at out kept within there file known = there ∙ ap (λ l. slice_range l at (at + length out)) (kept file known) ∙ inner file base (length bytes) at (length out) within
+
+-- the same of a copy that may have failed
+pub read_kept : {A E : Type 0} (r : Result A E) (text : Option (List ℕ)) (bytes : List ℕ) (base at n : ℕ) (out : List ℕ) → StandAt text base bytes → base ≤ at → length out ≡ n
+    → OnOk r ((at - base) + n ≤ length bytes) → OnOk r (out ≡ slice_range bytes (at - base) ((at - base) + n)) → OnOk r (StandAt text at out)
+read_kept (Ok x) text bytes base at n out kept from size within there =
+    let place : base + (at - base) ≡ at = omega arith in
+    subst (λ p. StandAt text p out) place
+    (stand_behind text bytes base (at - base) out kept (subst (λ k. (at - base) + k ≤ length bytes) (sym size) within) (subst (λ k. out ≡ slice_range bytes (at - base) ((at - base) + k)) (sym size) there))
+read_kept (Err e) text bytes base at n out kept from size within there = tt
 
 -- the same of a read that may have failed
 pub read_held : {A E : Type 0} (r : Result A E) (text : Option (List ℕ)) (bytes : List ℕ) (at n : ℕ) (out : List ℕ) → StandAt text 0 bytes → length out ≡ n

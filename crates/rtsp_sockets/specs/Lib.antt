@@ -5,6 +5,7 @@ pub mod Slots
 pub mod SourceWords
 pub mod Clocks
 pub mod Files
+pub mod Cuts
 pub mod Media
 pub mod Asking
 pub mod Wishes

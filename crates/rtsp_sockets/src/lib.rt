@@ -5,19 +5,22 @@
 //! `outlets` are those of all connections. `frame_room` is how much of a stream may wait, `loan` what
 //! a connection has of room that all share. `ports` are the sockets of ports that are bound, and `taken`
 //! those that others have. `words` and `clock` are the system's words and moments, `decisions` what lanes
-//! are deciding on, `media` the files of the tracks. Where these aren't held
-//! in memory, a `reader` reads them ahead, by `chunks` that are `wanted`.
+//! are deciding on.
+//!
+//! `media` are the files of the tracks. Where these aren't held in memory, the readers of each `disk` read
+//! them ahead (`reader`), by cuts of a file (`cut`) that are `wanted`. What was read is `kept` on the
+//! `shelf`, from which units are taken (`taking`).
 
 #![tactic(auto)]
 
-mod at_hand;
 mod bound;
-mod chunk_marks;
-mod chunks;
 mod clock;
+mod cut;
 mod decisions;
+mod disk;
 mod drawing;
 mod frame_room;
+mod kept;
 mod loan;
 mod media;
 mod media_file;
@@ -31,8 +34,11 @@ mod ports;
 mod put;
 mod read_at;
 mod reader;
+mod shelf;
 mod slots;
+mod spaces;
 mod taken;
+mod taking;
 mod try_write;
 mod unit;
 mod wanted;
@@ -41,9 +47,10 @@ mod words;
 
 pub use clock::{PieceClock, RunningClock};
 pub use decisions::{Decisions, LaneDecisions};
+pub use disk::READERS;
 pub use frame_room::{FrameRoom, LENT_IN_ALL, MOST_ROOM};
 pub use loan::{Loan, SharedRoom};
-pub use media::{HELD_LIMIT, Media, MediaFault, MediaOf};
+pub use media::{HELD_LIMIT, Media, MediaFault, MediaOf, TrackPlace};
 pub use message::{ALL_ROOM, FRAME_ROOM, Message};
 pub use options::{FIRST_SEND_BUFFER, SEND_BUFFER, prepare};
 pub use outlet::{Outlet, SLOW_LIMIT, STALL_LIMIT};
@@ -52,5 +59,6 @@ pub use port_binder::PortBinder;
 pub use ports::{PortSockets, PortTable};
 pub use put::Put;
 pub use read_at::ReadAt;
-pub use reader::{READERS, Reader};
+pub use reader::Reader;
+pub use taking::NotTaken;
 pub use words::{RandomWords, SourceWords};

@@ -1,24 +1,27 @@
 //! The files of the tracks.
 
-ghost use Rattle.std.specs.Prelude.{◌≡◌, length, IfSome, IfNone, IsOk, OnOk, option_copied, slice_get};
+ghost use Rattle.std.specs.Prelude.{◌≡◌, ◌/◌, max, IfSome, IfNone, option_copied, slice_get};
 ghost use Rattle.rtsp_sockets.specs.declared.media.Place.{Place};
-ghost use Rattle.rtsp_sockets.specs.Media.{IsPlaceOf, StandInFile, IsUnitHeld};
+ghost use Rattle.rtsp_sockets.specs.Media.{IsPlaceOf};
 
+use crate::cut::cut_len;
+use crate::disk::Disk;
 use crate::media_file::MediaFile;
 use crate::read_at::ReadAt;
-use crate::wanted::Wanted;
+use crate::shelf::Shelf;
 use rtsp_content::{Presentation, Table, Track};
 use std::alloc::{AllocError, Global};
 use std::fs::File;
 use std::rt::Files;
 use thiserror::Error;
 
-/// Files that have fewer bytes than this together are held in memory: 256 MiB. Otherwise each unit
-/// is read from its file when it is sent, and files are read ahead by threads of their own.
+/// Files that have fewer bytes than this together are held in memory: 256 MiB. Otherwise they are read
+/// ahead by threads of their own, and what was read is kept for a while.
 pub const HELD_LIMIT: u64 = 256 * 1024 * 1024;
 
-// How many chunks may wait to be read. Who finds no room asks anew.
-const WISHES: usize = 4_096;
+// What is kept has room for so many bytes at least, 64 MiB, and for two seconds of the uplink: all plays
+// together send no more than that, and of each little more than one second is kept.
+const LEAST_KEPT: u64 = 64 * 1024 * 1024;
 
 /// Media that can't be had.
 #[derive(Clone, Copy, Debug, PartialEq, Eq, Error)]
@@ -39,11 +42,19 @@ impl From<AllocError> for MediaFault {
     }
 }
 
-// Where the units of a track are: in which file, and how long each is.
+// Where the units of a track are: in which file, how long each is, and how much is read at once.
 #[derive(Clone, Copy)]
 pub(crate) struct Place {
     pub(crate) file: usize,
     pub(crate) octets: u16,
+    pub(crate) step: u64,
+}
+
+/// A track, by the place of its presentation in the configuration and its own place there.
+#[derive(Clone, Copy, Debug, PartialEq, Eq)]
+pub struct TrackPlace {
+    pub presentation: u16,
+    pub track: u16,
 }
 
 /// The media of all tracks. Tracks that name one file share it.
@@ -52,12 +63,20 @@ pub struct MediaOf<F: ReadAt> {
     pub(crate) files: Vec<MediaFile<F>>,
     // The places of the tracks of each presentation, in the order of the configuration.
     places: Vec<Vec<Place>>,
-    // The chunks that are to be read ahead.
-    pub(crate) wanted: Wanted,
+    // The disks that files are on which aren't held in memory, and what was read ahead of these.
+    pub(crate) disks: Vec<Disk>,
+    pub(crate) shelf: Shelf<F>,
 }
 
 /// The media of files of the system.
 pub type Media = MediaOf<File>;
+
+// For how many bytes what is kept has room, where the uplink has so many bits per second.
+fn kept_limit(uplink: u64) -> u64
+    ensures { result ≡ max (uplink / 4) LEAST_KEPT }
+{
+    (uplink / 4).max(LEAST_KEPT)
+}
 
 // How many bytes the file of a track has.
 fn len_of(presentation: &Presentation, track: &Track) -> u64 {
@@ -75,17 +94,20 @@ impl MediaOf<File> {
         let mut media = MediaOf {
             files: Vec::new(alloc),
             places: Vec::new(alloc),
-            wanted: Wanted::new(alloc, 0)?,
+            disks: Vec::new(alloc),
+            shelf: Shelf::open(alloc, kept_limit(table.server().uplink))?,
         };
         let mut paths = Vec::new(alloc);
         for presentation in table.presentations() {
             let mut places = Vec::new(alloc);
             for track in presentation.tracks() {
-                let file = media.file_of(rt, alloc, &mut paths, presentation, track)?;
-                let octets = track.octets();
-                places
-                    .push(Place { file, octets })
-                    .map_err(AllocError::from)?;
+                let file = media.file_of(rt, &mut paths, presentation, track)?;
+                let place = Place {
+                    file,
+                    octets: track.octets(),
+                    step: cut_len(track.octets(), presentation.unit_ms().ms()),
+                };
+                places.push(place).map_err(AllocError::from)?;
             }
             media.places.push(places).map_err(AllocError::from)?;
         }
@@ -97,7 +119,6 @@ impl MediaOf<File> {
     fn file_of<'t, R: Files<File = File>>(
         &mut self,
         rt: &R,
-        alloc: Global,
         paths: &mut Vec<&'t str>,
         presentation: &Presentation,
         track: &'t Track,
@@ -111,7 +132,7 @@ impl MediaOf<File> {
             };
         }
         let place = self.files.len();
-        let file = MediaFile::open(rt, alloc, path, len)?;
+        let file = MediaFile::open(rt, path, len)?;
         self.files.push(file).map_err(AllocError::from)?;
         paths.push(path).map_err(AllocError::from)?;
         Ok(place)
@@ -138,10 +159,12 @@ impl<F: ReadAt> MediaOf<F> {
             }
             return Ok(());
         }
-        for file in &mut self.files {
-            file.mark_chunks(alloc)?;
+        for file in &self.files {
+            if !self.disks.iter().any(|disk| disk.is(file.device)) {
+                let disk = Disk::new(alloc, file.device)?;
+                self.disks.push(disk).map_err(AllocError::from)?;
+            }
         }
-        self.wanted = Wanted::new(alloc, WISHES)?;
         Ok(())
     }
 
@@ -167,25 +190,16 @@ impl<F: ReadAt> MediaOf<F> {
     {
         self.files.get(place)
     }
-
-    /// Fills `out` with the octets of a unit of a track. Presentation and track are named by their
-    /// places in the configuration.
-    pub fn octets(
-        &self,
-        presentation: usize,
-        track: u16,
-        unit: u32,
-        out: &mut [u8],
-    ) -> Result<(), MediaFault>
-        ensures ok { OnOk result (StandInFile (λ file. F.text file.file) self.now.files.items self.now.places.items presentation track unit out.new) }
-        ensures held { IsUnitHeld (λ file. file.held) self.now.files.items self.now.places.items presentation track unit (length out.old) → IsOk result }
-    {
-        let Some(place) = self.place(presentation, track) else {
-            return Err(MediaFault::Unreadable);
-        };
-        let Some(file) = self.file(place.file) else {
-            return Err(MediaFault::Unreadable);
-        };
-        file.octets(u64::from(unit) * u64::from(place.octets), out)
+    // The first track whose units are in a file.
+    pub(crate) fn track_of(&self, file: usize) -> Option<TrackPlace> {
+        for (presentation, places) in self.places.iter().enumerate() {
+            if let Some(track) = places.iter().position(|place| place.file == file) {
+                return Some(TrackPlace {
+                    presentation: u16::try_from(presentation).ok()?,
+                    track: u16::try_from(track).ok()?,
+                });
+            }
+        }
+        None
     }
 }

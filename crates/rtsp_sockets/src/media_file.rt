@@ -1,16 +1,15 @@
 //! The file of a track.
 
-ghost use Rattle.std.specs.Prelude.{◌≡◌, ◌≤◌, ◌+◌, ℕ, length, Some, OnOk, IfOk, IfSome, IsOk, IsSome, IsTrue};
+ghost use Rattle.std.specs.Prelude.{◌≡◌, ◌≤◌, ◌+◌, ℕ, length, Some, OnOk, OnErr, IfOk, IsOk};
 ghost use Rattle.std.specs.Global.{Vec};
 ghost use Rattle.rtsp_sockets.specs.Files.{StandAt, Holds};
 
-use crate::chunk_marks::ChunkMarks;
-use crate::chunks::{CHUNK, Chunks, chunk_count, chunk_len};
 use crate::media::MediaFault;
 use crate::read_at::ReadAt;
 use crate::unit::copy_unit;
 use std::alloc::Global;
 use std::fs::File;
+use std::os::unix::fs::MetadataExt;
 use std::rt::Files;
 
 // The file of a track.
@@ -20,16 +19,15 @@ pub(crate) struct MediaFile<F: ReadAt> {
     pub(crate) len: u64,
     // All of it, where it is held in memory.
     pub(crate) held: Option<Vec<u8>>,
-    // What is known of its chunks, where it isn't.
-    pub(crate) marks: ChunkMarks,
-    ghost whole: { (bytes : Vec ℕ) → held ≡ Some bytes → StandAt (F.text file) 0 bytes.items },
+    // The number of the disk that it is on, as the system has it.
+    pub(crate) device: u64,
+    ghost whole: { (bytes : Vec ℕ) → held ≡ Some bytes → StandAt (F.text (F.number file)) 0 bytes.items },
 }
 
 impl MediaFile<File> {
     // Opens a file that has to have so many bytes.
     pub(crate) fn open<R: Files<File = File>>(
         rt: &R,
-        alloc: Global,
         path: &str,
         len: u64,
     ) -> Result<MediaFile<File>, MediaFault>
@@ -44,7 +42,7 @@ impl MediaFile<File> {
             file,
             len,
             held: None,
-            marks: ChunkMarks::new(alloc, 0)?,
+            device: metadata.dev(),
         })
     }
 }
@@ -62,42 +60,13 @@ impl<F: ReadAt> MediaFile<F> {
         self.held = Some(bytes);
         Ok(())
     }
-
-    // Marks the chunks from now on, since it isn't held in memory.
-    pub(crate) fn mark_chunks(&mut self, alloc: Global) -> Result<(), MediaFault>
-        ensures file { self.new.file ≡ self.old.file }
-        ensures len { self.new.len ≡ self.old.len }
-        ensures held { self.new.held ≡ self.old.held }
+    // Copies what stands at a place of what is held in memory of it.
+    pub(crate) fn copy(&self, bytes: &Vec<u8>, at: u64, out: &mut [u8]) -> Result<(), MediaFault>
+        requires { self.now.held ≡ Some bytes.now }
+        ensures ok { OnOk result (StandAt (F.text (F.number self.now.file)) at out.new) }
+        ensures there { at + length out.old ≤ length bytes.now.items → IsOk result }
+        ensures err { OnErr result (out.new ≡ out.old) }
     {
-        self.marks = ChunkMarks::new(alloc, chunk_count(self.len))?;
-        Ok(())
-    }
-
-    // Whether the bytes of some chunks can be had without waiting for the disk: they are held in
-    // memory, or the system has them. A unit is in two chunks at most.
-    pub(crate) fn is_at_hand(&self, chunks: Chunks, now: u64) -> bool
-        ensures { IsSome self.now.held → IsTrue result }
-    {
-        self.held.is_some()
-            || self.marks.is_kept(chunks.first, now) && self.marks.is_kept(chunks.last, now)
-    }
-
-    // Reads a chunk into room for one, so that the system has it. What can't be read is left out.
-    pub(crate) fn read_chunk(&self, chunk: u64, room: &mut [u8]) {
-        let len = chunk_len(self.len, chunk) as usize;
-        if let Some(out) = room.get_mut(..len) {
-            let _ = self.file.fill_at(chunk.saturating_mul(CHUNK), out);
-        }
-    }
-
-    // Fills `out` with the bytes from a place on: from memory, where the file is held.
-    pub(crate) fn octets(&self, at: u64, out: &mut [u8]) -> Result<(), MediaFault>
-        ensures ok { OnOk result (StandAt (F.text self.now.file) at out.new) }
-        ensures held { IfSome self.now.held (λ bytes. at + length out.old ≤ length bytes.items → IsOk result) }
-    {
-        match &self.held {
-            Some(bytes) => copy_unit(bytes.as_slice(), at, out),
-            None => self.file.fill_at(at, out),
-        }
+        copy_unit(bytes.as_slice(), at, out)
     }
 }

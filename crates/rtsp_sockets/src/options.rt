@@ -1,6 +1,5 @@
 //! The options of sockets.
 
-use crate::outlet::STALL_LIMIT;
 use libc::net;
 use std::os::fd::RawFd;
 
@@ -41,11 +40,11 @@ pub(crate) fn widen(fd: RawFd) {
     let _ = keep_bytes(fd, SEND_BUFFER);
 }
 
-/// Has the system give up what it still keeps of a connection that is closed, where its peer takes
-/// nothing for `STALL_LIMIT` milliseconds. An open one isn't left to this limit: the system also
-/// counts against a peer that takes a few bytes at a time.
-pub(crate) fn limit_the_end(fd: RawFd) {
-    let limit = option_value(STALL_LIMIT as u32);
+/// Has the system give up what it still keeps of a connection that is closed, where its peer doesn't take
+/// it within so many milliseconds. An open one isn't left to such a limit: the system counts against a
+/// peer that takes a few bytes at a time as against one that takes none.
+pub(crate) fn limit_the_end(fd: RawFd, milliseconds: u32) {
+    let limit = option_value(milliseconds);
     // SAFETY: it is an option of a number, of which 4 bytes are passed.
     let _ = unsafe { net::setsockopt(fd, net::IPPROTO_TCP, net::TCP_USER_TIMEOUT, &limit, 4) };
 }

@@ -6,7 +6,7 @@ ghost use Rattle.rtsp_sockets.specs.Rooms.{all_room, most_room};
 use crate::frame_room::FrameRoom;
 use crate::loan::Loan;
 use crate::message::Message;
-use crate::options::{limit_the_end, widen};
+use crate::options::{SEND_BUFFER, limit_the_end, widen};
 use crate::pending::Pending;
 use crate::put::Put;
 use mio::net::TcpStream;
@@ -25,6 +25,12 @@ pub const SLOW_LIMIT: u64 = 30_000;
 
 // A player who takes some of what waits within so many milliseconds counts as one who takes bytes soon.
 const SOON: u64 = 500;
+
+// For how many milliseconds a player may take what the system keeps of a connection that is closed: one
+// that is given up, and one on which all was written, at a byte a millisecond.
+const GIVEN_UP: u32 = STALL_LIMIT as u32;
+
+const WRITTEN: u32 = SEND_BUFFER;
 
 /// The writing side of a connection, shared by the lane that reads it and the pacers that send
 /// frames. It never blocks: what can't be written at once waits, up to a limit, and is written by
@@ -90,9 +96,10 @@ impl Outlet {
         *requests
     }
 
-    // The player sees the end of the connection, and so does the lane.
-    fn shut(&self) {
-        limit_the_end(self.fd());
+    // The player sees the end of the connection, and so does the lane. It may take what the system keeps
+    // for so many milliseconds.
+    fn shut(&self, limit: u32) {
+        limit_the_end(self.fd(), limit);
         let _ = self.stream.shutdown(Shutdown::Both);
     }
 
@@ -132,7 +139,7 @@ impl Outlet {
         pending.widen(room);
         let put = pending.put(&mut &self.stream, now, kind, bytes);
         if put == Put::Closed && !was_closed {
-            self.shut();
+            self.shut(GIVEN_UP);
         }
         put
     }
@@ -140,7 +147,8 @@ impl Outlet {
     /// Writes what waits, as far as it goes at once: how many bytes are left, beside those that are
     /// lent, or `None` where the connection is closed. It is 0 only where no byte waits. It is called
     /// whenever the system tells that the connection can be written, and from time to time, since the
-    /// system tells late: what it takes meanwhile is what the player has taken.
+    /// system tells late: what it takes meanwhile is what the player has taken. A pacer calls it where its
+    /// frames wait, since the lane may be held up.
     pub fn flush<R: Wait>(&self, rt: &R, now: u64) -> Option<usize>
         ensures { IfSome result (λ left. left ≤ all_room) }
     {
@@ -152,12 +160,17 @@ impl Outlet {
             Some(_) => {}
             None => {
                 if !was_closed {
-                    self.shut();
+                    self.shut(GIVEN_UP);
                 }
                 return None;
             }
         }
         Some(pending.unlent())
+    }
+
+    /// Whether it takes frames: the connection is open, and isn't at its end.
+    pub fn takes_frames<R: Wait>(&self, rt: &R) -> bool {
+        self.pending.lock(rt).takes_frames()
     }
 
     /// Takes no more frames: how many bytes still wait, beside those that are lent.
@@ -190,17 +203,23 @@ impl Outlet {
         let is_stalled = pending.is_stalled(now);
         if is_stalled {
             pending.close();
-            self.shut();
+            self.shut(GIVEN_UP);
         }
         is_stalled
     }
 
-    /// Closes the connection. What waits is given up.
+    /// Closes the connection. What waits is given up. Where nothing does, the player has a millisecond for
+    /// each byte that the system may keep of what was written.
     pub fn close<R: Wait>(&self, rt: &R) {
         let mut pending = self.pending.lock(rt);
         if !pending.is_closed() {
+            let limit = if pending.len() == 0 {
+                WRITTEN
+            } else {
+                GIVEN_UP
+            };
             pending.close();
-            self.shut();
+            self.shut(limit);
         }
     }
 }

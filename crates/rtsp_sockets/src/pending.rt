@@ -125,6 +125,13 @@ impl Pending {
         self.condition == Condition::Closed
     }
 
+    // Whether it takes frames.
+    pub(crate) fn takes_frames(&self) -> bool
+        ensures { result ≡ takes self.now.condition Message.Frame }
+    {
+        self.condition.takes(Message::Frame)
+    }
+
     // Takes nothing more, and forgets what waits.
     pub(crate) fn close(&mut self)
         ensures shut { IsShut self.new }

@@ -1,10 +1,11 @@
-//! How readers learn of the chunks that they have to read, and of their end.
+//! How readers learn of the parts of files that they have to read, and of their end.
 
-use crate::wishes::{Wish, Wishes};
+use crate::cut::Cut;
+use crate::wishes::Wishes;
 use std::alloc::{AllocError, Global};
 use std::sync::{Condvar, Mutex, Wait};
 
-// The chunks that are to be read by whichever reader has nothing to do.
+// The parts that are to be read by whichever reader has nothing to do.
 #[derive(Drop)]
 pub(crate) struct Wanted {
     wishes: Mutex<Wishes>,
@@ -12,7 +13,7 @@ pub(crate) struct Wanted {
 }
 
 impl Wanted {
-    // Room for so many chunks that wait.
+    // Room for so many parts that wait.
     pub(crate) fn new(alloc: Global, room: usize) -> Result<Wanted, AllocError> {
         Ok(Wanted {
             wishes: Mutex::new(Wishes::new(alloc, room)?),
@@ -20,15 +21,15 @@ impl Wanted {
         })
     }
 
-    // Asks for a chunk. Whether there was room for it.
-    pub(crate) fn ask<R: Wait>(&self, rt: &R, wish: Wish) -> bool {
+    // Asks for a part. Whether there was room for it.
+    pub(crate) fn ask<R: Wait>(&self, rt: &R, wish: Cut) -> bool {
         let is_kept = self.wishes.lock(rt).put(wish);
         self.rung.notify_one();
         is_kept
     }
 
-    // Waits for a chunk that is to be read. `None` at the end.
-    pub(crate) fn next<R: Wait>(&self, rt: &R) -> Option<Wish> {
+    // Waits for a part that is to be read. `None` at the end.
+    pub(crate) fn next<R: Wait>(&self, rt: &R) -> Option<Cut> {
         let wishes = self.wishes.lock(rt);
         let mut wishes = self.rung.wait_while(rt, wishes, |wishes| wishes.is_quiet());
         wishes.next()

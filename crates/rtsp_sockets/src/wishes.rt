@@ -1,24 +1,18 @@
-//! The chunks that are to be read.
+//! The parts of files that are to be read.
 
 ghost use Rattle.std.specs.Prelude.{◌≡◌, ◌<◌, ◌↔◌, [], true, false, IfOk, IsTrue};
 ghost use Rattle.std.specs.VecDeque.{deque_len, deque_capacity};
 ghost use Rattle.rtsp_sockets.specs.Wishes.{PutsWish, TakesWish, HasNoWish};
 
+use crate::cut::Cut;
 use std::alloc::{AllocError, Global};
 use std::collections::VecDeque;
 
-// A chunk of a file, which is named by its index among the media's files.
-#[derive(Clone, Copy, PartialEq, Eq, Drop)]
-pub(crate) struct Wish {
-    pub(crate) file: usize,
-    pub(crate) chunk: u64,
-}
-
-// The chunks that are to be read, the one that was asked for first in front: no more than there is
-// memory for from the beginning.
+// The parts that are to be read, the one that was asked for first in front: no more than there is memory
+// for from the beginning.
 #[derive(Drop)]
 pub(crate) struct Wishes {
-    waiting: VecDeque<Wish>,
+    waiting: VecDeque<Cut>,
     is_stopped: bool,
 }
 
@@ -35,16 +29,16 @@ impl Wishes {
         })
     }
 
-    // Puts a chunk behind those that wait. Whether there was room for it.
-    pub(crate) fn put(&mut self, wish: Wish) -> bool
+    // Puts a part behind those that wait. Whether there was room for it.
+    pub(crate) fn put(&mut self, wish: Cut) -> bool
         ensures puts { PutsWish self.old wish self.new result }
         ensures room { IsTrue result ↔ (deque_len self.old.waiting < deque_capacity self.old.waiting) }
     {
         self.waiting.len() < self.waiting.capacity() && self.waiting.push_back(wish).is_ok()
     }
 
-    // The chunk that was asked for first. `None` where there is none, and from the end on.
-    pub(crate) fn next(&mut self) -> Option<Wish>
+    // The part that was asked for first. `None` where there is none, and from the end on.
+    pub(crate) fn next(&mut self) -> Option<Cut>
         ensures { TakesWish self.old result self.new }
     {
         if self.is_stopped {
@@ -53,7 +47,7 @@ impl Wishes {
         self.waiting.pop_front()
     }
 
-    // Whether there is nothing to do: no chunk to be read, and no end.
+    // Whether there is nothing to do: no part to be read, and no end.
     pub(crate) fn is_quiet(&self) -> bool
         ensures { IsTrue result ↔ HasNoWish self.now }
     {

@@ -6,7 +6,7 @@ ghost use Rattle.rtsp_threads.specs.Looks.{TellsOf};
 
 use rtsp_engine::{ShareSpent, Shares};
 use rtsp_lock::BookHandle;
-use rtsp_shares::{EndedPlace, KeptPlace, Living, Search, ShareTable};
+use rtsp_shares::{EndedPlace, KeptPlace, Living, NoPlace, Search, ShareTable};
 use std::sync::{Mutex, Wait};
 
 // Whether a session lives, by a look at the book.
@@ -56,10 +56,9 @@ pub struct LaneShares<'a, R> {
 // Takes a place for an address, or tells whose places may be given back first.
 fn take_or_search<R: Wait>(rt: &R, places: &Mutex<ShareTable>, peer: u32) -> Option<Search> {
     let mut places = places.lock(rt);
-    if places.take(peer) {
-        None
-    } else {
-        Some(places.search(peer))
+    match places.take(peer) {
+        Ok(()) => None,
+        Err(NoPlace::Share | NoPlace::Full) => Some(places.search(peer)),
     }
 }
 
@@ -76,11 +75,12 @@ fn next_kept<R: Wait>(
 fn take_instead<R: Wait>(rt: &R, places: &Mutex<ShareTable>, ended: EndedPlace, peer: u32) -> bool {
     let mut places = places.lock(rt);
     places.give_back_ended(ended);
-    places.take(peer)
+    places.take(peer).is_ok()
 }
 
-// Takes a place for an address. Where none is left, a few of its own are looked at, and the first is
-// given back whose session doesn't live any more. No look is made with the table held.
+// Takes a place for an address. Where its share is in use, one of its places is looked at, in case nobody
+// told that the session has ended; where all places are taken, all are. No look is made with the table
+// held.
 fn take_place<R: Wait>(
     rt: &R,
     places: &Mutex<ShareTable>,
@@ -115,6 +115,12 @@ fn settle_place<R: Wait>(rt: &R, places: &Mutex<ShareTable>, peer: u32, opened: 
 // The last place that is kept below an index.
 fn kept_below<R: Wait>(rt: &R, places: &Mutex<ShareTable>, below: usize) -> Option<KeptPlace> {
     places.lock(rt).kept_below(below)
+}
+
+/// A session has ended: the place that is kept for it is given back to its address. Whoever ends one
+/// calls it.
+pub fn end_place<R: Wait>(rt: &R, places: &Mutex<ShareTable>, session: u64) {
+    places.lock(rt).end(session);
 }
 
 /// Gives back all places that are kept for sessions which don't live any more, as a handle of the book
@@ -156,6 +162,19 @@ impl<'a, R> LaneShares<'a, R> {
         ensures { result ≡ self.now.refused }
     {
         self.refused
+    }
+}
+
+impl<R: Wait> LaneShares<'_, R> {
+    // A session may have ended: where it doesn't live any more its place is given back. The look is made
+    // before the table is taken.
+    pub(crate) fn end_unless_living(&mut self, session: Option<u64>) {
+        if let Some(places) = self.places
+            && let Some(session) = session
+            && !lives(self.rt, self.handle, session)
+        {
+            end_place(self.rt, places, session);
+        }
     }
 }
 

@@ -11,6 +11,7 @@ ghost use Rattle.rtsp_expiry.specs.Sweeps.{Sweeps};
 ghost use Rattle.rtsp_expiry.specs.Endings.{NoneExpired, NoneOn};
 ghost use Rattle.rtsp_threads.specs.Leaving.{EndsNext, SweepsAll};
 
+use crate::lane_shares::LaneShares;
 use crate::limits::SWEEP_SESSIONS;
 use rtsp_book::Kept;
 use rtsp_engine::Binder;
@@ -18,8 +19,9 @@ use rtsp_expiry::{Swept, end_all, hang_up, sweep};
 use rtsp_lock::{BookHandle, LockBook};
 use std::sync::{Arc, Wait};
 
-// Takes leave of a connection, in a few steps.
-fn hang_up_some<R: Wait, B: Binder>(
+// Takes leave of a connection in one step, by which one of its sessions is ended, or left without a
+// startup number.
+fn hang_up_once<R: Wait, B: Binder>(
     rt: &R,
     handle: &mut BookHandle,
     binder: &mut B,
@@ -30,14 +32,7 @@ fn hang_up_some<R: Wait, B: Binder>(
     ensures run { (limit : ℕ) × Sweeps B.calls (Hangup conn) limit result (state_of handle.old.seat binder.old) (state_of handle.new.seat binder.new) }
     ensures none { result.more ≡ false → NoneOn conn (seat_view handle.new.seat) }
 {
-    hang_up(
-        rt,
-        &mut handle.seat,
-        &handle.lock,
-        binder,
-        conn,
-        SWEEP_SESSIONS,
-    )
+    hang_up(rt, &mut handle.seat, &handle.lock, binder, conn, 1)
 }
 
 // Ends sessions that have expired, a few of them.
@@ -63,12 +58,14 @@ fn sweep_some<R: Wait, B: Binder>(
 }
 
 /// Takes leave of a connection that has ended: the sessions that hold channels of it are ended. The
-/// binder unbinds what they had. Whether a session may have ended.
+/// binder unbinds what they had, and each one's place is given back as it ends. Whether a session may
+/// have ended.
 pub fn take_leave<R: Wait, B: Binder>(
     rt: &R,
     handle: &mut BookHandle,
     binder: &mut B,
     conn: u64,
+    shares: &mut LaneShares<'_, R>,
 ) -> bool
     ensures same { SameSeat handle.old.seat handle.new.seat }
     ensures lock { arc_value handle.new.lock ≡ arc_value handle.old.lock }
@@ -77,7 +74,8 @@ pub fn take_leave<R: Wait, B: Binder>(
 {
     let mut has_ended = false;
     for _ in rt.forever() {
-        let swept = hang_up_some(rt, handle, binder, conn);
+        let swept = hang_up_once(rt, handle, binder, conn);
+        shares.end_unless_living(swept.last);
         has_ended = has_ended || swept.ended > 0;
         if !swept.more {
             return has_ended;

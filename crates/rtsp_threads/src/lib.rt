@@ -4,7 +4,8 @@
 //! from, `gate` says which are let in, `activity` when one was heard of, and `timed_reader` ends a visit
 //! to it. `pool` runs a thread for each lane, whatever a lane does, and `holdings` is what their book is
 //! opened over. `lane_shares` is what an
-//! address may have of the sessions, `relieving` keeps the journal from filling, `leaving` ends sessions.
+//! address may have of the sessions, `leaving` ends sessions. `relieving` keeps the journal from filling:
+//! `room_looks` says when a lane looks for room in it, `room_wait` for how long a connection waits for it.
 //! `scribe` writes the journal to files, and `scribe_bell` wakes it. `signals` and `stop_bell` are how
 //! threads are asked to end.
 
@@ -20,6 +21,8 @@ mod leaving;
 mod limits;
 mod pool;
 mod relieving;
+mod room_looks;
+mod room_wait;
 mod scribe;
 mod scribe_bell;
 mod signals;
@@ -31,15 +34,18 @@ pub use activity::Activity;
 pub use descriptors::{connections_for, descriptor_limit};
 pub use gate::Gate;
 pub use holdings::whole_of;
-pub use lane_shares::{LaneShares, give_back_ended};
+pub use lane_shares::{LaneShares, end_place, give_back_ended};
 pub use leaving::{close_book, end_expired, end_next_expired, take_leave};
 pub use limits::{
-    ACCEPT_RETRY, ACCEPTS, ANSWERS, CONNECTIONS, FEW_LINES, HELD_TOLD_AFTER, LAST_ROOM, LOG_LINES,
-    MESSAGE_LIMIT, PAUSE, PIECE, PIECES, SIGNALS_EVERY, SILENCE_LIMIT, STANDING_LIMIT, STOP_LIMIT,
-    STOP_TOLD_AFTER, SWEEP_EVERY, SWEEP_SESSIONS, TURN_EVERY, TURN_TIME, VISIT_TIME, WAITS,
+    ACCEPT_RETRY, ACCEPTS, ANSWERS, CONNECTIONS, FEW_LINES, HELD_REST, HELD_TOLD_AFTER, LAST_ROOM,
+    LOG_LINES, LOOK_PAUSE, MESSAGE_LIMIT, PAUSE, PIECE, PIECES, ROOM_LIMIT, SIGNALS_EVERY,
+    SILENCE_LIMIT, STANDING_LIMIT, STOP_LIMIT, STOP_TOLD_AFTER, SWEEP_EVERY, SWEEP_SESSIONS,
+    TURN_EVERY, TURN_TIME, VISIT_TIME,
 };
 pub use pool::{Lane, LaneTurn, PoolEnd, run_pool};
 pub use relieving::{ask_for_room, make_room};
+pub use room_looks::RoomLooks;
+pub use room_wait::RoomWait;
 pub use rtsp_shares::Refused;
 pub use scribe::Scribe;
 pub use scribe_bell::ScribeBell;

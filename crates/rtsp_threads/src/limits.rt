@@ -37,9 +37,13 @@ pub const SILENCE_LIMIT: u64 = 60_000;
 /// A connection that has begun a message and not finished it for so long is closed.
 pub const MESSAGE_LIMIT: u64 = 30_000;
 
-/// How often a lane waits for the others before it has a piece answered, where sessions in which they
-/// set tracks up keep the journal more than half full: for a millisecond, then twice as long each time.
-pub const WAITS: u32 = 7;
+/// A connection that asks for what makes entries is put aside while the journal has no room for them, but
+/// for no longer than this. Then a piece of it is answered all the same.
+pub const ROOM_LIMIT: u64 = 127;
+
+/// The longest that a lane which found no room in the journal waits until it looks again: a millisecond
+/// first, then twice as long each time.
+pub const LOOK_PAUSE: u64 = 8;
 
 /// A request that opens a session and sets a track up makes five entries at most and is owed five. Where
 /// the journal has less room, one that was refused may have been refused for that.
@@ -48,6 +52,10 @@ pub const LAST_ROOM: usize = 10;
 /// The longest that a lane waits for something to do. Then it tells up to when it has read all that
 /// had come, and a sweep goes no further.
 pub const TURN_EVERY: u64 = 200;
+
+/// How long a lane rests where all connections that are left to be visited wait for a pacer to hear of a
+/// crowd of plays.
+pub const HELD_REST: u64 = 1;
 
 /// The time between two sweeps.
 pub const SWEEP_EVERY: u64 = 1_000;

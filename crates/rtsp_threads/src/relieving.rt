@@ -1,30 +1,19 @@
-//! Keeps the journal from filling: before a piece is answered there is room for what it may record.
+//! Keeps the journal from filling: whether there is room for what a piece may record. Nobody waits here.
 
-use crate::limits::WAITS;
 use crate::scribe_bell::ScribeBell;
 use rtsp_book::CHECKPOINT_SLACK;
 use rtsp_content::Table;
 use rtsp_lock::{BookHandle, Tally};
+use std::rt;
 use std::sync::Wait;
-use std::time::Duration;
-use std::{rt, thread};
 
 /// Has a checkpoint made where the journal is more than half full, and more so than what is owed
-/// asks for. It stays so only by sessions that other lanes are setting tracks up in. No lane begins
-/// a piece meanwhile, so these come to an end, and the next checkpoint restates every session.
-pub fn make_room<R: Wait + rt::Clock>(rt: &R, table: &Table, lane: &mut BookHandle) {
+/// asks for. Whether there is room then: there is none only by sessions that other lanes are setting
+/// tracks up in. Where no lane begins a piece that may make entries, these come to an end, and the next
+/// checkpoint restates every session.
+pub fn make_room<R: Wait>(rt: &R, table: &Table, lane: &mut BookHandle) -> bool {
     let half = (table.server().journal / 2) as usize;
-    if !lane.relieve(rt, half) {
-        return;
-    }
-    let mut wait = 1;
-    for _ in 0..WAITS {
-        if !lane.relieve(rt, half) {
-            return;
-        }
-        thread::sleep(rt, Duration::from_millis(wait));
-        wait = wait.saturating_mul(2);
-    }
+    !lane.relieve(rt, half) || !lane.relieve(rt, half)
 }
 
 // Whether the journal is more than half full, and a checkpoint would pay.
@@ -50,22 +39,18 @@ pub fn ask_for_room<R: Wait + rt::Clock>(
     table: &Table,
     lane: &mut BookHandle,
     scribe: &ScribeBell,
-) {
+) -> bool {
     let half = (table.server().journal / 2) as usize;
-    let mut wait = 1;
-    for _ in 0..WAITS {
-        let tally = lane.tally(rt);
-        if !is_crowded(tally, half) {
-            return;
-        }
-        if scribe.is_stuck() || scribe.is_held(rt) {
-            if scribe.may_lose() && is_nearly_full(tally) {
-                lane.relieve(rt, half);
-            }
-            return;
-        }
-        scribe.ask(rt);
-        thread::sleep(rt, Duration::from_millis(wait));
-        wait = wait.saturating_mul(2);
+    let tally = lane.tally(rt);
+    if !is_crowded(tally, half) {
+        return true;
     }
+    if scribe.is_stuck() || scribe.is_held(rt) {
+        if scribe.may_lose() && is_nearly_full(tally) {
+            lane.relieve(rt, half);
+        }
+        return true;
+    }
+    scribe.ask(rt);
+    false
 }

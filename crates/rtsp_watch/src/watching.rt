@@ -6,6 +6,7 @@ ghost use Rattle.rtsp_engine.specs.Served.{Answered, FaultedAfter, at};
 ghost use Rattle.rtsp_dialect.specs.Repairing.{TakesRepaired, FaultsRepaired};
 ghost use Rattle.rtsp_watch.specs.Watching.{AnswersWatched, GivesUpWatched};
 
+use crate::ending::{Recorder, ended_by};
 use crate::reading::status_of;
 use crate::witness::{Told, Witness};
 use rtsp_dialect::push_repaired;
@@ -21,17 +22,19 @@ pub(crate) struct Watched<'a, 'w, A, T> {
     pub(crate) witness: &'w T,
 }
 
-// Tells of a request and of its response.
-fn tell<T: Witness>(witness: &T, request: &Request, response: &[u8]) {
+// Tells of a request that was answered, and of its response.
+fn tell<A: Recorder, T: Witness>(answerer: &A, witness: &T, request: &Request, response: &[u8]) {
+    let status = status_of(response);
     witness.answered(&Told {
         method: request.method.as_bytes(),
         uri: request.uri.as_bytes(),
-        status: status_of(response),
+        status,
         response,
+        ended: ended_by(answerer, &request.method, status),
     });
 }
 
-impl<A: Answerer, T: Witness> Answerer for Watched<'_, '_, A, T> {
+impl<A: Answerer + Recorder, T: Witness> Answerer for Watched<'_, '_, A, T> {
     ghost answers = { AnswersWatched A.answers A.gives_up };
 
     ghost gives_up = { GivesUpWatched A.answers A.gives_up };
@@ -48,13 +51,13 @@ impl<A: Answerer, T: Witness> Answerer for Watched<'_, '_, A, T> {
             && answered.is_ok()
             && let Some(response) = room.as_bytes().get(before..)
         {
-            tell(self.witness, request, response);
+            tell(&*self.answerer, self.witness, request, response);
         }
         answered
     }
 }
 
-impl<A: Answerer, T: Witness> Watched<'_, '_, A, T> {
+impl<A: Answerer + Recorder, T: Witness> Watched<'_, '_, A, T> {
     // Takes a piece of a connection's input. Who answers stays the same one.
     fn push(
         &mut self,
@@ -94,7 +97,7 @@ impl<A: Answerer, T: Witness> Watched<'_, '_, A, T> {
 
 /// Takes a piece of a connection's input as `Connection::push` does, byte for byte, and tells the
 /// witness of each request that was answered.
-pub fn push_watched<A: Answerer, T: Witness>(
+pub fn push_watched<A: Answerer + Recorder, T: Witness>(
     alloc: Global,
     answerer: &mut A,
     witness: &T,
@@ -114,7 +117,7 @@ pub fn push_watched<A: Answerer, T: Witness>(
 
 /// Takes a piece of a connection's input as rtsp_dialect's `push_repaired` does, byte for byte, and
 /// tells the witness of each request, repaired, that was answered.
-pub fn push_repaired_watched<A: Answerer, T: Witness>(
+pub fn push_repaired_watched<A: Answerer + Recorder, T: Witness>(
     alloc: Global,
     answerer: &mut A,
     witness: &T,

@@ -13,6 +13,8 @@ pub struct Told<'a> {
     pub status: u16,
     /// As it will be written; empty where there is none.
     pub response: &'a [u8],
+    /// The number of the session that it has ended, if it has ended one.
+    pub ended: Option<u64>,
 }
 
 impl Told<'_> {

@@ -56,7 +56,10 @@ pub fn run_program<
         + rt::Clock
         + Eprint
         + RandomSource
-        + Sync,
+        + Copy
+        + Send
+        + Sync
+        + 'static,
     I: Read + Drop,
     O: Write + Drop,
     E: Write + Drop + Send,

@@ -96,7 +96,10 @@ pub(crate) fn run_serve<
         + rt::Clock
         + Eprint
         + RandomSource
-        + Sync,
+        + Copy
+        + Send
+        + Sync
+        + 'static,
     O: Write + Drop,
     E: Write + Drop + Send,
 >(

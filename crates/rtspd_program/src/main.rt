@@ -40,7 +40,10 @@ fn run<
         + Clock
         + Eprint
         + RandomSource
-        + Sync,
+        + Copy
+        + Send
+        + Sync
+        + 'static,
     I: Read + Drop,
     O: Write + Drop,
     E: Write + Drop + Send,

@@ -10,11 +10,11 @@ loop-init g c = ((refl, refl), refl, no_sweep g.B.Binder.calls (Hangup c.args.co
 pub loop-preserved : goal.loop-preserved
 loop-preserved g c =
     let i = c.loop.invariant in
-    let e = c.hang_up_some-swept.ensures in (
+    let e = c.hang_up_once-swept.ensures in (
       (e.same.0 ∙ i.0.0, e.same.1 ∙ i.0.1),
       e.lock ∙ i.1,
-      one_more g.B.Binder.calls (Hangup c.args.conn) _ _ _ c.hang_up_some-swept.result i.2 e.run,
+      one_more g.B.Binder.calls (Hangup c.args.conn) _ _ _ c.hang_up_once-swept.result i.2 e.run,
     )
 
 pub returns-then-not-swept-clause-run : goal.returns-then-not-swept-clause-run
-returns-then-not-swept-clause-run g c = one_more g.B.Binder.calls (Hangup c.args.conn) _ _ _ c.hang_up_some-swept.result c.loop.invariant.2 c.hang_up_some-swept.ensures.run
+returns-then-not-swept-clause-run g c = one_more g.B.Binder.calls (Hangup c.args.conn) _ _ _ c.hang_up_once-swept.result c.loop.invariant.2 c.hang_up_once-swept.ensures.run

@@ -6,10 +6,10 @@ use Rattle.rtsp_shares.proofs.table.ShareTable.take.Goals as goal
 pub invariant_of-self : goal.invariant_of-self
 invariant_of-self c =
     let old : Places = record { share = c.self.inside.share; most = c.self.inside.most; taken = c.self.inside.taken.items } in
-    let room = c.if-not-has_room.ensures.0 refl in
+    let room = c.in_default.ensures.room in
     let now = c.self.view_is in
-    let less : places_of c.args.address old.taken < old.share = omega (arith, room.0, ap (λ v. places_of c.args.address v.taken) now, ap (λ v. v.share) now) in
-    let fits : length old.taken < old.most = omega (arith, room.1, ap (λ v. length v.taken) now, ap (λ v. v.most) now) in (
+    let less : places_of c.args.address old.taken < old.share = omega (arith, room.share, ap (λ v. places_of c.args.address v.taken) now, ap (λ v. v.share) now) in
+    let fits : length old.taken < old.most = omega (arith, room.most, ap (λ v. length v.taken) now, ap (λ v. v.most) now) in (
       subst (λ l. ArePlacesWithin (record old { taken = l })) (sym c.push_reserved.ensures.items) (places_more old c.args.address c.self.invariant.0 less fits),
       c.push_reserved.ensures.capacity ∙ c.self.invariant.1,
     )
