@@ -235,31 +235,26 @@ def asks_and_ends(server: Server, receive_buffer: int) -> socket.socket:
     return talk
 
 
-def answers_that_come(talk: socket.socket, piece: int, each: float) -> int:
-    """Reads a piece each so many seconds to the end: how many answers came."""
-    came = b""
+def answers_that_come(talk: socket.socket, piece: int, each: float) -> Tuple[int, float]:
+    """Reads a piece each so many seconds to the end: how many answers came, and how many seconds it took."""
+    came, began = b"", time.monotonic()
     with contextlib.suppress(OSError), talk:
         while more := talk.recv(piece):
             came += more
             time.sleep(each)
-    return came.count(ANSWERED)
+    return came.count(ANSWERED), time.monotonic() - began
 
 
 @serving_test(limit=150, is_timed=True, is_long=True)
 def what_drains_has_a_deadline(checks: Checks) -> None:
-    """Of what waits for a player that asks no more it has to take 1,000 bytes a second, too: one that does gets all."""
-    with Server(checks) as server:
-        server.descriptors_at_rest()
+    """Of what waits for a player that asks no more it has to take 1,000 bytes a second, too: one that does gets all, also
+    of what the system keeps."""
+    with Server(checks) as server, concurrent.futures.ThreadPoolExecutor() as readers:
         steadily, sipping = asks_and_ends(server, 4 * SIP), asks_and_ends(server, SIP)
-        began = time.monotonic()
-        time.sleep(0.5)
-        both = server.descriptors()
-        with concurrent.futures.ThreadPoolExecutor() as readers:
-            steady = readers.submit(answers_that_come, steadily, STEADY, 1.0)
-            sips = readers.submit(answers_that_come, sipping, SIP, EACH_SECONDS)
-            server.descriptors_fall_to(both - 1, GONE_BEFORE + 10)
-            seconds = time.monotonic() - began
-            checks.that("one that sips is gone after half a minute to a minute", GONE_AFTER <= seconds <= GONE_BEFORE, seconds)
-            checks.that("the other one is not", server.descriptors() == both - 1, server.descriptors())
-        checks.same(f"answers that one gets who takes {STEADY} bytes a second", DRAINED, steady.result())
-        checks.that("one that sips doesn't get all", sips.result() < DRAINED, sips.result())
+        steady = readers.submit(answers_that_come, steadily, STEADY, 1.0)
+        answered, seconds = answers_that_come(sipping, SIP, EACH_SECONDS)
+        checks.that("one that sips doesn't get all", answered < DRAINED, answered)
+        checks.that("it is gone within a minute or so", seconds <= GONE_BEFORE, seconds)
+        answered, seconds = steady.result()
+        checks.same(f"answers that one gets who takes {STEADY} bytes a second", DRAINED, answered)
+        checks.that("it had to be waited for", seconds >= GONE_AFTER, seconds)

@@ -5,7 +5,7 @@ ghost use Rattle.rtsp_sockets.specs.Rooms.{all_room, most_room};
 
 use crate::frame_room::FrameRoom;
 use crate::loan::Loan;
-use crate::message::Message;
+use crate::message::{ALL_ROOM, Message};
 use crate::options::{SEND_BUFFER, limit_the_end, widen};
 use crate::pending::Pending;
 use crate::put::Put;
@@ -14,7 +14,7 @@ use mio::net::TcpStream;
 use std::alloc::Global;
 use std::net::Shutdown;
 use std::os::fd::{AsRawFd, RawFd};
-use std::sync::atomic::{AtomicBool, Ordering};
+use std::sync::atomic::{AtomicBool, AtomicU64, Ordering};
 use std::sync::{Mutex, Wait};
 
 /// For how long, in milliseconds, a player may take none of the bytes that wait for it.
@@ -27,11 +27,14 @@ pub const SLOW_LIMIT: u64 = 30_000;
 // A player who takes some of what waits within so many milliseconds counts as one who takes bytes soon.
 const SOON: u64 = 500;
 
-// For how many milliseconds a player may take what the system keeps of a connection that is closed: one
-// that is given up, and one on which all was written, at a byte a millisecond.
+// For how many milliseconds a player may take what the system keeps of a connection that is given up.
 const GIVEN_UP: u32 = STALL_LIMIT as u32;
 
-const WRITTEN: u32 = SEND_BUFFER;
+// The same of one on which all was written: a millisecond for each byte that it may be, of which the
+// system keeps twice what it was told to, and half a minute at least.
+const ALL_WRITTEN: u32 = SLOW_LIMIT as u32;
+
+const ALL_WRITTEN_WIDE: u32 = 2 * SEND_BUFFER;
 
 /// The writing side of a connection, shared by the lane that reads it and the pacers that send
 /// frames. It never blocks: what can't be written at once waits, up to a limit, and is written by
@@ -45,6 +48,9 @@ pub struct Outlet {
     requests: Mutex<u32>,
     // Whether the system was told to keep `SEND_BUFFER` bytes of it.
     is_wide: AtomicBool,
+    // When bytes last came to wait where none did, and when none did any more.
+    begun: AtomicU64,
+    emptied: AtomicU64,
 }
 
 // Written out, so that whoever lets go of it makes one call, and not one for each of its parts.
@@ -55,6 +61,8 @@ impl Drop for Outlet {
             pending: _pending,
             requests: _requests,
             is_wide: _is_wide,
+            begun: _begun,
+            emptied: _emptied,
         } = self;
     }
 }
@@ -70,6 +78,8 @@ impl Outlet {
             pending: Mutex::new(Pending::new(alloc, loan)),
             requests: Mutex::new(0),
             is_wide: AtomicBool::new(false),
+            begun: AtomicU64::new(0),
+            emptied: AtomicU64::new(0),
         }
     }
 
@@ -143,6 +153,9 @@ impl Outlet {
     {
         let mut pending = self.pending.lock(rt);
         let was_closed = pending.is_closed();
+        if pending.len() == 0 {
+            self.begun.store(now, Ordering::SeqCst);
+        }
         pending.widen(room);
         let put = pending.put(&mut self.writer(), now, kind, bytes);
         if put == Put::Closed && !was_closed {
@@ -170,6 +183,9 @@ impl Outlet {
                 }
                 return None;
             }
+        }
+        if waited > 0 && pending.len() == 0 {
+            self.emptied.store(now, Ordering::SeqCst);
         }
         Some(pending.unlent())
     }
@@ -209,12 +225,30 @@ impl Outlet {
         is_stalled
     }
 
-    /// Closes the connection. What waits is given up. Where nothing does, the player has a millisecond for
-    /// each byte that the system may keep of what was written.
+    // For how many milliseconds a player may take what the system keeps, where all was written. The system
+    // may count from when bytes came to wait.
+    fn last_limit(&self) -> u32 {
+        let begun = self.begun.load(Ordering::SeqCst);
+        let waited = self.emptied.load(Ordering::SeqCst).saturating_sub(begun);
+        let longest = ALL_ROOM as u64;
+        let kept = if self.is_wide.load(Ordering::SeqCst) {
+            ALL_WRITTEN_WIDE
+        } else {
+            ALL_WRITTEN
+        };
+        kept.saturating_add(waited.min(longest) as u32)
+    }
+
+    /// Closes the connection. What waits is given up. Where nothing does, the player may still take what
+    /// the system keeps, at 1,000 bytes a second.
     pub fn close<R: Wait>(&self, rt: &R) {
         let mut pending = self.pending.lock(rt);
         if !pending.is_closed() {
-            let limit = if pending.len() == 0 { WRITTEN } else { GIVEN_UP };
+            let limit = if pending.len() == 0 {
+                self.last_limit()
+            } else {
+                GIVEN_UP
+            };
             pending.close();
             self.shut(limit);
         }
