@@ -294,7 +294,7 @@ def a_spent_share_holds_up_its_own_address(checks: Checks) -> None:
 
 
 # A share of hundreds, over so many connections, and when its sessions end that nobody renews, in seconds.
-HUNDREDS, OVER, UNRENEWED = 400, 4, 15
+HUNDREDS, OVER, UNRENEWED = 400, 4, 30
 
 
 def ask_for_more(talk: Talk, uri: str) -> int:
@@ -342,7 +342,7 @@ def given_back_by_expiry(checks: Checks, server: Server, status_port: int) -> No
         checks.same("beyond them", 503, ask_for_more(talks[0], f"{server.uri}/a"))
 
 
-@serving_test(limit=90)
+@serving_test(limit=120)
 def a_large_share_is_given_back(checks: Checks) -> None:
     """However one of its many sessions ends, the address may open another in its place at once, at the first try."""
     port, address = shown_at()

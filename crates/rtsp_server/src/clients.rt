@@ -247,13 +247,7 @@ impl Clients {
     }
 
     // Takes leave of a connection.
-    fn end<R: Wait + Net>(
-        &mut self,
-        rt: &R,
-        shared: &Shared,
-        handle: &mut BookHandle,
-        key: usize,
-    ) {
+    fn end<R: Wait + Net>(&mut self, rt: &R, shared: &Shared, handle: &mut BookHandle, key: usize) {
         if let Some(client) = self.roster.remove(key) {
             let fd = client.fd();
             let _ = self.poll.registry().deregister(&mut SourceFd(&fd));

@@ -6,12 +6,12 @@ use rtsp_content::{Operation, Table};
 use rtsp_engine::{ShareSpent, Shares};
 use rtsp_lock::{BookHandle, open_book};
 use rtsp_log::Log;
-use rtsp_shares::ShareTable;
+use rtsp_shares::{NoPlace, ShareTable};
 use rtsp_sockets::{PortBinder, PortTable};
 use rtsp_threads::{
     Gate, LaneShares, OwnStatus, Refused, Scribe, ScribeBell, StopAsked, StopBell, ask_for_room,
-    close_book, descriptor_limit, end_expired, end_next_expired, give_back_ended, make_room,
-    take_leave,
+    close_book, descriptor_limit, end_expired, end_next_expired, end_place, give_back_ended,
+    make_room, take_leave,
 };
 use std::alloc::{AllocError, Global};
 use std::fs::{self, File};
@@ -125,6 +125,25 @@ fn a_session_that_has_ended_leaves_its_place(rt: HostRuntime) {
     assert!(rt; leaves_its_place(&rt) == Some(true));
 }
 
+// Whether the only place of an address is had again once its session is told to have ended, and not once
+// another one is.
+fn is_had_again<R: Wait + AllocGlobal>(rt: &R) -> Option<bool> {
+    let mut table = ShareTable::new(rt.alloc(), 1, 8).ok()?;
+    let is_taken = table.take(7).is_ok();
+    table.keep(7, 1_000);
+    let places = Mutex::new(table);
+    end_place(rt, &places, 1_001);
+    let is_in_use = places.lock(rt).take(7) == Err(NoPlace::Share);
+    end_place(rt, &places, 1_000);
+    let is_free = places.lock(rt).take(7).is_ok();
+    Some(is_taken && is_in_use && is_free)
+}
+
+#[test]
+fn whoever_ends_a_session_gives_its_place_back(rt: HostRuntime) {
+    assert!(rt; is_had_again(&rt) == Some(true));
+}
+
 // How many places are left of three, once those are given back whose sessions don't live: two are kept
 // for such, and one is held.
 fn left_of_three<R: Wait + AllocGlobal>(rt: &R) -> Option<usize> {
@@ -153,7 +172,12 @@ fn ends_nobody<R: Net + Wait>(
     mut handle: BookHandle,
     binder: &mut PortBinder<'_, R>,
 ) -> bool {
-    let has_ended = take_leave(rt, &mut handle, binder, 1);
+    let Some(mut lane) = handle.split(rt) else {
+        return false;
+    };
+    let mut shares = LaneShares::new(rt, None, &mut lane);
+    let has_ended = take_leave(rt, &mut handle, binder, 1, &mut shares);
+    drop(lane);
     let ended = end_expired(rt, &mut handle, binder, 9);
     let next = end_next_expired(rt, &mut handle, binder, 9);
     !has_ended && ended == 0 && next.is_none() && close_book(rt, handle, binder).is_some()

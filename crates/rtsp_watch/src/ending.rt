@@ -29,8 +29,7 @@ fn closed_by(made: &[Record]) -> Option<u64>
 }
 
 impl<R: Wait, B: Binder, W: Words, C: Clock, P: Plays, S: Shares> Recorder
-    for Desk<'_, R, B, W, C, P, S>
-{
+    for Desk<'_, R, B, W, C, P, S> {
     fn closed(&self) -> Option<u64> {
         closed_by(self.made.records())
     }
