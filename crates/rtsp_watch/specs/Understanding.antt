@@ -21,7 +21,7 @@ abbrev pub players_served : Serving → Players
 players_served serving = serving.service.table.server.players
 
 -- a desk's answers are gathered in a room
-abbrev pub serves : {R B W C P S : Type 0} → Desk R B W C P S → RoomText → Output Serving
+abbrev pub serves : {R B W C P S N : Type 0} → Desk R B W C P S N → RoomText → Output Serving
 serves desk room = at room (desk_serving desk)
 
 -- answers to this player, from this content, over this seat, are gathered in a room
@@ -46,9 +46,9 @@ module _ {B W C P S : Type 0} (d : Devices B W C P S) where
   FaultsPiece bytes fault s t = FaultedAfter AnswersUnderstood GivesUpUnderstood bytes fault s t
 
 -- a desk whose requests are repaired
-module _ {R B W C P S : Type 0} (d : Devices B W C P S) where
-  abbrev pub TakesAt : List ℕ → List ℕ → Output (Desk R B W C P S) → Output (Desk R B W C P S) → Type 0
+module _ {R B W C P S N : Type 0} (d : Devices B W C P S) where
+  abbrev pub TakesAt : List ℕ → List ℕ → Output (Desk R B W C P S N) → Output (Desk R B W C P S N) → Type 0
   TakesAt bytes rest s t = TakesRepaired (AnswersAt d) (GivesUpAt d) bytes rest s t
 
-  abbrev pub FaultsAt : List ℕ → MessageFault → Output (Desk R B W C P S) → Output (Desk R B W C P S) → Type 0
+  abbrev pub FaultsAt : List ℕ → MessageFault → Output (Desk R B W C P S N) → Output (Desk R B W C P S N) → Type 0
   FaultsAt bytes fault s t = FaultsRepaired (AnswersAt d) (GivesUpAt d) bytes fault s t

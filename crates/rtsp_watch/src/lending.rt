@@ -12,17 +12,27 @@ use rtsp_book::Receipt;
 use rtsp_content::Table;
 use rtsp_engine::{Asker, Binder, Clock, Connection, Desk, Plays, Shares, Words};
 use rtsp_grammar::MessageFault;
-use rtsp_lock::{BookLock, BookSeat};
+use rtsp_lock::{BookLock, BookSeat, Numbers};
 use rtsp_state::Room;
 use std::alloc::Global;
 use std::sync::Wait;
 
 /// Takes a piece as `push_understood` does, at a desk of parts that are lent for it alone.
-pub fn push_lent<'a, R: Wait, B: Binder, W: Words, C: Clock, P: Plays, S: Shares, T: Witness>(
+pub fn push_lent<
+    'a,
+    R: Wait,
+    B: Binder,
+    W: Words,
+    C: Clock,
+    P: Plays,
+    S: Shares,
+    N: Numbers,
+    T: Witness,
+>(
     rt: &'a R,
     alloc: Global,
     seat: &'a mut BookSeat,
-    lock: &'a BookLock,
+    lock: &'a BookLock<N>,
     made: &'a mut Receipt,
     binder: &'a mut B,
     words: &'a mut W,
