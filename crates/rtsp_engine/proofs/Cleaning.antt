@@ -1,5 +1,5 @@
 -- A connection's seat keeps to the numbers that it drew; and where all seats of its lock do, or it is the only one, nothing is left of a refused SETUP.
-use Rattle.std.proofs.Common.{◌≡◌, ℕ, true, List, refl, sym, ◌∙◌, subst, inl, inr, Ok, Err}
+use Rattle.std.proofs.Common.{◌≡◌, ℕ, true, List, refl, sym, ◌∙◌, ap, subst, inl, inr, Ok, Err}
 use Rattle.std.specs.Prelude.{Option, None}
 use Rattle.std.proofs.lemmas.Option.{none-some}
 use Rattle.rtsp_grammar.specs.declared.message.Item.{Item}
@@ -7,11 +7,12 @@ use Rattle.rtsp_grammar.specs.declared.message.Item.TheVariants as items
 use Rattle.rtsp_grammar.specs.declared.message.Request.{Request}
 use Rattle.rtsp_grammar.specs.declared.message.Response.{Response}
 use Rattle.rtsp_grammar.specs.Writing.{response_text}
+use Rattle.rtsp_record.specs.declared.changes.Entry.{Entry}
 use Rattle.rtsp_record.specs.Books.{Session}
 use Rattle.rtsp_book.specs.declared.steps.Step.{Step}
 use Rattle.rtsp_lock.specs.declared.view.View.{View}
 use Rattle.rtsp_lock.specs.Calls.{seat_view}
-use Rattle.rtsp_lock.specs.Numbers.{admission_of, UsesDrawn, NamesDrawn}
+use Rattle.rtsp_lock.specs.Numbers.{admission_of, uses, UsesDrawn, NamesDrawn}
 use Rattle.rtsp_book.specs.declared.asks.Ask.{Ask}
 use Rattle.rtsp_book.specs.declared.refusals.Refusal.{Refusal}
 use Rattle.rtsp_admit.specs.Refused.{LeftNothing, LeftNothingEver}
@@ -183,6 +184,8 @@ module _ {B W C P S : Type 0} (d : Devices B W C P S) where
 
   pub visited_drawn : VisitedDrawn d
   visited_drawn = record {
+    first = λ w. record { lock = refl; own = λ n used. absurd (used refl) };
+    split = λ v v' u on made. record { lock = made.same_numbers ∙ on; own = λ n used. absurd (used (ap (λ (j : List Entry). uses n j) made.mine)) };
     answered = λ meant bytes rest s t is run. answered_more (AnswersMeant d meant) (AnswersMeantCleanly d LeftNothingEver meant) (GivesUpMeant d meant) (λ (x : Serving). DrawsAlone x.view) (cleanly meant) (lost meant) bytes rest s t is run;
     faulted = λ meant bytes fault s t is run. fault_more (AnswersMeant d meant) (AnswersMeantCleanly d LeftNothingEver meant) (GivesUpMeant d meant) (λ (x : Serving). DrawsAlone x.view) (cleanly meant) (lost meant) bytes fault s t is run;
     visited = λ meant start rest end s t is run. visits_more (AnswersMeant d meant) (AnswersMeantCleanly d LeftNothingEver meant) (GivesUpMeant d meant) (λ (x : Serving). DrawsAlone x.view) (cleanly meant) (lost meant) end start rest s t is run;

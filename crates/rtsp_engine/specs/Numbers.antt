@@ -6,9 +6,11 @@ use Rattle.rtsp_grammar.specs.declared.message.Item.{Item}
 use Rattle.rtsp_grammar.specs.declared.message.Item.TheVariants as items
 use Rattle.rtsp_grammar.specs.declared.message.Request.{Request}
 use Rattle.rtsp_grammar.specs.declared.message.Response.{Response}
+use Rattle.rtsp_record.specs.declared.holdings.Whole.{Whole}
 use Rattle.rtsp_record.specs.Books.{Session}
 use Rattle.rtsp_lock.specs.declared.view.View.{View}
-use Rattle.rtsp_lock.specs.Calls.{seat_view}
+use Rattle.rtsp_lock.specs.Calls.{seat_view, Made}
+use Rattle.rtsp_lock.specs.Rule.{first_view}
 use Rattle.rtsp_lock.specs.Numbers.{UsesDrawn}
 use Rattle.rtsp_book.specs.declared.asks.Ask.{Ask}
 use Rattle.rtsp_admit.specs.Refused.{LeftNothing, LeftNothingEver}
@@ -141,15 +143,21 @@ module _ {B W C P S : Type 0} (d : Devices B W C P S) (R N : Type 0) where
   ServedDrawn = ServedLeaving d R N LeftNothingEver DrawsAlone
 
 module _ {B W C P S : Type 0} (d : Devices B W C P S) where
-  -- so it is of the items of a connection whose devices are lent for one piece at a time, each answered by what it is taken to mean, and over its
-  -- visits
+  -- what an item means is answered with these bytes, and of a SETUP that is refused nothing is left, in the history either
+  abbrev pub AnswersMeantDrawn : (Serving → Item → Item) → Serving → Item → List ℕ → Serving → Type 0
+  AnswersMeantDrawn meant = AnswersMeantCleanly d LeftNothingEver meant
+
+  -- so is the seat of a lock that was opened for drawn numbers, and each that is split off it; and over the items of a connection whose devices are lent
+  -- for one piece at a time, each answered by what it is taken to mean, and over its visits, it stays so, and of the SETUPs that are refused nothing is left
   pub record VisitedDrawn : Type 0 where
+    pub first : (w : Whole) → DrawsAlone (first_view true w)
+    pub split : (v v' u : View) → v.numbers_drawn ≡ true → Made v v' u → DrawsAlone u
     pub answered : (meant : Serving → Item → Item) (bytes rest : List ℕ) (s t : Output Serving) → DrawsAlone s.answerer.view
         → Answered (AnswersMeant d meant) (GivesUpMeant d meant) bytes rest s t
-        → Answered (AnswersMeantCleanly d LeftNothingEver meant) (GivesUpMeant d meant) bytes rest s t × DrawsAlone t.answerer.view
+        → Answered (AnswersMeantDrawn meant) (GivesUpMeant d meant) bytes rest s t × DrawsAlone t.answerer.view
     pub faulted : (meant : Serving → Item → Item) (bytes : List ℕ) (fault : MessageFault) (s t : Output Serving) → DrawsAlone s.answerer.view
         → FaultedAfter (AnswersMeant d meant) (GivesUpMeant d meant) bytes fault s t
-        → FaultedAfter (AnswersMeantCleanly d LeftNothingEver meant) (GivesUpMeant d meant) bytes fault s t × DrawsAlone t.answerer.view
+        → FaultedAfter (AnswersMeantDrawn meant) (GivesUpMeant d meant) bytes fault s t × DrawsAlone t.answerer.view
     pub visited : (meant : Serving → Item → Item) (start rest : List ℕ) (end : VisitEnd) (s t : Line Serving) → DrawsAlone s.output.answerer.view
         → Visits (AnswersMeant d meant) (GivesUpMeant d meant) start rest end s t
-        → Visits (AnswersMeantCleanly d LeftNothingEver meant) (GivesUpMeant d meant) start rest end s t × DrawsAlone t.output.answerer.view
+        → Visits (AnswersMeantDrawn meant) (GivesUpMeant d meant) start rest end s t × DrawsAlone t.output.answerer.view

@@ -12,12 +12,13 @@ use Rattle.rtsp_engine.specs.Desk.{service, served, state, SameParts}
 use Rattle.rtsp_engine.specs.DeskAnswers.{AnswersAt, GivesUpAt}
 use Rattle.rtsp_traits.specs.Devices.{Devices}
 use Rattle.rtsp_engine.specs.Served.{Output, Served, Answered, Faulted, FaultedAfter}
+use Rattle.rtsp_engine.specs.Numbers.{VisitedDrawn}
 use Rattle.rtsp_engine.specs.Serving.{Serving, desk_serving}
 use Rattle.rtsp_engine.specs.declared.desk.Desk.{Desk}
 use Rattle.rtsp_engine.proofs.Along.{along}
 use Rattle.rtsp_dialect.specs.Repair.{understood}
 use Rattle.rtsp_dialect.specs.Repairing.{AnswersRepaired, GivesUpRepaired}
-use Rattle.rtsp_watch.specs.Understanding.{AnswersUnderstood, GivesUpUnderstood, TakesPiece, FaultsPiece}
+use Rattle.rtsp_watch.specs.Understanding.{meaning, AnswersUnderstood, GivesUpUnderstood, TakesPiece, FaultsPiece, LeavesTaken, LeavesFaulted}
 use Rattle.rtsp_watch.proofs.Desks.{gives_up_same}
 
 -- of one of whom something is so, and stays so
@@ -119,6 +120,15 @@ module _ {R B W C P S N : Type 0} where
           → IfErr pushed (λ f. FaultedAfter Way Lost bytes f (gathers old s) (gathers new t)) → IfErr pushed (λ f. FaultsPiece d bytes f (gathers old (desk_serving s)) (gathers new (desk_serving t)))
       faults (Ok done) bytes old new s t p h = tt
       faults (Err fault) bytes old new s t p h = fault_within Way Lost (AnswersUnderstood d) (GivesUpUnderstood d) desk_serving (IsFor players) answers gives_up bytes fault _ _ p h
+
+    -- of what was refused nothing is left
+    pub takes_cleanly : (pushed : Result (Unit {0}) MessageFault) (bytes rest : List ℕ) (s t : Output Serving) → VisitedDrawn d → OnOk pushed (TakesPiece d bytes rest s t) → OnOk pushed (LeavesTaken d bytes rest s t)
+    takes_cleanly (Ok done) bytes rest s t law h is = law.answered meaning bytes rest s t is h
+    takes_cleanly (Err fault) bytes rest s t law h = tt
+
+    pub faults_cleanly : (pushed : Result (Unit {0}) MessageFault) (bytes : List ℕ) (s t : Output Serving) → VisitedDrawn d → IfErr pushed (λ f. FaultsPiece d bytes f s t) → IfErr pushed (λ f. LeavesFaulted d bytes f s t)
+    faults_cleanly (Ok done) bytes s t law h = tt
+    faults_cleanly (Err fault) bytes s t law h is = law.faulted meaning bytes fault s t is h
 
     -- a desk that was made for a piece: its seat and what is served are those that were lent
     returned : (Is : Output Serving → Type 0) (new : List ℕ) (s t : Desk R B W C P S N) (seat : BookSeat) → t.seat.now ≡ seat → SameParts s t → Is (gathers new (desk_serving t)) → Is (gathers new (after s seat))
