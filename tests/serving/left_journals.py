@@ -12,7 +12,7 @@ from rtsp_client.connection import Connection
 from .clean_stops import deaf_readers
 from .disks import Disk
 from .failing_disks import ends_empty, on_a_disk, until
-from .histories import LATE, audited, files, sessions_in, set_up
+from .histories import LATE, audited, checked, files, sessions_in, set_up
 from .runner import serving_test
 from .server import Server
 
@@ -154,3 +154,26 @@ def a_stop_waits_for_a_write_that_comes_back(checks: Checks) -> None:
         took = time.monotonic() - began
         checks.that(f"it ends within {ONCE} s", took <= ONCE, took)
         ends_empty(checks, server, "after a write that came back")
+
+
+@serving_test(limit=60)
+def killed_while_a_file_is_begun(checks: Checks) -> None:
+    """Killed at some moment about the beginning of a new file, a server leaves all that was written in one or the other."""
+    for milliseconds in range(0, 32, 4):
+        with on_a_disk(checks, journal_sync="true") as (server, disk):
+            talk = server.connect()
+            session = set_up(talk, server)
+            time.sleep(LATE)
+            disk.meet("create", late=10)
+            disk.meet("sync", 1, 1, errno.EIO)
+            talk.ask("PLAY", server.uri, [("Session", session)])
+            checks.that("a new file is begun", until(lambda: disk.asked("create") > 0))
+            time.sleep(milliseconds / 1000)
+            server.process.kill()
+            server.status = server.process.wait()
+            told = [it for it in files(server) if it.stat().st_size]
+            status, book, complaint = audited(server, told[-1])
+            wanted = 0, "", [session]
+            checks.same(f"killed {milliseconds} ms behind it: the audit", wanted, (status, complaint, sessions_in(book)))
+            checks.that("who plays", " playing:" in book, book)
+            checked(checks, server, f"killed {milliseconds} ms behind the beginning")
