@@ -60,27 +60,36 @@ def is_a_prefix(checks: Checks, server: Server, before: bytes, alive: List[str])
     checks.same("the audit", (0, "", sorted(alive)), (status, complaint, sorted(sessions_in(book))))
 
 
-def plays_and_pauses(talk: Connection, server: Server, session: str) -> None:
-    """Two entries."""
-    for method in "PLAY", "PAUSE":
+def asks(talk: Connection, server: Server, session: str, *methods: str) -> None:
+    for method in methods:
         talk.ask(method, server.uri, [("Session", session)])
 
 
-def held_up(checks: Checks, within: float, *asked: signal.Signals, readers: Callable[[Server], object] = id) -> None:
-    """A write of one entry doesn't come back, and two more entries wait."""
+def nobody(_: Server) -> None:
+    """Nobody else is there."""
+
+
+def held_up(checks: Checks, within: float, *asked: signal.Signals, readers: Callable[[Server], object] = nobody) -> None:
+    """A write of what a PLAY makes doesn't come back, and what a PAUSE makes waits."""
     with on_a_disk(checks) as (server, disk):
         talk = server.connect()
         session = set_up(talk, server)
         time.sleep(LATE)
         (file,) = files(server)
+        at_first = file.read_bytes()
+        asks(talk, server, session, "PLAY")
+        time.sleep(LATE)
+        of_a_play = file.read_bytes()[len(at_first) :].count(b"\n")
+        asks(talk, server, session, "PAUSE")
+        time.sleep(LATE)
         before = file.read_bytes()
         disk.meet("write", 1, 1, late=FOR_LONG)
-        talk.ask("PLAY", server.uri, [("Session", session)])
+        asks(talk, server, session, "PLAY")
         checks.that("the write is under way", until(lambda: disk.asked("write") == 1))
-        talk.ask("PAUSE", server.uri, [("Session", session)])
+        asks(talk, server, session, "PAUSE")
         kept = readers(server)
         left = is_left(checks, server, within, *asked)
-        checks.same("what it leaves", Left(file.name, 1), left)
+        checks.same("what it leaves", Left(file.name, of_a_play), left)
         is_a_prefix(checks, server, before, [session])
         del kept
 
@@ -103,28 +112,30 @@ def a_stop_at_once_leaves_a_write_behind(checks: Checks) -> None:
     held_up(checks, TWICE, signal.SIGTERM, signal.SIGINT, readers=deaf_readers)
 
 
-def with_syncs(checks: Checks, meet: Callable[[Disk], None], kind: str, entries: int) -> None:
+def with_syncs(checks: Checks, meet: Callable[[Disk], None], kind: str) -> None:
     """A call beside a write doesn't come back: what was written since the last sync may be lost by a loss of power."""
     with on_a_disk(checks, journal_sync="true") as (server, disk):
         talk = server.connect()
         session = set_up(talk, server)
         time.sleep(LATE)
         (file,) = files(server)
+        synced = file.read_bytes()
         meet(disk)
-        plays_and_pauses(talk, server, session)
+        asks(talk, server, session, "PLAY", "PAUSE")
         checks.that(f"the {kind} is under way", until(lambda: disk.asked(kind) > 0))
         time.sleep(LATE)
         before = file.read_bytes()
         left = is_left(checks, server, ONCE, signal.SIGTERM)
-        checks.same("its file", file.name, left.file)
-        checks.that("the entries that may be lost", 0 < left.entries <= entries, left.entries)
+        unsynced = before[len(synced) :].count(b"\n")
+        checks.that("something is written", unsynced > 0)
+        checks.same("what it leaves", Left(file.name, unsynced), left)
         is_a_prefix(checks, server, before, [session])
 
 
 @serving_test(limit=90, is_timed=True)
 def a_stop_leaves_a_sync_behind(checks: Checks) -> None:
     """What is written and not synced is told of, where it is to be synced."""
-    with_syncs(checks, lambda disk: disk.meet("sync", late=FOR_LONG), "sync", 2)
+    with_syncs(checks, lambda disk: disk.meet("sync", late=FOR_LONG), "sync")
 
 
 @serving_test(limit=90, is_timed=True)
@@ -135,7 +146,7 @@ def a_stop_leaves_a_new_file_behind(checks: Checks) -> None:
         disk.meet("create", late=FOR_LONG)
         disk.meet("sync", 1, 1, errno.EIO)
 
-    with_syncs(checks, refuse_and_hold, "create", 2)
+    with_syncs(checks, refuse_and_hold, "create")
 
 
 @serving_test(limit=60, is_timed=True)
@@ -146,7 +157,7 @@ def a_stop_waits_for_a_write_that_comes_back(checks: Checks) -> None:
         session = set_up(talk, server)
         time.sleep(LATE)
         disk.meet("write", 1, 1, late=1000)
-        plays_and_pauses(talk, server, session)
+        asks(talk, server, session, "PLAY", "PAUSE")
         checks.that("the write is under way", until(lambda: disk.asked("write") == 1))
         server.process.send_signal(signal.SIGTERM)
         began = time.monotonic()
