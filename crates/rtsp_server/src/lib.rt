@@ -9,7 +9,8 @@
 //! and `hearing` what is done with its output and its RTCP; `unread` is what it holds of a message that
 //! isn't whole. Of a lane, `service` and `tools` are what it answers with, `lane_lines` what it holds of
 //! the log, and `recorded` whether it has to look at the journal's room. `sweeper` and `stopping` are the
-//! threads that end sessions and the server, and `figures` is what is counted and shown.
+//! threads that end sessions and the server, and `figures` is what is counted and shown. `readers` and
+//! `writing_journal` are the threads that a disk may hold up, which are then left behind.
 //! What they go by is in rtsp_threads, who is to be visited in rtsp_roster, and how one player is kept
 //! from harming the others in rtsp_shares.
 
@@ -42,8 +43,10 @@ mod tools;
 mod unread;
 mod visiting;
 mod writing;
+mod writing_journal;
 
 pub use fault::ServerFault;
+pub use rtsp_chronicle::Doubt;
 pub use rtsp_lock::BookHandle;
 pub use rtsp_threads::{Lane, LaneTurn, PoolEnd, run_pool, whole_of};
 pub use server::{Announce, Server, ServerEnd};

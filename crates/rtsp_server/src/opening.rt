@@ -128,7 +128,7 @@ impl Opened {
 #[derive(Drop)]
 pub(crate) struct Handles {
     pub(crate) lanes: BookHandle,
-    // Two: the last is that of the sweeper, and the first that of the thread that starts the others.
+    // Two: those of the sweeper and of the thread that writes the journal.
     pub(crate) others: Vec<BookHandle>,
     // That by which the figures are shown, and that by which the book is given up at the end.
     pub(crate) shown: BookHandle,

@@ -3,6 +3,7 @@
 use crate::all_lanes::AllLanes;
 use crate::end_note::EndNote;
 use crate::opening::Opening;
+use crate::stopping::StopTimes;
 use crate::unread::HELD_IN_ALL;
 use mio::net::TcpListener;
 use rtsp_content::{Operation, Server, Table};
@@ -119,11 +120,8 @@ fn open_log(alloc: Global, logs_access: bool) -> Result<Log, AllocError> {
 
 // The bell of the thread that writes the journal to files, where one does.
 fn scribe_bell(operation: &Operation) -> Option<ScribeBell> {
-    if operation.journal().is_some() {
-        Some(ScribeBell::new())
-    } else {
-        None
-    }
+    let files = operation.journal()?;
+    Some(ScribeBell::new(files.sync()))
 }
 
 impl Shared {
@@ -224,19 +222,16 @@ impl Shared {
     }
 
     /// Has the lanes end: no connection is let in any more, and those that are open are answered
-    /// what they have asked, and hung up, at the latest at this moment.
-    pub(crate) fn begin_stop<R: Wait>(&self, rt: &R, by: u64) {
+    /// what they have asked, and hung up, at the latest at the first of these moments.
+    pub(crate) fn begin_stop<R: Wait>(&self, rt: &R, times: StopTimes) {
         self.gate.shut();
-        self.lanes.set_stop(rt, by);
+        self.lanes.set_stop(rt, times);
     }
 
-    /// Ends the threads beside the lanes, but for that of the log and those that read ahead.
+    /// Ends the threads beside the lanes, but for that of the log and those that disks hold up.
     pub(crate) fn stop<R: Wait>(&self, rt: &R) {
         self.bells.stop(rt);
         self.stop_bell.ring(rt);
-        if let Some(scribe) = &self.scribe {
-            scribe.stop(rt);
-        }
         self.halt.halt();
     }
 }

@@ -207,7 +207,7 @@ fn is_stopped<R: Wait + Clock>(rt: &R, bell: &ScribeBell) -> bool {
 
 #[test]
 fn a_scribe_is_asked_and_stopped(rt: HostRuntime) {
-    let bell = ScribeBell::new();
+    let bell = ScribeBell::new(true);
     assert!(rt; is_asked(&rt, &bell));
     bell.note(false);
     let was_stuck = bell.is_stuck();
@@ -217,7 +217,7 @@ fn a_scribe_is_asked_and_stopped(rt: HostRuntime) {
 
 #[test]
 fn a_turn_is_timed(rt: HostRuntime) {
-    let bell = ScribeBell::new();
+    let bell = ScribeBell::new(true);
     let rests = !bell.is_held_for(&rt, 0);
     bell.work(&rt);
     let works = bell.is_held_for(&rt, 0) && !bell.is_held_for(&rt, 3_600_000);
@@ -275,11 +275,13 @@ fn length_at_end<R: Files<File = File> + Wait + Clock + AllocGlobal>(
     handle: &mut BookHandle,
     bell: &ScribeBell,
 ) -> Option<usize> {
-    let mut scribe = scribe_of(rt)?;
+    let scribe = scribe_of(rt)?;
     bell.stop(rt);
     let log = Log::new(rt.alloc(), 1, false).ok()?;
-    scribe.run(rt, handle, bell, &log);
-    scribe.end(rt, handle, bell);
+    scribe.run(rt, handle.split(rt)?, bell, &log);
+    if !bell.is_over_within(rt, Duration::ZERO) {
+        return None;
+    }
     let text = fs::read(rt, WRITTEN).ok()?;
     fs::remove_file(rt, WRITTEN).ok()?;
     Some(text.len())
@@ -291,7 +293,7 @@ fn written_at_end<R: Files<File = File> + Wait + Clock + AllocGlobal>(
 ) -> Option<[usize; 2]> {
     let table = tone(rt.alloc(), "")?;
     let mut handle = empty_book(rt.alloc())?;
-    let bell = ScribeBell::new();
+    let bell = ScribeBell::new(true);
     if !has_room(rt, &table, &mut handle, &bell) {
         return None;
     }
