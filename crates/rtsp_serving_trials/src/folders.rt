@@ -95,7 +95,7 @@ impl Scene for Disk {
 fn run_three<R: Files<File = File> + Wait>(
     rt: &R,
     history: &mut History,
-    sink: &mut FileSink<'_, R>,
+    sink: &mut FileSink<'_, '_, R>,
 ) -> Option<u64> {
     let plan = Plan {
         after: Then::Forget,
