@@ -90,8 +90,8 @@ def closed_connections_leave_no_descriptor(checks: Checks) -> None:
         talk.close()
 
 
-# Sessions that end at once: of so many connections, so many of each.
-CONNECTIONS, EACH = 20, 100
+# Sessions that end at once: of so many connections, so many of each; or after so many seconds.
+CONNECTIONS, EACH, ENDS_AFTER = 10, 100, 10
 OVER_TCP = ("Transport", "RTP/AVP/TCP;unicast;interleaved=0-1")
 # For so many seconds somebody is asked about who renews, and so long an answer may take, at 99 of 100.
 ASKS_FOR, SOON = 2.0, 0.1
@@ -110,16 +110,18 @@ def with_sessions(server: Server) -> socket.socket:
 
 @serving_test(limit=60, is_alone=True)
 def others_beside_an_end_of_many_sessions(checks: Checks) -> None:
-    """Two thousand sessions end at once, with their connections or by their time: who renews is answered soon."""
-    settings = {"sessions": CONNECTIONS * EACH + 1, "uplink": 10**10, "timeout": TIMEOUT, "renewal_step": STEP}
+    """A thousand sessions end at once, with their connections or by their time: who renews is answered soon."""
+    settings = {"sessions": CONNECTIONS * EACH + 1, "uplink": 10**10, "timeout": ENDS_AFTER, "renewal_step": STEP}
     for is_by_time in False, True:
         with Server(checks, ONE_TRACK, **settings) as server:
             talk = server.connect()
             kept = lease(talk, f"{server.uri}/a").session
+            began = time.monotonic()
             talks = [with_sessions(server) for _ in range(CONNECTIONS)]
             if is_by_time:
+                time.sleep(max(began + ENDS_AFTER / 2 - time.monotonic(), 0.0))
                 is_alive(talk, server.uri, kept)
-                time.sleep(TIMEOUT - 1.0)
+                time.sleep(max(began + ENDS_AFTER - 0.5 - time.monotonic(), 0.0))
             else:
                 for it in talks:
                     it.close()

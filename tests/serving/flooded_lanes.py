@@ -187,18 +187,17 @@ def newcomers_beside_connects_without_end(checks: Checks) -> None:
 def renewals_beside_a_flooded_lane(checks: Checks) -> None:
     """Who renews in time loses no session, though hundreds of connections of the same lane ask without end."""
     with Server(checks, ONE_TRACK, workers=1, timeout=TIMEOUT, uplink=10**10) as server:
-        talks = [server.connect() for _ in ADDRESSES]
-        sessions = [
-            (it.ask("SETUP", f"{server.uri}/a", [OVER_TCP]).header("Session") or "").partition(";")[0] for it in talks
-        ]
         with flooded(server, [HERE] * 400, OPTIONS):
+            talks = [server.connect() for _ in ADDRESSES]
+            answers = [it.ask("SETUP", f"{server.uri}/a", [OVER_TCP]) for it in talks]
+            sessions = [(it.header("Session") or "").partition(";")[0] for it in answers]
             until, lost = time.monotonic() + RENEWED_FOR, 0
             while time.monotonic() < until:
                 lost += sum(not is_alive(talk, server.uri, it) for talk, it in zip(talks, sessions))
                 time.sleep(RENEWED_EACH)
+            for talk in talks:
+                talk.close()
         checks.same("renewals that found no session", 0, lost)
-        for talk in talks:
-            talk.close()
 
 
 @serving_test(limit=60, is_timed=True)
