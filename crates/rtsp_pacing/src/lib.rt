@@ -38,4 +38,5 @@ pub use pacing::{PLAYS_AT_ONCE, SLOTS_AT_ONCE, pace};
 pub use plays::PacerPlays;
 pub use refusals::{REFUSED_FOR, SPARED_FOR};
 pub use reports::{Report, hear, report_step};
+pub use rtsp_rtp::SendRoom;
 pub use wheel::SLOTS;

@@ -14,6 +14,7 @@ use crate::play::{Next, PacedPlay};
 use crate::plays::PacerPlays;
 use crate::wheel::Wheel;
 use rtsp_lock::BookSeat;
+use rtsp_rtp::SendRoom;
 use rtsp_sockets::RunningClock;
 use std::alloc::Global;
 use std::rt::Clock;
@@ -136,12 +137,13 @@ pub fn pace<'a, R: Wait + Clock>(
     parts: PacerParts<'a>,
     seat: BookSeat,
     plays: PacerPlays,
+    room: SendRoom,
 ) -> Paced
     requires { IsSeatOf seat parts.lock.now }
 {
     let clock = RunningClock::new(rt, parts.begun);
     let bell = parts.bell;
-    let mut desk = PacerDesk::new(rt, alloc, parts, clock, seat);
+    let mut desk = PacerDesk::new(rt, alloc, parts, clock, seat, room);
     let wheel = Wheel::new(desk.now());
     let mut pacing = Pacing {
         alloc,

@@ -327,12 +327,12 @@ impl PacedPlay {
             failed: 0,
             waits: false,
         };
-        let packet = &mut desk.packet;
-        let turn = self.pacer.turn(session, phase, until, packet, &mut sink);
+        let room = &mut desk.room;
+        let turn = self.pacer.turn(session, phase, until, room, &mut sink);
         let left = self.left.unwrap_or(phase);
         let last = if turn == Turn::OtherPlay {
             let pacer = &mut self.pacer;
-            Some(pacer.last_turn(session, left, until, packet, &mut sink))
+            Some(pacer.last_turn(session, left, until, room, &mut sink))
         } else {
             None
         };

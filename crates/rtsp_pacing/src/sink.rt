@@ -6,7 +6,7 @@ use crate::dropped::Dropped;
 use crate::ways::Ways;
 use crate::went::Went;
 use rtsp_metrics::Counters;
-use rtsp_rtp::{ControlSink, Packet, Sink, SinkFault};
+use rtsp_rtp::{ControlSink, Packet, Sink, SinkFault, SlotFault};
 use rtsp_sockets::{FrameRoom, Media, NotTaken};
 use std::sync::Wait;
 
@@ -44,7 +44,7 @@ pub(crate) fn failures_in(failed: u64, waits: bool) -> u64
 impl<R: Wait> Sink for PacketSink<'_, '_, R> {
     ghost use Rattle.std.specs.Prelude.{⊤};
 
-    ghost calls = { record { octets = λ s track unit bytes u. ⊤; sends = λ s track packet u. ⊤; fails = λ s u. ⊤; failures = λ s. s.failed } };
+    ghost calls = { record { octets = λ s track unit bytes u. ⊤; sends = λ s track packet u. ⊤; refuses = λ s track unit fault u. ⊤; reports = λ s track packet u. ⊤; fails = λ s u. ⊤; failures = λ s. s.failed } };
 
     fn octets(&mut self, track: u16, unit: u32, out: &mut [u8]) -> Result<(), SinkFault> {
         let presentation = self.presentation;
@@ -63,7 +63,7 @@ impl<R: Wait> Sink for PacketSink<'_, '_, R> {
         Err(SinkFault)
     }
 
-    fn send(&mut self, track: u16, packet: &mut Packet) -> Result<(), SinkFault> {
+    fn send(&mut self, track: u16, packet: &mut Packet) {
         let went = self.ways.send(self.rt, self.now, self.room, track, packet);
         if went == Went::Sent {
             self.packets = self.packets.saturating_add(1);
@@ -74,7 +74,16 @@ impl<R: Wait> Sink for PacketSink<'_, '_, R> {
             let one = Dropped::one(cause, self.now);
             self.dropped = Dropped::count(self.dropped, Some(one));
         }
-        Ok(())
+    }
+
+    fn refuse(&mut self, track: u16, _unit: u32, _fault: SlotFault) {
+        let presentation = u16::try_from(self.presentation).unwrap_or(u16::MAX);
+        self.counters.media_failed(presentation, track);
+    }
+
+    fn report(&mut self, track: u16, packet: &mut Packet) {
+        self.ways
+            .send_control(self.rt, self.now, self.room, track, packet);
     }
 }
 
