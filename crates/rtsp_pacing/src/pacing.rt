@@ -10,11 +10,11 @@ use crate::desk::{Paced, PacerDesk, PacerParts};
 use crate::inbox::Heard;
 use crate::left_early::{LeftEarly, begun_at};
 use crate::noted::NewPlay;
+use crate::pacer_room::PacerRoom;
 use crate::play::{Next, PacedPlay};
 use crate::plays::PacerPlays;
 use crate::wheel::Wheel;
 use rtsp_lock::BookSeat;
-use rtsp_rtp::SendRoom;
 use rtsp_sockets::RunningClock;
 use std::alloc::Global;
 use std::rt::Clock;
@@ -137,7 +137,7 @@ pub fn pace<'a, R: Wait + Clock>(
     parts: PacerParts<'a>,
     seat: BookSeat,
     plays: PacerPlays,
-    room: SendRoom,
+    room: PacerRoom,
 ) -> Paced
     requires { IsSeatOf seat parts.lock.now }
 {

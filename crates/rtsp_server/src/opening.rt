@@ -7,7 +7,7 @@ use crate::threads::OnePacer;
 use mio::net::TcpListener;
 use rtsp_content::{Operation, Table};
 use rtsp_lock::{BookHandle, open_book};
-use rtsp_pacing::{PacerPlays, SendRoom};
+use rtsp_pacing::{PacerPlays, PacerRoom};
 use rtsp_sockets::{Media, Reader};
 use rtsp_status::{PEERS, StatusServer};
 use rtsp_threads::{CONNECTIONS, connections_for, descriptor_limit, whole_of};
@@ -275,7 +275,7 @@ fn open_pacer<R: Wait>(
     sessions: u16,
 ) -> Result<OnePacer, ServerFault> {
     let plays = PacerPlays::open(alloc, usize::from(sessions))?;
-    let room = SendRoom::open(alloc)?;
+    let room = PacerRoom::open(alloc)?;
     match handle.split(rt) {
         Some(handle) => Ok(OnePacer {
             number,
