@@ -9,7 +9,7 @@ use crate::pacer_room::PacerRoom;
 use crate::told::ToldSessions;
 use rtsp_book::{Refusal, SessionView, Step};
 use rtsp_content::Table;
-use rtsp_lock::{BookLock, BookSeat, Name};
+use rtsp_lock::{AnyNumbers, BookLock, BookSeat, Name, Numbers};
 use rtsp_log::{Event, FrameLoss, Log};
 use rtsp_metrics::Counters;
 use rtsp_npt::UnitLength;
@@ -25,8 +25,8 @@ const TURNS_A_READING: u32 = 64;
 
 /// The parts of a server that are lent to a pacer.
 #[derive(Drop)]
-pub struct PacerParts<'a> {
-    pub lock: &'a BookLock,
+pub struct PacerParts<'a, N: Numbers = AnyNumbers> {
+    pub lock: &'a BookLock<N>,
     pub table: &'a Table,
     pub ports: &'a PortTable,
     pub outlets: &'a Outlets,
@@ -59,9 +59,9 @@ pub struct Paced {
 
 // The parts, with the pacer's own seat and clock, and what it has done.
 #[derive(Drop)]
-pub(crate) struct PacerDesk<'a, R> {
+pub(crate) struct PacerDesk<'a, R, N: Numbers> {
     pub(crate) rt: &'a R,
-    pub(crate) parts: PacerParts<'a>,
+    pub(crate) parts: PacerParts<'a, N>,
     pub(crate) clock: RunningClock<'a, R>,
     pub(crate) paced: Paced,
     pub(crate) room: PacerRoom,
@@ -76,15 +76,15 @@ pub(crate) struct PacerDesk<'a, R> {
     ghost ours: { IsSeatOf seat parts.lock.now },
 }
 
-impl<'a, R> PacerDesk<'a, R> {
+impl<'a, R, N: Numbers> PacerDesk<'a, R, N> {
     pub(crate) fn new(
         rt: &'a R,
         alloc: Global,
-        parts: PacerParts<'a>,
+        parts: PacerParts<'a, N>,
         clock: RunningClock<'a, R>,
         seat: BookSeat,
         room: PacerRoom,
-    ) -> PacerDesk<'a, R>
+    ) -> PacerDesk<'a, R, N>
         requires { IsSeatOf seat parts.lock.now }
     {
         PacerDesk {
@@ -117,7 +117,7 @@ impl Paced {
     }
 }
 
-impl<R> PacerDesk<'_, R> {
+impl<R, N: Numbers> PacerDesk<'_, R, N> {
     // Counts what came of a turn, of whose packets the first was so many milliseconds late.
     pub(crate) fn count(&mut self, packets: u64, lost: u64, failures: u64, late: u64) {
         self.paced.count(packets, lost, failures);
@@ -126,7 +126,7 @@ impl<R> PacerDesk<'_, R> {
     }
 }
 
-impl<R: Clock> PacerDesk<'_, R> {
+impl<R: Clock, N: Numbers> PacerDesk<'_, R, N> {
     // The present moment, or the latest before it by which no lane is deciding on a PLAY or a PAUSE. What
     // was told once stays: a lane that began to decide since reads its moment after that.
     pub(crate) fn now(&mut self) -> u64 {
@@ -160,7 +160,7 @@ impl<R: Clock> PacerDesk<'_, R> {
     }
 }
 
-impl<R: Wait> PacerDesk<'_, R> {
+impl<R: Wait, N: Numbers> PacerDesk<'_, R, N> {
     // How many milliseconds of media, of so many at most, a play of this rate may send beyond its
     // pace: what is free of the uplink is for all that are late. It is looked at once a second.
     pub(crate) fn take_credit(&mut self, most: u64, rate: u64, moment: u64) -> u64
@@ -221,7 +221,7 @@ impl<R: Wait> PacerDesk<'_, R> {
     }
 }
 
-impl<R: Wait + Clock> PacerDesk<'_, R> {
+impl<R: Wait + Clock, N: Numbers> PacerDesk<'_, R, N> {
     // Tells that frames of a session were dropped, once for each session.
     pub(crate) fn tell_dropped(&mut self, session: u64, dropped: Dropped) {
         self.forget_told();

@@ -14,7 +14,7 @@ use crate::pacer_room::PacerRoom;
 use crate::play::{Next, PacedPlay};
 use crate::plays::PacerPlays;
 use crate::wheel::Wheel;
-use rtsp_lock::BookSeat;
+use rtsp_lock::{BookSeat, Numbers};
 use rtsp_sockets::RunningClock;
 use std::alloc::Global;
 use std::rt::Clock;
@@ -34,15 +34,15 @@ const IDLE: u64 = 1_000;
 
 // What a pacer does its turns with.
 #[derive(Drop)]
-struct Pacing<'a, R> {
+struct Pacing<'a, R, N: Numbers> {
     alloc: Global,
-    desk: PacerDesk<'a, R>,
+    desk: PacerDesk<'a, R, N>,
     wheel: Wheel,
     plays: PacerPlays,
     left_early: LeftEarly,
 }
 
-impl<R: Wait + Clock> Pacing<'_, R> {
+impl<R: Wait + Clock, N: Numbers> Pacing<'_, R, N> {
     // How long the pacer sleeps if it hears nothing. `None` where the system can't tell the time.
     fn sleep(&mut self) -> Option<Duration> {
         let moment = match self.wheel.next_full() {
@@ -131,10 +131,10 @@ impl<R: Wait + Clock> Pacing<'_, R> {
 /// where the players of the configuration are GStreamer, each of its streams says goodbye, too.
 /// Where there is room among the plays, a play needs no memory; where there is neither, it isn't
 /// sent.
-pub fn pace<'a, R: Wait + Clock>(
+pub fn pace<'a, R: Wait + Clock, N: Numbers>(
     rt: &'a R,
     alloc: Global,
-    parts: PacerParts<'a>,
+    parts: PacerParts<'a, N>,
     seat: BookSeat,
     plays: PacerPlays,
     room: PacerRoom,

@@ -15,6 +15,7 @@ use crate::ways::{Ways, rate_of};
 use crate::when::{at_pace, is_given_up, look_again, measured, next_unit, waited_on};
 use rtsp_book::SessionView;
 use rtsp_content::Presentation;
+use rtsp_lock::Numbers;
 use rtsp_record::Phase;
 use rtsp_rtp::{LastTurn, Pacer, Turn, sent_before};
 use std::alloc::Global;
@@ -105,8 +106,8 @@ fn is_past(phase: Phase, unit_ms: u32, moment: u64) -> bool {
 impl PacedPlay {
     // The play that a PLAY began, and the moment of its first turn, also where the session has left
     // it. `None` where nothing of it can be sent.
-    pub(crate) fn begin<R: Wait>(
-        desk: &mut PacerDesk<'_, R>,
+    pub(crate) fn begin<R: Wait, N: Numbers>(
+        desk: &mut PacerDesk<'_, R, N>,
         asked: NewPlay,
         view: &SessionView,
     ) -> Option<(PacedPlay, u64)>
@@ -162,10 +163,10 @@ impl PacedPlay {
     }
 
     // Takes the turn of the play, if its moment has come.
-    pub(crate) fn turn<R: Wait + Clock>(
+    pub(crate) fn turn<R: Wait + Clock, N: Numbers>(
         &mut self,
         alloc: Global,
-        desk: &mut PacerDesk<'_, R>,
+        desk: &mut PacerDesk<'_, R, N>,
     ) -> Next {
         // The moment comes before the look: what is sent was due while the session was playing.
         let moment = desk.moment();
@@ -181,9 +182,9 @@ impl PacedPlay {
     }
 
     // Tells of frames that were dropped, once they were counted for long enough or the play is over.
-    fn tell_dropped<R: Wait + Clock>(
+    fn tell_dropped<R: Wait + Clock, N: Numbers>(
         &mut self,
-        desk: &mut PacerDesk<'_, R>,
+        desk: &mut PacerDesk<'_, R, N>,
         next: Next,
         moment: u64,
     ) {
@@ -201,17 +202,17 @@ impl PacedPlay {
     }
 
     // Tells of frames that were dropped, where it wasn't: the pacer is at its end.
-    pub(crate) fn tell_rest<R: Wait + Clock>(&self, desk: &mut PacerDesk<'_, R>) {
+    pub(crate) fn tell_rest<R: Wait + Clock, N: Numbers>(&self, desk: &mut PacerDesk<'_, R, N>) {
         if let Some(dropped) = self.dropped {
             desk.tell_dropped(self.session(), dropped);
         }
     }
 
     // Does what is next: sends, or reports the play, or says goodbye.
-    fn turn_at<R: Wait>(
+    fn turn_at<R: Wait, N: Numbers>(
         &mut self,
         alloc: Global,
-        desk: &mut PacerDesk<'_, R>,
+        desk: &mut PacerDesk<'_, R, N>,
         moment: u64,
     ) -> Next {
         let Some(phase) = desk.phase(self.session()) else {
@@ -232,10 +233,10 @@ impl PacedPlay {
     }
 
     // Sends what is due, with measure, and ends the play behind its last packet.
-    fn send_on<R: Wait>(
+    fn send_on<R: Wait, N: Numbers>(
         &mut self,
         alloc: Global,
-        desk: &mut PacerDesk<'_, R>,
+        desk: &mut PacerDesk<'_, R, N>,
         presentation: &Presentation,
         phase: Phase,
         moment: u64,
@@ -259,7 +260,7 @@ impl PacedPlay {
     }
 
     // Sends again to ports that have refused all, once the session is renewed: its player is there.
-    fn heed_renewal<R: Wait>(&mut self, desk: &mut PacerDesk<'_, R>, moment: u64) {
+    fn heed_renewal<R: Wait, N: Numbers>(&mut self, desk: &mut PacerDesk<'_, R, N>, moment: u64) {
         if !self.ways.is_any_spared(moment) {
             self.renewal = Renewal::unseen();
             return;
@@ -276,9 +277,9 @@ impl PacedPlay {
 
     // The moment up to which it sends in a turn, where its next unit is due at `due`. It keeps its pace,
     // and catches up with measure as far as the uplink is free. What isn't at hand has no use for that.
-    fn sends_until<R: Wait>(
+    fn sends_until<R: Wait, N: Numbers>(
         &mut self,
-        desk: &mut PacerDesk<'_, R>,
+        desk: &mut PacerDesk<'_, R, N>,
         due: u64,
         unit_ms: u32,
         moment: u64,
@@ -299,9 +300,9 @@ impl PacedPlay {
 
     // Sends with measure what is due while the session is in this phase. A play that was left waits
     // for its media, too, but not for ever.
-    fn send<R: Wait>(
+    fn send<R: Wait, N: Numbers>(
         &mut self,
-        desk: &mut PacerDesk<'_, R>,
+        desk: &mut PacerDesk<'_, R, N>,
         phase: Phase,
         unit_ms: u32,
         moment: u64,

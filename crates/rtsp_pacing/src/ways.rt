@@ -5,6 +5,7 @@ use crate::desk::PacerParts;
 use crate::refusals::Refusals;
 use crate::went::Went;
 use rtsp_book::SessionView;
+use rtsp_lock::Numbers;
 use rtsp_record::{Admission, Stream, Thing};
 use rtsp_rtp::Packet;
 use rtsp_sockets::{FrameRoom, PortSockets};
@@ -64,9 +65,9 @@ fn datagrams(sockets: Option<Arc<PortSockets>>, stream: &Stream) -> Way {
 }
 
 // The way of a stream under an admission.
-fn way_of<R: Wait>(
+fn way_of<R: Wait, N: Numbers>(
     rt: &R,
-    parts: &PacerParts<'_>,
+    parts: &PacerParts<'_, N>,
     number: u64,
     admission: &Admission,
     stream: &Stream,
@@ -178,7 +179,11 @@ impl Way {
 
 impl Ways {
     // The ways of the streams that a session has.
-    pub(crate) fn of<R: Wait>(rt: &R, parts: &PacerParts<'_>, view: &SessionView) -> Ways {
+    pub(crate) fn of<R: Wait, N: Numbers>(
+        rt: &R,
+        parts: &PacerParts<'_, N>,
+        view: &SessionView,
+    ) -> Ways {
         let mut ways = Ways {
             ways: [
                 Way::Nowhere,
