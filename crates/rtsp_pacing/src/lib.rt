@@ -22,6 +22,7 @@ mod noted;
 mod noting;
 mod pacer_room;
 mod pacing;
+mod packet_count;
 mod play;
 mod plays;
 mod refusals;

@@ -9,6 +9,7 @@ ghost use Rattle.rtsp_pacing.specs.Beginning.{Begins, IsApart};
 use crate::desk::PacerDesk;
 use crate::dropped::Dropped;
 use crate::noted::NewPlay;
+use crate::packet_count::PacketCount;
 use crate::renewal::Renewal;
 use crate::sink::{PacketSink, failures_in};
 use crate::ways::{Ways, rate_of};
@@ -323,9 +324,7 @@ impl PacedPlay {
             now: moment,
             room: self.ways.room_when_late(late),
             run: &mut desk.room.frames,
-            packets: 0,
-            lost: 0,
-            dropped: None,
+            count: PacketCount::none(),
             failed: 0,
             waits: false,
         };
@@ -339,10 +338,10 @@ impl PacedPlay {
             None
         };
         sink.put_run();
-        let (packets, lost, waits) = (sink.packets, sink.lost, sink.waits);
+        let (count, waits) = (sink.count, sink.waits);
         let failed = failures_in(sink.failed, waits);
-        self.dropped = Dropped::count(self.dropped, sink.dropped);
-        desk.count(packets, lost, failed, late);
+        self.dropped = Dropped::count(self.dropped, count.dropped);
+        desk.count(count.sent, count.lost, failed, late);
         let next = self.pacer.next_due();
         self.last = moment;
         if waits {

@@ -2,8 +2,8 @@
 
 ghost use Rattle.std.specs.Prelude.{◌≡◌, ◌-◌, if◌then◌else◌};
 
-use crate::dropped::Dropped;
 use crate::frame_run::FrameRun;
+use crate::packet_count::PacketCount;
 use crate::ways::Ways;
 use crate::went::Went;
 use rtsp_metrics::Counters;
@@ -26,10 +26,7 @@ pub(crate) struct PacketSink<'a, 'w, R> {
     pub(crate) room: FrameRoom,
     // The frames of the unit that is being sent. It is put before a sink is let go.
     pub(crate) run: &'w mut FrameRun,
-    pub(crate) packets: u64,
-    pub(crate) lost: u64,
-    // What of the lost was dropped for want of room.
-    pub(crate) dropped: Option<Dropped>,
+    pub(crate) count: PacketCount,
     // The calls that have failed, for whatever reason.
     pub(crate) failed: u64,
     // Whether the last of them was for a unit that isn't read yet.
@@ -45,19 +42,6 @@ pub(crate) fn failures_in(failed: u64, waits: bool) -> u64
 }
 
 impl<R: Wait> PacketSink<'_, '_, R> {
-    // Counts what came of so many packets.
-    fn count(&mut self, packets: u64, went: Went) {
-        if went == Went::Sent {
-            self.packets = self.packets.saturating_add(packets);
-        } else {
-            self.lost = self.lost.saturating_add(packets);
-        }
-        if let Went::Dropped(cause) = went {
-            let one = Dropped::one(cause, self.now);
-            self.dropped = Dropped::count(self.dropped, Some(one));
-        }
-    }
-
     // Puts frames of a track.
     fn put(&self, track: u16, frames: &[u8]) -> Went {
         self.ways
@@ -65,41 +49,49 @@ impl<R: Wait> PacketSink<'_, '_, R> {
     }
 
     // Gathers a frame of a track behind those of its unit; where they have no room for it, they are put.
-    fn gather(&mut self, track: u16, frame: &[u8]) {
+    fn gather(&mut self, track: u16, frame: &[u8])
+        ensures { self.new.failed ≡ self.old.failed }
+    {
         if self.run.add(track, frame) {
             return;
         }
         self.put_run();
         if !self.run.add(track, frame) {
             let went = self.put(track, frame);
-            self.count(1, went);
+            self.count = self.count.with(1, went, self.now);
         }
     }
 
     // Puts the frames that were gathered in one call, and one by one where there is no room for all.
-    pub(crate) fn put_run(&mut self) {
+    pub(crate) fn put_run(&mut self)
+        ensures { self.new.failed ≡ self.old.failed }
+    {
         let (track, frames) = (self.run.track(), self.run.frames());
         if frames == 0 {
             return;
         }
-        match self.put(track, self.run.as_bytes()) {
+        let went = self.put(track, self.run.as_bytes());
+        let count = match went {
             Went::Dropped(_) if frames > 1 => self.put_each(track, frames),
-            went => self.count(frames, went),
-        }
+            _ => self.count.with(frames, went, self.now),
+        };
+        self.count = count;
         self.run.clear();
     }
 
-    // Puts the frames that were gathered one by one.
-    fn put_each(&mut self, track: u16, frames: u64) {
+    // Puts the frames that were gathered one by one. What the count comes to.
+    fn put_each(&self, track: u16, frames: u64) -> PacketCount {
+        let mut count = self.count;
         let mut at = 0usize;
         for _ in 0..frames {
             let Some(frame) = self.run.frame_at(at) else {
-                return;
+                return count;
             };
             at = at.saturating_add(frame.len());
             let went = self.put(track, frame);
-            self.count(1, went);
+            count = count.with(1, went, self.now);
         }
+        count
     }
 }
 
@@ -131,7 +123,7 @@ impl<R: Wait> Sink for PacketSink<'_, '_, R> {
             Some(number) => self.gather(track, packet.frame(number)),
             None => {
                 let went = self.ways.send_datagram(self.now, track, packet.datagram());
-                self.count(1, went);
+                self.count = self.count.with(1, went, self.now);
             }
         }
     }
