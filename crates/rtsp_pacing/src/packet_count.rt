@@ -21,7 +21,7 @@ impl PacketCount {
     }
 
     // With so many packets more, of all of which this came at a moment.
-    pub(crate) fn with(self, packets: u64, went: Went, now: u64) -> PacketCount {
+    pub(crate) fn with_more(self, packets: u64, went: Went, now: u64) -> PacketCount {
         let dropped = match went {
             Went::Dropped(cause) => Some(Dropped::one(cause, now)),
             Went::Sent | Went::Lost => None,

@@ -58,7 +58,7 @@ impl<R: Wait> PacketSink<'_, '_, R> {
         self.put_run();
         if !self.run.add(track, frame) {
             let went = self.put(track, frame);
-            self.count = self.count.with(1, went, self.now);
+            self.count = self.count.with_more(1, went, self.now);
         }
     }
 
@@ -73,7 +73,7 @@ impl<R: Wait> PacketSink<'_, '_, R> {
         let went = self.put(track, self.run.as_bytes());
         let count = match went {
             Went::Dropped(_) if frames > 1 => self.put_each(track, frames),
-            _ => self.count.with(frames, went, self.now),
+            _ => self.count.with_more(frames, went, self.now),
         };
         self.count = count;
         self.run.clear();
@@ -89,7 +89,7 @@ impl<R: Wait> PacketSink<'_, '_, R> {
             };
             at = at.saturating_add(frame.len());
             let went = self.put(track, frame);
-            count = count.with(1, went, self.now);
+            count = count.with_more(1, went, self.now);
         }
         count
     }
@@ -123,7 +123,7 @@ impl<R: Wait> Sink for PacketSink<'_, '_, R> {
             Some(number) => self.gather(track, packet.frame(number)),
             None => {
                 let went = self.ways.send_datagram(self.now, track, packet.datagram());
-                self.count = self.count.with(1, went, self.now);
+                self.count = self.count.with_more(1, went, self.now);
             }
         }
     }
