@@ -63,7 +63,7 @@ fn run_lane<
 // Runs the lanes, each in a thread of its own with a handle that is split off this one.
 fn run_lanes<
     R: Threads + Wait + Net<Listener = TcpListener, Stream = TcpStream> + Clock + Sync,
-    N: Numbers,
+    N: Numbers + Send + Sync,
     L: Lane<N> + Send,
 >(rt: &R, alloc: Global, table: &Table, mut own: BookHandle<N>, lanes: Vec<L>) -> PoolEnd {
     let Ok(mut handles) = Vec::with_capacity(alloc, lanes.len()) else {
@@ -103,7 +103,7 @@ fn none_served<L>(lanes: &Vec<L>) -> PoolEnd {
 /// joins the threads.
 pub fn run_pool<
     R: Threads + Wait + Net<Listener = TcpListener, Stream = TcpStream> + Clock + Sync,
-    N: Numbers,
+    N: Numbers + Send + Sync,
     L: Lane<N> + Send,
 >(
     rt: &R,

@@ -121,15 +121,6 @@ module _ {R B W C P S N : Type 0} where
       faults (Ok done) bytes old new s t p h = tt
       faults (Err fault) bytes old new s t p h = fault_within Way Lost (AnswersUnderstood d) (GivesUpUnderstood d) desk_serving (IsFor players) answers gives_up bytes fault _ _ p h
 
-    -- of what was refused nothing is left
-    pub takes_cleanly : (pushed : Result (Unit {0}) MessageFault) (bytes rest : List ℕ) (s t : Output Serving) → VisitedDrawn d → OnOk pushed (TakesPiece d bytes rest s t) → OnOk pushed (LeavesTaken d bytes rest s t)
-    takes_cleanly (Ok done) bytes rest s t law h is = law.answered meaning bytes rest s t is h
-    takes_cleanly (Err fault) bytes rest s t law h = tt
-
-    pub faults_cleanly : (pushed : Result (Unit {0}) MessageFault) (bytes : List ℕ) (s t : Output Serving) → VisitedDrawn d → IfErr pushed (λ f. FaultsPiece d bytes f s t) → IfErr pushed (λ f. LeavesFaulted d bytes f s t)
-    faults_cleanly (Ok done) bytes s t law h = tt
-    faults_cleanly (Err fault) bytes s t law h is = law.faulted meaning bytes fault s t is h
-
     -- a desk that was made for a piece: its seat and what is served are those that were lent
     returned : (Is : Output Serving → Type 0) (new : List ℕ) (s t : Desk R B W C P S N) (seat : BookSeat) → t.seat.now ≡ seat → SameParts s t → Is (gathers new (desk_serving t)) → Is (gathers new (after s seat))
     returned Is new s t seat is same h =
@@ -144,3 +135,13 @@ module _ {R B W C P S N : Type 0} where
         → IfErr pushed (λ f. FaultsPiece d bytes f (gathers old (desk_serving s)) (gathers new (desk_serving t))) → IfErr pushed (λ f. FaultsPiece d bytes f (gathers old (desk_serving s)) (gathers new (after s seat)))
     returned_faults (Ok done) bytes old new s t seat is same h = tt
     returned_faults (Err fault) bytes old new s t seat is same h = returned (λ z. FaultsPiece d bytes fault (gathers old (desk_serving s)) z) new s t seat is same h
+
+-- of what was refused in a piece nothing is left
+module _ {B W C P S : Type 0} (d : Devices B W C P S) where
+  pub takes_cleanly : (pushed : Result (Unit {0}) MessageFault) (bytes rest : List ℕ) (s t : Output Serving) → VisitedDrawn d → OnOk pushed (TakesPiece d bytes rest s t) → OnOk pushed (LeavesTaken d bytes rest s t)
+  takes_cleanly (Ok done) bytes rest s t law h = λ is. law.answered meaning bytes rest s t is h
+  takes_cleanly (Err fault) bytes rest s t law h = tt
+
+  pub faults_cleanly : (pushed : Result (Unit {0}) MessageFault) (bytes : List ℕ) (s t : Output Serving) → VisitedDrawn d → IfErr pushed (λ f. FaultsPiece d bytes f s t) → IfErr pushed (λ f. LeavesFaulted d bytes f s t)
+  faults_cleanly (Ok done) bytes s t law h = tt
+  faults_cleanly (Err fault) bytes s t law h = λ is. law.faulted meaning bytes fault s t is h
