@@ -9,6 +9,7 @@ ghost use Rattle.rtsp_pacing.specs.Beginning.{Begins, IsApart};
 use crate::desk::PacerDesk;
 use crate::dropped::Dropped;
 use crate::noted::NewPlay;
+use crate::packet_count::PacketCount;
 use crate::renewal::Renewal;
 use crate::sink::{PacketSink, failures_in};
 use crate::ways::{Ways, rate_of};
@@ -322,25 +323,25 @@ impl PacedPlay {
             presentation: usize::from(self.presentation),
             now: moment,
             room: self.ways.room_when_late(late),
-            packets: 0,
-            lost: 0,
-            dropped: None,
+            run: &mut desk.room.frames,
+            count: PacketCount::none(),
             failed: 0,
             waits: false,
         };
-        let packet = &mut desk.packet;
-        let turn = self.pacer.turn(session, phase, until, packet, &mut sink);
+        let room = &mut desk.room.packets;
+        let turn = self.pacer.turn(session, phase, until, room, &mut sink);
         let left = self.left.unwrap_or(phase);
         let last = if turn == Turn::OtherPlay {
             let pacer = &mut self.pacer;
-            Some(pacer.last_turn(session, left, until, packet, &mut sink))
+            Some(pacer.last_turn(session, left, until, room, &mut sink))
         } else {
             None
         };
-        let (packets, lost, waits) = (sink.packets, sink.lost, sink.waits);
+        sink.put_run();
+        let (count, waits) = (sink.count, sink.waits);
         let failed = failures_in(sink.failed, waits);
-        self.dropped = Dropped::count(self.dropped, sink.dropped);
-        desk.count(packets, lost, failed, late);
+        self.dropped = Dropped::count(self.dropped, count.dropped);
+        desk.count(count.sent, count.lost, failed, late);
         let next = self.pacer.next_due();
         self.last = moment;
         if waits {

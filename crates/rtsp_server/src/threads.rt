@@ -11,7 +11,7 @@ use rtsp_chronicle::Doubt;
 use rtsp_content::Table;
 use rtsp_lock::BookHandle;
 use rtsp_log::{Event, LogWriter, SleepPause, StderrSink};
-use rtsp_pacing::{PacerParts, PacerPlays, pace};
+use rtsp_pacing::{PacerParts, PacerPlays, PacerRoom, pace};
 use rtsp_sockets::{Media, Reader};
 use rtsp_status::StatusServer;
 use rtsp_threads::{OwnStatus, PoolEnd, STANDING_LIMIT, StopBell, end_expired, run_pool};
@@ -99,6 +99,7 @@ pub(crate) struct Served {
 pub(crate) struct OnePacer {
     pub(crate) number: usize,
     pub(crate) plays: PacerPlays,
+    pub(crate) room: PacerRoom,
     pub(crate) handle: BookHandle,
 }
 
@@ -136,6 +137,7 @@ impl Parts {
         let OnePacer {
             number,
             plays,
+            room,
             handle,
         } = pacer;
         let BookHandle { lock, seat } = handle;
@@ -159,7 +161,7 @@ impl Parts {
                 log: &shared.log,
                 begun: shared.begun,
             };
-            pace(rt, alloc, parts, seat, plays);
+            pace(rt, alloc, parts, seat, plays, room);
         }
     }
 
