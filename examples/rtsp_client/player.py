@@ -127,9 +127,10 @@ class Player:
         if isinstance(ports, (UdpPair, UdpPort)):
             self.connection.datagrams[ports.rtp] = stream.reception.take
         if isinstance(ports, UdpPair):
-            self.connection.datagrams[ports.rtcp] = lambda datagram, at: None
+            self.connection.datagrams[ports.rtcp] = stream.reception.take
         if not ports:
             self.connection.channels[stream.channel] = stream.reception.take
+            self.connection.channels[stream.channel + 1] = stream.reception.take
         return stream
 
     def _channel_of(self, answer: Message) -> Optional[int]:

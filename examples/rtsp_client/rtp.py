@@ -7,6 +7,8 @@ HEADER = 12
 SEQUENCE = 1 << 16
 TIMESTAMP = 1 << 32
 FIRST_BYTE = 0x80
+# RTCP's kinds of packets; a sender report (RFC 3550 section 6.4.1), and where it has its stream and its packets.
+CONTROL, SENDER_REPORT = range(200, 205), 200
 
 
 class Packet(NamedTuple):
@@ -55,6 +57,9 @@ class Reception:
         self.first_sequence: Optional[int] = None
         self.first_timestamp = 0
         self.end: Optional[int] = None
+        # How many packets its last report counts in a play. A stream with reports has units of several packets, and of
+        # these no place but the last packet's tells where a play ends.
+        self.reported: Optional[int] = None
         self._last = 0
 
     def place_of(self, sequence: int) -> int:
@@ -64,21 +69,33 @@ class Reception:
         return self._last + offset
 
     def starts(self, sequence: int, timestamp: int) -> None:
-        """What RTP-Info says of the first packet. Later plays go on from the first one's numbers."""
+        """What RTP-Info says of the first packet. Later plays go on from the first one's numbers, or jump there."""
         if self.first_sequence is None:
             self.first_sequence, self.first_timestamp = sequence, timestamp
+        elif self.reported is not None:
+            self.first_sequence = (sequence - self._last - 1) % SEQUENCE
 
     def ends(self, sequence: int) -> None:
         """What the server says of the packet that would come next."""
-        self.end = self.place_of(sequence)
+        if self.reported is None:
+            self.end = self.place_of(sequence)
+
+    def hear(self, control: bytes) -> None:
+        """Takes an RTCP packet."""
+        if len(control) >= 28 and control[1] == SENDER_REPORT and int.from_bytes(control[4:8], "big") == self.ssrc:
+            self.reported = int.from_bytes(control[20:24], "big")
 
     def take(self, datagram: bytes, at: float) -> None:
+        if len(datagram) > 1 and datagram[1] in CONTROL:
+            self.hear(datagram)
+            return
         packet = read_packet(datagram, at)
         if packet is None or packet.ssrc != self.ssrc:
             self.strangers += 1
             return
         # A packet may overtake the answer to PLAY.
-        self.starts(packet.sequence, packet.timestamp)
+        if self.first_sequence is None:
+            self.starts(packet.sequence, packet.timestamp)
         place = self.place_of(packet.sequence)
         self._last = max(place, self._last)
         self.places.append(place)
