@@ -5,9 +5,13 @@ pub mod Tables
 pub mod Server
 pub mod MediaPath
 pub mod Distinct
+pub mod PackingLimits
+pub mod Packing
 pub mod TrackValue
 pub mod TrackView
 pub mod Track
+pub mod StartsValue
+pub mod Starts
 pub mod PresentationValue
 pub mod PresentationView
 pub mod Presentation

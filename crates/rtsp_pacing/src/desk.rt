@@ -5,6 +5,7 @@ ghost use Rattle.rtsp_lock.specs.Calls.{IsSeatOf};
 
 use crate::bell::Bell;
 use crate::dropped::Dropped;
+use crate::pacer_room::PacerRoom;
 use crate::told::ToldSessions;
 use rtsp_book::{Refusal, SessionView, Step};
 use rtsp_content::Table;
@@ -13,7 +14,6 @@ use rtsp_log::{Event, FrameLoss, Log};
 use rtsp_metrics::Counters;
 use rtsp_npt::UnitLength;
 use rtsp_record::Phase;
-use rtsp_rtp::Packet;
 use rtsp_sockets::{Decisions, Media, Outlets, PortTable, RunningClock};
 use std::alloc::Global;
 use std::rt::Clock;
@@ -64,8 +64,7 @@ pub(crate) struct PacerDesk<'a, R> {
     pub(crate) parts: PacerParts<'a>,
     pub(crate) clock: RunningClock<'a, R>,
     pub(crate) paced: Paced,
-    // Where packets are made, one after another.
-    pub(crate) packet: Packet,
+    pub(crate) room: PacerRoom,
     // The moment that was read last, and for how many turns more it does.
     moment: u64,
     turns_left: u32,
@@ -84,6 +83,7 @@ impl<'a, R> PacerDesk<'a, R> {
         parts: PacerParts<'a>,
         clock: RunningClock<'a, R>,
         seat: BookSeat,
+        room: PacerRoom,
     ) -> PacerDesk<'a, R>
         requires { IsSeatOf seat parts.lock.now }
     {
@@ -98,7 +98,7 @@ impl<'a, R> PacerDesk<'a, R> {
                 failures: 0,
                 reported: 0,
             },
-            packet: Packet::new(),
+            room,
             moment: 0,
             turns_left: 0,
             is_held: false,

@@ -10,6 +10,7 @@ use crate::desk::{Paced, PacerDesk, PacerParts};
 use crate::inbox::Heard;
 use crate::left_early::{LeftEarly, begun_at};
 use crate::noted::NewPlay;
+use crate::pacer_room::PacerRoom;
 use crate::play::{Next, PacedPlay};
 use crate::plays::PacerPlays;
 use crate::wheel::Wheel;
@@ -136,12 +137,13 @@ pub fn pace<'a, R: Wait + Clock>(
     parts: PacerParts<'a>,
     seat: BookSeat,
     plays: PacerPlays,
+    room: PacerRoom,
 ) -> Paced
     requires { IsSeatOf seat parts.lock.now }
 {
     let clock = RunningClock::new(rt, parts.begun);
     let bell = parts.bell;
-    let mut desk = PacerDesk::new(rt, alloc, parts, clock, seat);
+    let mut desk = PacerDesk::new(rt, alloc, parts, clock, seat, room);
     let wheel = Wheel::new(desk.now());
     let mut pacing = Pacing {
         alloc,

@@ -321,21 +321,23 @@ impl PacedPlay {
             presentation: usize::from(self.presentation),
             now: moment,
             room: self.ways.room_when_late(late),
+            run: &mut desk.room.frames,
             packets: 0,
             lost: 0,
             dropped: None,
             failed: 0,
             waits: false,
         };
-        let packet = &mut desk.packet;
-        let turn = self.pacer.turn(session, phase, until, packet, &mut sink);
+        let room = &mut desk.room.packets;
+        let turn = self.pacer.turn(session, phase, until, room, &mut sink);
         let left = self.left.unwrap_or(phase);
         let last = if turn == Turn::OtherPlay {
             let pacer = &mut self.pacer;
-            Some(pacer.last_turn(session, left, until, packet, &mut sink))
+            Some(pacer.last_turn(session, left, until, room, &mut sink))
         } else {
             None
         };
+        sink.put_run();
         let (packets, lost, waits) = (sink.packets, sink.lost, sink.waits);
         let failed = failures_in(sink.failed, waits);
         self.dropped = Dropped::count(self.dropped, sink.dropped);

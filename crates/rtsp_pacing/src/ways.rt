@@ -149,18 +149,17 @@ impl Way {
         }
     }
 
-    // Sends a packet, which may wait within this room where it is a frame.
-    fn send<R: Wait>(&self, rt: &R, now: u64, room: FrameRoom, packet: &mut Packet) -> Went {
+    // Sends a datagram. Frames are put on the channel.
+    fn send_datagram(&self, now: u64, datagram: &[u8]) -> Went {
         match self {
-            Way::Nowhere => Went::Lost,
             Way::Datagrams(port) => {
-                if port.send(now, packet.datagram()) {
+                if port.send(now, datagram) {
                     Went::Sent
                 } else {
                     Went::Lost
                 }
             }
-            Way::Frames(channel) => channel.put(rt, now, room, packet.frame(channel.number())),
+            Way::Nowhere | Way::Frames(_) => Went::Lost,
         }
     }
 
@@ -226,19 +225,35 @@ impl Ways {
         room_when_late(self.frame_rate, late)
     }
 
-    // Sends a packet of a track, which may wait within this room where it is a frame.
-    pub(crate) fn send<R: Wait>(
+    // The channel that packets of a track go to as frames, if they do.
+    pub(crate) fn channel(&self, track: u16) -> Option<&Channel> {
+        match self.ways.get(usize::from(track)) {
+            Some(Way::Frames(channel)) => Some(channel),
+            _ => None,
+        }
+    }
+
+    // Puts frames of a track, one behind another, which may wait within this room: all of them, or none.
+    pub(crate) fn put_frames<R: Wait>(
         &self,
         rt: &R,
         now: u64,
         room: FrameRoom,
         track: u16,
-        packet: &mut Packet,
+        frames: &[u8],
     ) -> Went {
+        match self.channel(track) {
+            Some(channel) => channel.put(rt, now, room, frames),
+            None => Went::Lost,
+        }
+    }
+
+    // Sends a packet of a track as a datagram.
+    pub(crate) fn send_datagram(&self, now: u64, track: u16, datagram: &[u8]) -> Went {
         let Some(way) = self.ways.get(usize::from(track)) else {
             return Went::Lost;
         };
-        let went = way.send(rt, now, room, packet);
+        let went = way.send_datagram(now, datagram);
         if went != Went::Sent {
             let until = way.spared_until().max(self.spared_until.get());
             self.spared_until.set(until);

@@ -10,7 +10,7 @@ use crate::sweeper::run_sweeper;
 use rtsp_content::Table;
 use rtsp_lock::BookHandle;
 use rtsp_log::{Event, LogWriter, SleepPause, StderrSink};
-use rtsp_pacing::{PacerParts, PacerPlays, pace};
+use rtsp_pacing::{PacerParts, PacerPlays, PacerRoom, pace};
 use rtsp_sockets::{Media, Reader};
 use rtsp_status::StatusServer;
 use rtsp_threads::{
@@ -91,6 +91,7 @@ pub(crate) struct Beside {
 pub(crate) struct OnePacer {
     pub(crate) number: usize,
     pub(crate) plays: PacerPlays,
+    pub(crate) room: PacerRoom,
     pub(crate) handle: BookHandle,
 }
 
@@ -128,6 +129,7 @@ impl Parts {
         let OnePacer {
             number,
             plays,
+            room,
             handle,
         } = pacer;
         let BookHandle { lock, seat } = handle;
@@ -151,7 +153,7 @@ impl Parts {
                 log: &shared.log,
                 begun: shared.begun,
             };
-            pace(rt, alloc, parts, seat, plays);
+            pace(rt, alloc, parts, seat, plays, room);
         }
     }
 

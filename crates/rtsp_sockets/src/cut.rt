@@ -18,7 +18,7 @@ pub(crate) struct Cut {
 
 // How many bytes of a track are read at once: as many whole units as fit into that time, and one in any
 // case.
-pub(crate) fn cut_len(octets: u16, unit_ms: u32) -> u64
+pub(crate) fn cut_len(octets: u32, unit_ms: u32) -> u64
     requires { 0 < unit_ms }
     ensures { result ≡ octets * max (CUT_MS / unit_ms) 1 }
 {

@@ -46,7 +46,7 @@ impl From<AllocError> for MediaFault {
 #[derive(Clone, Copy)]
 pub(crate) struct Place {
     pub(crate) file: usize,
-    pub(crate) octets: u16,
+    pub(crate) octets: u32,
     pub(crate) step: u64,
 }
 
@@ -80,7 +80,7 @@ fn kept_limit(uplink: u64) -> u64
 
 // How many bytes the file of a track has.
 fn len_of(presentation: &Presentation, track: &Track) -> u64 {
-    u64::from(presentation.units()) * u64::from(track.octets())
+    u64::from(presentation.units()) * u64::from(track.unit_len())
 }
 
 impl MediaOf<File> {
@@ -102,10 +102,11 @@ impl MediaOf<File> {
             let mut places = Vec::new(alloc);
             for track in presentation.tracks() {
                 let file = media.file_of(rt, &mut paths, presentation, track)?;
+                let octets = track.unit_len();
                 let place = Place {
                     file,
-                    octets: track.octets(),
-                    step: cut_len(track.octets(), presentation.unit_ms().ms()),
+                    octets,
+                    step: cut_len(octets, presentation.unit_ms().ms()),
                 };
                 places.push(place).map_err(AllocError::from)?;
             }

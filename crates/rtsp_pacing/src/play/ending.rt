@@ -104,7 +104,7 @@ impl PacedPlay {
                 ways: &self.ways,
                 now: moment,
             };
-            self.pacer.say_goodbye(&mut desk.packet, &mut sink);
+            self.pacer.say_goodbye(&mut desk.room.packets, &mut sink);
         }
     }
 }
