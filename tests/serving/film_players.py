@@ -78,7 +78,7 @@ def served(checks: Checks, kind: Kind, *words: str) -> Iterator[Served]:
     if done.returncode:
         raise Failed(f"the film wasn't imported: {done.stderr}")
     text = (server.path / "films.toml").read_text()
-    ports = f"first_port = {server.first_port}\npairs = {server.pairs}\n"
+    ports = f"first_port = {server.first_port}\npairs = {server.pairs}\naccess_log = true\n"
     server.text = re.sub(r"first_port = .*\npairs = .*\n", ports, text)
     with server:
         yield Served(server, film, tomllib.loads(text)["presentation"][0])
@@ -141,6 +141,7 @@ def gstreamer_pauses_a_film(checks: Checks) -> None:
         with served(checks, Kind()) as film:
             for way, came in zip(("udp", "tcp"), film.at_once(*(["udp", "--pause", "1.5", "1"], ["tcp", "--pause", "1.5", "1"]))):
                 is_whole(checks, way, came)
+        checks.same("answers to PLAY", 4, sum(b'"PLAY"' in line for line in film.server.log))
 
 
 @serving_test(limit=60, is_timed=True)

@@ -1,8 +1,8 @@
 #!/usr/bin/python3
 """play_film.py URL FILM udp|tcp [--seek SECOND AT] [--pause AT FOR]: plays by GStreamer's rtspsrc, as it comes with a
 distribution, and prints as JSON how what is depayloaded compares with the film: what came, in which order, and when
-each picture and frame of sound is shown beside its time in the film. AT is a second after
-the first picture came. It is run by the system's Python, which has gi."""
+each picture and frame of sound is shown beside its time in the film. AT is so many seconds behind the first picture. It
+is run by the system's Python, which has gi."""
 import argparse
 import bisect
 import json
