@@ -1,7 +1,7 @@
 //! Frames of a channel that are put in one call.
 
-ghost use Rattle.std.specs.Prelude.{◌≡◌, ◌++◌, ◌∷◌, [], IsTrue, false};
-ghost use Rattle.rtsp_pacing.specs.Runs.{Run, added};
+ghost use Rattle.std.specs.Prelude.{◌≡◌, [], IsTrue, false};
+ghost use Rattle.rtsp_pacing.specs.Runs.{added};
 
 use std::alloc::{AllocError, Global};
 use std::marker::Model;

@@ -127,8 +127,8 @@ impl<R: Wait> Sink for PacketSink<'_, '_, R> {
     }
 
     fn send(&mut self, track: u16, packet: &mut Packet) {
-        match self.ways.channel(track) {
-            Some(channel) => self.gather(track, packet.frame(channel.number())),
+        match self.ways.channel_number(track) {
+            Some(number) => self.gather(track, packet.frame(number)),
             None => {
                 let went = self.ways.send_datagram(self.now, track, packet.datagram());
                 self.count(1, went);

@@ -225,10 +225,10 @@ impl Ways {
         room_when_late(self.frame_rate, late)
     }
 
-    // The channel that packets of a track go to as frames, if they do.
-    pub(crate) fn channel(&self, track: u16) -> Option<&Channel> {
+    // The number of the channel that packets of a track go to as frames, if they do.
+    pub(crate) fn channel_number(&self, track: u16) -> Option<u8> {
         match self.ways.get(usize::from(track)) {
-            Some(Way::Frames(channel)) => Some(channel),
+            Some(Way::Frames(channel)) => Some(channel.number()),
             _ => None,
         }
     }
@@ -242,9 +242,9 @@ impl Ways {
         track: u16,
         frames: &[u8],
     ) -> Went {
-        match self.channel(track) {
-            Some(channel) => channel.put(rt, now, room, frames),
-            None => Went::Lost,
+        match self.ways.get(usize::from(track)) {
+            Some(Way::Frames(channel)) => channel.put(rt, now, room, frames),
+            _ => Went::Lost,
         }
     }
 

@@ -6,7 +6,7 @@ ghost use Rattle.rtsp_sockets.specs.Cuts.{cut_around};
 use crate::media::Place;
 
 // How much of a track is read at once, in milliseconds.
-const CUT_MS: u64 = 400;
+pub(crate) const CUT_MS: u64 = 400;
 
 // A part of a file, which is named by its index among the media's files.
 #[derive(Clone, Copy, Debug, PartialEq, Eq, Hash, Drop)]
