@@ -22,6 +22,7 @@ AS_THEY_ARE = {
     "audio": ("aac", "opus", "mp3", "mp2", "ac3", "pcm_mulaw", "pcm_alaw"),
 }
 FIRST_PAYLOAD_TYPE = 96
+WRITTEN_AT_ONCE = 1 << 20
 # So many packets of a stream are looked at for the first that a decoder begins with.
 MOST_LOOKED_AT = 5000
 # Encodings and clocks that ffmpeg's descriptions leave out, since payload types stand for them (RFC 3551).
@@ -134,6 +135,9 @@ def begins_vp8(payload: memoryview) -> bool:
 def begins(codec: str, payload: memoryview) -> bool:
     """Whether a packet has what a decoder may begin with: parameters, or a key frame (RFC 6184, 7798, 7741, 9628, 2250)."""
     if codec == "h264":
+        # Most packets are a further fragment.
+        if payload[0] & 31 == 28 and not payload[1] & 0x80:
+            return False
         return any(begins_h264(unit) for unit in units_of_h264(payload))
     if codec == "hevc":
         return any(16 <= kind <= 21 or kind in (32, 33) for kind in kinds_of_hevc(payload))
@@ -153,7 +157,7 @@ class Packets:
     def __init__(self, stream: FilmStream, folder: pathlib.Path) -> None:
         self.stream = stream
         # Without a name: whatever ends the import, nothing is left of it.
-        self.data = tempfile.TemporaryFile(dir=folder)
+        self.data = tempfile.TemporaryFile(dir=folder, buffering=WRITTEN_AT_ONCE)
         self.lengths = array.array("H")
         self.markers = bytearray()
         self.stamps = array.array("q")

@@ -115,23 +115,36 @@ def gstreamer_plays_a_film_twenty_times(checks: Checks) -> None:
         with served(checks, Kind("24000/1001", 44_100)) as film:
             for way in "udp", "tcp":
                 came = film.at_once(*[[way]] * PLAYS)
+                for it in came:
+                    if not it.is_whole_from():
+                        print(f"over {way}, not whole: {it._replace(lip_sync=[])}")
                 checks.same(f"whole plays over {way} of {PLAYS}", PLAYS, sum(it.is_whole_from() for it in came))
                 worst = max(it.apart_after(SETTLED) for it in came)
                 print(f"over {way} picture and sound are {worst:.1f} ms apart at most, {SETTLED:g} s after the first picture")
 
 
-@serving_test(limit=60, is_timed=True)
-def picture_and_sound_stay_together(checks: Checks) -> None:
-    """Five seconds after its first picture, where nothing is late by design, and where packets are by half a second."""
+def together(checks: Checks, late: str, most: float) -> None:
+    """Picture and sound, five seconds after the first picture, of a film whose packets may be late by so much."""
     if not is_here(checks, "films by GStreamer"):
         return
-    for late, most in (("0", TOGETHER), ("0.5", NEARLY)):
-        with served(checks, Kind(seconds=9), "--late", late) as film:
-            for way, came in zip(("udp", "tcp"), film.at_once(["udp"], ["tcp"])):
-                is_whole(checks, f"{way}, {late} s late", came)
-                apart = came.apart_after(SETTLED)
-                checks.that(f"{way}, {late} s late: at most {most:g} ms apart", apart <= most, apart)
-                checks.that(f"{way}: that is known of pictures", len(came.lip_sync) > 150, len(came.lip_sync))
+    with served(checks, Kind(seconds=9), "--late", late) as film:
+        for way, came in zip(("udp", "tcp"), film.at_once(["udp"], ["tcp"])):
+            is_whole(checks, way, came)
+            apart = came.apart_after(SETTLED)
+            checks.that(f"{way}: at most {most:g} ms apart", apart <= most, apart)
+            checks.that(f"{way}: that is known of pictures", len(came.lip_sync) > 150, len(came.lip_sync))
+
+
+@serving_test(limit=60, is_timed=True)
+def picture_and_sound_where_nothing_is_late(checks: Checks) -> None:
+    """They are 20 ms apart at most."""
+    together(checks, "0", TOGETHER)
+
+
+@serving_test(limit=60, is_timed=True)
+def picture_and_sound_half_a_second_late(checks: Checks) -> None:
+    """They are 100 ms apart at most."""
+    together(checks, "0.5", NEARLY)
 
 
 @serving_test(limit=60, is_timed=True)

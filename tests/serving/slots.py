@@ -214,7 +214,7 @@ def malformed_slots(checks: Checks) -> None:
             player.tear_down()
 
 
-MANY = Presentation("many", units=60, unit_ms=40, tracks=(Track("m", 96, "H264", octets=2560, ticks=320, packets=256),))
+MANY = Presentation("many", units=60, unit_ms=10, tracks=(Track("m", 96, "H264", octets=2560, ticks=80, packets=256),))
 
 
 def many_at(unit: int) -> List[Part]:
@@ -235,17 +235,17 @@ def two_hundred_and_fifty_six_packets(checks: Checks) -> None:
             player = server.player(way, receive_buffer=1 << 20)
             (stream,) = set_up_all(player)
             came = stream.reception.packets
-            (first,) = told(player, player.play(0.0, 2.4))
+            (first,) = told(player, player.play(0.0, 0.6))
             checks.that(f"{way.value}: the first play ends", player.listen(6.0))
             player.connection.wait(AFTERWARDS)
             is_as_due(checks, f"{way.value}, at first", due(track, units), came, *first)
             sent = len(came)
             # 136 units of up to 256 packets in place of 136.
-            player.play(2.4, 7.84)
+            player.play(0.6, 1.96)
             checks.that(f"{way.value}: the second play ends", player.listen(9.0))
             second = len(came) - sent
             checks.same(f"{way.value}: the second play's packets", 136, second)
-            (again,) = told(player, player.play(0.0, 2.4))
+            (again,) = told(player, player.play(0.0, 0.6))
             checks.same(f"{way.value}: by how much the number jumps", (first[0] + 256 * 196) % 2**16, again[0])
             player.listen(6.0)
             player.connection.wait(AFTERWARDS)
