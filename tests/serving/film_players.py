@@ -10,7 +10,6 @@ import re
 import signal
 import subprocess
 import time
-import tomllib
 from typing import Any, Dict, Iterator, List, NamedTuple
 
 import film_player
@@ -71,6 +70,9 @@ class Served(NamedTuple):
 @contextlib.contextmanager
 def served(checks: Checks, kind: Kind, *words: str) -> Iterator[Served]:
     """A server of a film that was imported with these words."""
+    # Of Python 3.11, as import is.
+    import tomllib
+
     server = Server(checks, Presentation("film", tracks=()), pairs=4 * AT_ONCE)
     film = kind.make(server.path / "film.mp4")
     command = [str(IMPORT), str(film), "film", *words, "--config", "films.toml"]

@@ -5,6 +5,7 @@ import random
 import re
 import select
 import socket
+import struct
 import subprocess
 import tempfile
 import time
@@ -45,9 +46,16 @@ class Track(NamedTuple):
         return self.octets + (8 * self.packets if is_slots else 0)
 
     def unit(self, number: int) -> bytes:
-        """The octets of a unit of the file, no two alike."""
+        """The octets of a unit of the file, no two alike; in a slot its packets have one length."""
         mark = self.name.encode()[:1] + number.to_bytes(4, "big")
-        return (mark * (self.octets // len(mark) + 1))[: self.octets]
+        octets = (mark * (self.octets // len(mark) + 1))[: self.octets]
+        if self.unit_octets == self.octets:
+            return octets
+        size, slot = self.octets // self.packets, b""
+        for place in range(self.packets):
+            head = struct.pack(">HHI", size, 0, place * self.ticks // self.packets)
+            slot += head + octets[size * place : size * (place + 1)]
+        return slot.ljust(self.unit_octets, b"\0")
 
 
 class Presentation(NamedTuple):
