@@ -38,7 +38,7 @@ PRIMING = 1024
 
 
 class FilmStream(NamedTuple):
-    """A picture or a sound of a file: which one of its kind it is, ffmpeg's name of its encoding, and when it begins."""
+    """A picture or a sound of a file: which of its kind it is, ffmpeg's name of its encoding, and when it begins."""
 
     media: str
     place: int
@@ -133,7 +133,8 @@ def begins_vp8(payload: memoryview) -> bool:
 
 
 def begins(codec: str, payload: memoryview) -> bool:
-    """Whether a packet has what a decoder may begin with: parameters, or a key frame (RFC 6184, 7798, 7741, 9628, 2250)."""
+    """Whether a packet has what a decoder may begin with: parameters, or a key frame (RFC 6184, 7798, 7741, 9628,
+    2250)."""
     if codec == "h264":
         # Most packets are a further fragment.
         if payload[0] & 31 == 28 and not payload[1] & 0x80:

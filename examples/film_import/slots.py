@@ -145,7 +145,8 @@ def plans(streams: List[Packets], late_ms: int) -> List[Plan]:
     for packets in streams:
         packets.first = round((packets.begins_at - begins_at) * packets.clock)
         if len(packets.fmtp) > MOST_FMTP:
-            raise Refused(f"the parameters of {packets.stream.codec} have {len(packets.fmtp):,} octets, more than {MOST_FMTP:,}")
+            many = f"{len(packets.fmtp):,} octets, more than {MOST_FMTP:,}"
+            raise Refused(f"the parameters of {packets.stream.codec} have {many}")
     for unit_ms in UNIT_LENGTHS:
         found = [plan(packets, Pace(unit_ms, late_ms)) for packets in streams]
         if all(found):

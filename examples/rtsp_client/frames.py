@@ -9,7 +9,7 @@ AAC_SAMPLES = 1024
 
 
 class Frame(NamedTuple):
-    """A picture or some sound: its time in ticks since the play began, and its units, of which pictures may have many."""
+    """A picture or some sound: its time in ticks since the play began, and its units, of which a picture may have many."""
 
     ticks: int
     units: List[bytes]
@@ -70,6 +70,9 @@ def units_of_h265(payload: bytes, fragments: Fragments) -> List[bytes]:
     return fragments.add(payload[3:], bool(payload[2] & 0x40))
 
 
+UnitsOf = Callable[[bytes, Fragments], List[bytes]]
+
+
 def is_key_h264(units: List[bytes]) -> bool:
     return any(unit and unit[0] & 31 in (5, 7) for unit in units)
 
@@ -81,7 +84,7 @@ def is_key_h265(units: List[bytes]) -> bool:
 class Pictures:
     """Pictures, of which each is what has one timestamp."""
 
-    def __init__(self, units_of: Callable[[bytes, Fragments], List[bytes]], is_key: Callable[[List[bytes]], bool]) -> None:
+    def __init__(self, units_of: UnitsOf, is_key: Callable[[List[bytes]], bool]) -> None:
         self.units_of, self.is_key = units_of, is_key
         self._fragments = Fragments()
         self._units: List[bytes] = []
@@ -149,6 +152,8 @@ KINDS: Dict[str, Callable[[], object]] = {
     "MPA": lambda: Behind(4),
     "OPUS": lambda: Behind(0),
     "L16": lambda: Behind(0),
+    "PCMU": lambda: Behind(0),
+    "PCMA": lambda: Behind(0),
 }
 
 

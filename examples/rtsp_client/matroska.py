@@ -52,7 +52,8 @@ def h264(track: Track, parameters: Dict[str, str]) -> Codec:
     others = [it for it in units if it and it[0] & 31 == 8]
     if not heads or not others:
         raise Refused("the description has no parameters of the picture")
-    private = b"\1" + heads[0][1:4] + bytes([0xFF, 0xE0 | len(heads)]) + listed(heads) + bytes([len(others)]) + listed(others)
+    private = b"\1" + heads[0][1:4] + bytes([0xFF, 0xE0 | len(heads)]) + listed(heads)
+    private += bytes([len(others)]) + listed(others)
     return Codec("V_MPEG4/ISO/AVC", private, size_of_h264(heads[0]))
 
 
@@ -72,6 +73,17 @@ def opus(track: Track, _parameters: Dict[str, str]) -> Codec:
     return Codec("A_OPUS", b"OpusHead\1" + struct.pack("<BHIhB", track.channels, 0, 48_000, 0, 0))
 
 
+def telephone(tag: int) -> Callable[[Track, Dict[str, str]], Codec]:
+    """Sound by the number that a .wav has for it, of a byte a sample."""
+
+    def codec(track: Track, _parameters: Dict[str, str]) -> Codec:
+        octets = track.clock * track.channels
+        head = struct.pack("<HHIIHHH", tag, track.channels, track.clock, octets, track.channels, 8, 0)
+        return Codec("A_MS/ACM", head)
+
+    return codec
+
+
 CODECS: Dict[str, Callable[[Track, Dict[str, str]], Codec]] = {
     "H264": h264,
     "H265": h265,
@@ -80,6 +92,8 @@ CODECS: Dict[str, Callable[[Track, Dict[str, str]], Codec]] = {
     "MPA": lambda _, __: Codec("A_MPEG/L3", b""),
     "OPUS": opus,
     "L16": lambda _, __: Codec("A_PCM/INT/BIG", b""),
+    "PCMU": telephone(7),
+    "PCMA": telephone(6),
 }
 
 
@@ -108,7 +122,8 @@ class Matroska:
     def __init__(self, write: Callable[[bytes], None], description: str, tracks: List[Track]) -> None:
         self._write = write
         self._tracks = tracks
-        entries = [entry(at + 1, it, CODECS[it.encoding.upper()](it, of_track(description, it))) for at, it in enumerate(tracks)]
+        codecs = [CODECS[it.encoding.upper()](it, of_track(description, it)) for it in tracks]
+        entries = [entry(at + 1, it, codec) for at, (it, codec) in enumerate(zip(tracks, codecs))]
         kind = text("4282", "matroska") + number("4287", 4) + number("4285", 2)
         about = number("2ad7b1", 1_000_000) + text("4d80", "rtspd") + text("5741", "rtspd")
         write(element("1a45dfa3", kind) + bytes.fromhex("18538067") + UNKNOWN_LENGTH)

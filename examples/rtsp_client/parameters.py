@@ -1,4 +1,4 @@
-"""What a description says of pictures and sound: their parameters, and how large a picture is (ISO 14496-10, 23008-2)."""
+"""What a description says of a picture and a sound: parameters, and a picture's size (ISO 14496-10, 23008-2)."""
 import base64
 import binascii
 import re

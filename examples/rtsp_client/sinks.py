@@ -1,4 +1,4 @@
-"""Where a play goes to beside its counts: sound as a .wav, a track as it comes, all tracks as a film, another program."""
+"""Where a play goes beside its counts: sound as a .wav, a track as it comes, all tracks as a film, another program."""
 import pathlib
 import shutil
 import subprocess

@@ -97,7 +97,8 @@ def is_here(checks: Checks, what: str) -> bool:
 
 def is_whole(checks: Checks, where: str, came: Compared, picture: int = 0) -> bool:
     said = came._replace(lip_sync=[])
-    return checks.that(f"{where}: all pictures from {picture} on, and all sounds, came bit by bit", came.is_whole_from(picture), said)
+    what = f"{where}: all pictures from {picture} on, and all sounds, came bit by bit"
+    return checks.that(what, came.is_whole_from(picture), said)
 
 
 @serving_test(limit=60, is_timed=True)
@@ -122,7 +123,7 @@ def gstreamer_plays_a_film_twenty_times(checks: Checks) -> None:
                         print(f"over {way}, not whole: {it._replace(lip_sync=[])}")
                 checks.same(f"whole plays over {way} of {PLAYS}", PLAYS, sum(it.is_whole_from() for it in came))
                 worst = max(it.apart_after(SETTLED) for it in came)
-                print(f"over {way} picture and sound are {worst:.1f} ms apart at most, {SETTLED:g} s after the first picture")
+                print(f"over {way}, {SETTLED:g} s on, picture and sound are {worst:.1f} ms apart at most")
 
 
 def together(checks: Checks, late: str, most: float) -> None:
@@ -154,7 +155,8 @@ def gstreamer_pauses_a_film(checks: Checks) -> None:
     """After a pause, at which the numbers of packets jump, it plays on to the end, and nothing is missing."""
     if is_here(checks, "films by GStreamer"):
         with served(checks, Kind()) as film:
-            for way, came in zip(("udp", "tcp"), film.at_once(*(["udp", "--pause", "1.5", "1"], ["tcp", "--pause", "1.5", "1"]))):
+            pause = ["--pause", "1.5", "1"]
+            for way, came in zip(("udp", "tcp"), film.at_once(["udp", *pause], ["tcp", *pause])):
                 is_whole(checks, way, came)
         checks.same("answers to PLAY", 4, sum(b'"PLAY"' in line for line in film.server.log))
 

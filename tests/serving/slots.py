@@ -101,6 +101,12 @@ def told(player: Player, answer: object) -> List[Tuple[int, int]]:
     return [(int(number), int(timestamp)) for number, timestamp in found]
 
 
+def is_complete(checks: Checks, where: str, stream: Stream) -> None:
+    """That the player, too, counts no packet as missing or repeated."""
+    came = stream.reception
+    checks.same(f"{where}: packets that are missing, and repeats", (0, 0), (len(came.missing), came.repeats))
+
+
 class Reports:
     """The sender reports of a stream, with the second of each, beside what its reception takes."""
 
@@ -132,8 +138,9 @@ def reports_fit(checks: Checks, where: str, reports: Reports, track: Track, unit
             number(report, 20),
             number(report, 24),
         ))
-        seconds = (number(report, 8) - number(reports.found[0][1], 8)) + (number(report, 12) - number(reports.found[0][1], 12)) / 2**32
-        ticks_since = (number(report, 16) - number(reports.found[0][1], 16)) % TIMESTAMP
+        _, before = reports.found[0]
+        seconds = number(report, 8) - number(before, 8) + (number(report, 12) - number(before, 12)) / 2**32
+        ticks_since = (number(report, 16) - number(before, 16)) % TIMESTAMP
         checks.that(f"{where}: report {at}: its clocks agree", abs(seconds - ticks_since / 8000) < 0.001, seconds)
 
 
@@ -149,13 +156,13 @@ def whole_film(checks: Checks, server: Server, way: Way) -> None:
         where = f"{way.value}, {track.name}"
         is_as_due(checks, where, due(track, of_track), stream.reception.packets, *first)
         reports_fit(checks, where, heard, track, of_track)
-        checks.same(f"{where}: packets that are missing, and repeats", (0, 0), (len(stream.reception.missing), stream.reception.repeats))
+        is_complete(checks, where, stream)
     player.tear_down()
 
 
 @serving_test(limit=40, is_timed=True)
 def units_of_several_packets(checks: Checks) -> None:
-    """Slots and equal packets over UDP and TCP: each packet by its number, timestamp, marker and payload; the reports."""
+    """Slots and equal packets over UDP and TCP: each packet's number, timestamp, marker and payload; the reports."""
     with server_of(checks, FILM, slots_of(PICTURE, [*map(picture_at, range(FILM.units))])) as server:
         for way in Way.UDP, Way.TCP:
             whole_film(checks, server, way)
@@ -176,7 +183,8 @@ class Slot(NamedTuple):
 def bad_slots() -> Dict[int, Slot]:
     """Slots by their units; the others have one packet each."""
     fine = Part(b"fine", True, -5)
-    long, longest, third = Part(payload(6, 0, 1300)), Part(payload(6, 1, 1400)), [Part(payload(9, at, 932)) for at in range(3)]
+    long, longest = Part(payload(6, 0, 1300)), Part(payload(6, 1, 1400))
+    third = [Part(payload(9, at, 932)) for at in range(3)]
     return {
         2: Slot(fine.octets + head(2000, 0, 0) + bytes(2000), [fine]),
         3: Slot(head(1401, 0, 0) + bytes(1401), []),
@@ -250,7 +258,7 @@ def two_hundred_and_fifty_six_packets(checks: Checks) -> None:
             player.listen(6.0)
             player.connection.wait(AFTERWARDS)
             is_as_due(checks, f"{way.value}, again", due(track, units), came[sent + second :], *again)
-            checks.same(f"{way.value}: packets that are missing, and repeats", (0, 0), (len(stream.reception.missing), stream.reception.repeats))
+            is_complete(checks, way.value, stream)
             player.tear_down()
 
 
