@@ -2,24 +2,35 @@
 import array
 import pathlib
 import struct
-from typing import BinaryIO, Dict, List, NamedTuple, Optional, Tuple
+from typing import BinaryIO, List, NamedTuple, Optional, Tuple
 
 from .configuration import HEADERS, REPORT_RATE, FilmTrack, MadeFilm, Refused
+from .media import MOST_UNITS
 from .packets import Packets
 
 HEAD = 8
-UNIT_MS = 40
+# How long a unit may be, in milliseconds, the longest first: the shorter, the faster a film may be.
+UNIT_LENGTHS = 40, 20, 10
 # A packet may be late by so much: players put up with it. More would save little of the uplink.
-LATE_MS = 500
+MOST_LATE_MS = 500
 # So many milliseconds without packets follow the film, since its end may not overtake what is late.
 TAIL_MS = 1000
 MOST_OCTETS, MOST_PACKETS, MOST_STARTS = 120_000, 256, 20_000
+MOST_FMTP = 1024
+
+
+class Pace(NamedTuple):
+    """How long a unit is, and how late a packet may be sent."""
+
+    unit_ms: int
+    late_ms: int
 
 
 class Plan(NamedTuple):
     """The unit of each packet of a track, and what a unit of it has at most."""
 
     packets: Packets
+    pace: Pace
     units: "array.array[int]"
     most: int
     octets: int
@@ -30,125 +41,160 @@ class Plan(NamedTuple):
 
     @property
     def rate(self) -> int:
-        return -(-(self.octets + HEADERS * self.most) * 8000 // UNIT_MS) + REPORT_RATE
+        return -(-(self.octets + HEADERS * self.most) * 8000 // self.pace.unit_ms) + REPORT_RATE
 
     @property
     def mean(self) -> float:
         """Its bits a second with headers, in the mean."""
-        return (sum(self.packets.lengths) + HEADERS * len(self.units)) * 8000 / (self.count * UNIT_MS)
+        return (sum(self.packets.lengths) + HEADERS * len(self.units)) * 8000 / (self.count * self.pace.unit_ms)
 
     @property
     def ticks(self) -> int:
-        return self.packets.clock * UNIT_MS // 1000
+        return self.packets.clock * self.pace.unit_ms // 1000
+
+    @property
+    def size(self) -> int:
+        return HEAD * self.most + self.octets
 
 
-def earliest(packets: Packets) -> Tuple["array.array[int]", bytearray]:
-    """The unit in which each packet may be sent at the earliest, which is when its frame would be decoded; and whether
-    it begins a frame that a decoder may begin with."""
-    frames, begins = [], []
+class Frame(NamedTuple):
+    """The packets of one timestamp: where they begin and end, and the unit in which they may be sent at the earliest,
+    which is when the frame would be decoded."""
+
+    begin: int
+    end: int
+    unit: int
+    is_key: bool
+
+
+def frames_of(packets: Packets, unit_ms: int) -> List[Frame]:
+    stamps, bounds = [], []
     for at, stamp in enumerate(packets.stamps):
-        if not frames or stamp != frames[-1]:
-            frames.append(stamp)
-            begins.append(at)
-    begins.append(len(packets.stamps))
-    per_unit = packets.clock * UNIT_MS
-    ready, keys = array.array("i"), bytearray(len(packets.stamps))
-    for place, shown in enumerate(sorted(frames)):
-        unit = max(0, (shown + packets.first) * 1000 // per_unit)
-        first, end = begins[place], begins[place + 1]
-        ready.extend([unit] * (end - first))
-        keys[first] = any(packets.keys[first:end])
-    return ready, keys
-
-
-def placed(packets: Packets, ready: "array.array[int]", keys: bytearray, budget: int) -> Optional["array.array[int]"]:
-    """The units of the packets, first come first served, where each has room for so many bytes; a key frame begins one.
-    None where a packet would be later than it may."""
-    units, at, room = array.array("i"), -1, 0
+        if not stamps or stamp != stamps[-1]:
+            stamps.append(stamp)
+            bounds.append(at)
+    bounds.append(len(packets.stamps))
     is_picture = packets.stream.media == "video"
-    most_late = LATE_MS // UNIT_MS + is_picture
-    for length, first, key in zip(packets.lengths, ready, keys):
-        cost = length + HEADERS
-        if first > at:
-            at, room = first, budget
-        if is_picture and key and room < budget:
+    per_unit = packets.clock * unit_ms
+    frames = []
+    for place, shown in enumerate(sorted(stamps)):
+        begin, end = bounds[place], bounds[place + 1]
+        unit = max(0, (shown + packets.first) * 1000 // per_unit)
+        frames.append(Frame(begin, end, unit, is_picture and any(packets.keys[begin:end])))
+    return frames
+
+
+def placed(packets: Packets, frames: List[Frame], budget: int, late: int) -> Optional["array.array[int]"]:
+    """The units of the packets, first come first served, where each has room for so many bytes; a key frame begins one.
+    None where a packet would be later than it may, in units."""
+    units, at, room, lengths = array.array("i"), -1, 0, packets.lengths
+    for frame in frames:
+        if frame.unit > at:
+            at, room = frame.unit, budget
+        elif frame.is_key and room < budget:
             at, room = at + 1, budget
-        if room < cost:
-            at, room = at + 1, budget
-        if at - first > most_late:
+        for length in lengths[frame.begin : frame.end]:
+            room -= length + HEADERS
+            if room < 0:
+                at, room = at + 1, budget - length - HEADERS
+            units.append(at)
+        if at - frame.unit > late:
             return None
-        room -= cost
-        units.append(at)
     return units
 
 
-def plan(packets: Packets) -> Plan:
-    """The least budget that makes no packet too late, by halving."""
-    ready, keys = earliest(packets)
-    packets.keys = keys
-    low, high = max(packets.lengths) + HEADERS - 1, 2 * (MOST_OCTETS + HEADERS * MOST_PACKETS)
-    best = placed(packets, ready, keys, high)
+def greatest(packets: Packets, units: "array.array[int]") -> Tuple[int, int]:
+    """The most packets that a unit has, and the most octets."""
+    most_packets = most_octets = count = octets = 0
+    last = -1
+    for unit, length in zip(units, packets.lengths):
+        if unit != last:
+            last, count, octets = unit, 0, 0
+        count, octets = count + 1, octets + length
+        most_packets, most_octets = max(most_packets, count), max(most_octets, octets)
+    return most_packets, most_octets
+
+
+def plan(packets: Packets, pace: Pace) -> Optional[Plan]:
+    """The least budget that makes no packet too late, by halving; None where units of this length don't carry it."""
+    if packets.clock * pace.unit_ms % 1000:
+        return None
+    frames = frames_of(packets, pace.unit_ms)
+    # A key frame that begins a unit may be late by one.
+    late = max(pace.late_ms // pace.unit_ms, 1)
+    low, high = max(packets.lengths) + HEADERS - 1, MOST_OCTETS + HEADERS * MOST_PACKETS
+    best = placed(packets, frames, high, late)
     while best is not None and high - low > max(32, low // 500):
         middle = (low + high) // 2
-        units = placed(packets, ready, keys, middle)
+        units = placed(packets, frames, middle, late)
         if units is None:
             low = middle
         else:
             high, best = middle, units
-    octets: Dict[int, int] = {}
-    counts: Dict[int, int] = {}
-    for unit, length in zip(best or [], packets.lengths):
-        octets[unit] = octets.get(unit, 0) + length
-        counts[unit] = counts.get(unit, 0) + 1
-    if best is None or max(octets.values()) > MOST_OCTETS or max(counts.values()) > MOST_PACKETS:
-        much = f"more in {LATE_MS} ms than units of {UNIT_MS} ms carry"
-        raise Refused(f"{packets.stream.codec} has {much}; --mbit makes less of it")
-    return Plan(packets, best, max(counts.values()), max(octets.values()))
+    if best is None:
+        return None
+    if best[-1] + 1 + TAIL_MS // pace.unit_ms > MOST_UNITS:
+        raise Refused(f"it is too long for units of {pace.unit_ms} ms")
+    most, octets = greatest(packets, best)
+    return Plan(packets, pace, best, most, octets) if most <= MOST_PACKETS and octets <= MOST_OCTETS else None
 
 
-def write(plan_of: Plan, units: int, out: BinaryIO) -> None:
+def plans(streams: List[Packets], late_ms: int) -> List[Plan]:
+    """A plan for each track, in units of one length, the longest that carries them all."""
+    begins_at = min(it.begins_at for it in streams)
+    for packets in streams:
+        packets.first = round((packets.begins_at - begins_at) * packets.clock)
+        if len(packets.fmtp) > MOST_FMTP:
+            many = f"{len(packets.fmtp):,} octets, more than {MOST_FMTP:,}"
+            raise Refused(f"the parameters of {packets.stream.codec} have {many}")
+    for unit_ms in UNIT_LENGTHS:
+        found = [plan(packets, Pace(unit_ms, late_ms)) for packets in streams]
+        if all(found):
+            return [it for it in found if it]
+    raise Refused("it has more within half a second than a track carries; --mbit makes less of it")
+
+
+def write(one: Plan, units: int, out: BinaryIO) -> None:
     """Writes the slots; what is left of one is a hole of the file, where it is long enough."""
-    packets = plan_of.packets
-    size = HEAD * plan_of.most + plan_of.octets
+    packets, at = one.packets, 0
     packets.data.seek(0)
-    at = 0
-    while at < len(plan_of.units):
-        unit, slot = plan_of.units[at], bytearray()
-        while at < len(plan_of.units) and plan_of.units[at] == unit:
-            offset = packets.stamps[at] + packets.first - unit * plan_of.ticks
+    while at < len(one.units):
+        unit, slot = one.units[at], bytearray()
+        while at < len(one.units) and one.units[at] == unit:
+            offset = packets.stamps[at] + packets.first - unit * one.ticks
             slot += struct.pack(">HHi", packets.lengths[at], packets.markers[at], offset)
             slot += packets.data.read(packets.lengths[at])
             at += 1
-        out.seek(unit * size)
+        out.seek(unit * one.size)
         out.write(slot)
-    out.truncate(units * size)
+    out.truncate(units * one.size)
 
 
-def starts_of(plans: List[Plan]) -> List[int]:
+def starts_of(found: List[Plan]) -> List[int]:
     """The units of the picture that a decoder may begin with; none where each unit of sound alone may."""
-    pictures = [it for it in plans if it.packets.stream.media == "video"]
-    if not pictures:
+    picture = next((it for it in found if it.packets.stream.media == "video"), None)
+    if picture is None:
         return []
-    found = sorted({0, *(unit for unit, key in zip(pictures[0].units, pictures[0].packets.keys) if key)})
-    step = -(-len(found) // MOST_STARTS)
-    return found[::step]
+    keys = [it for it in frames_of(picture.packets, picture.pace.unit_ms) if it.is_key]
+    starts = sorted({0, *(picture.units[it.begin] for it in keys)})
+    return starts[:: -(-len(starts) // MOST_STARTS)]
 
 
-def film_of(name: str, plans: List[Plan]) -> MadeFilm:
+def film_of(name: str, found: List[Plan]) -> MadeFilm:
     """The presentation of a film, with a file for each track."""
-    units = max(it.count for it in plans) + TAIL_MS // UNIT_MS
+    unit_ms = found[0].pace.unit_ms
+    units = max(it.count for it in found) + TAIL_MS // unit_ms
     tracks, named = [], {"video": 0, "audio": 0}
-    for place, one in enumerate(plans):
-        media = one.packets.stream.media
+    for place, one in enumerate(found):
+        of, media = one.packets, one.packets.stream.media
         named[media] += 1
         short = media[0] + (str(named[media]) if named[media] > 1 else "")
-        of = one.packets
-        told = (of.encoding, of.clock, one.most, one.octets, one.ticks, f"{name}.{short}", of.fmtp, of.channels)
+        told = of.encoding, of.clock, one.most, one.octets, one.ticks, f"{name}.{short}", of.fmtp, of.channels
         tracks.append(FilmTrack(short, media, 96 + place, *told))
-    return MadeFilm(name, UNIT_MS, units, starts_of(plans), tracks)
+    return MadeFilm(name, unit_ms, units, starts_of(found), tracks)
 
 
-def write_film(made: MadeFilm, plans: List[Plan], files: List[pathlib.Path]) -> None:
-    for one, file in zip(plans, files):
+def write_film(made: MadeFilm, found: List[Plan], files: List[pathlib.Path]) -> None:
+    for one, file in zip(found, files):
         with file.open("wb") as out:
             write(one, made.units, out)

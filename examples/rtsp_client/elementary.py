@@ -1,52 +1,48 @@
-"""The elementary stream of a picture, made of RTP payloads (RFC 6184, RFC 7798): units behind start codes, as players
-read them from a pipe."""
-import base64
-import re
+"""The elementary stream of a track, made of its frames: units behind start codes, AAC in ADTS, and sound that needs
+nothing more, as players read them from a pipe."""
 from typing import Callable, Dict, Optional
 
+from .frames import Frame
+from .parameters import sets_of
+from .player import Track
+
 START = b"\0\0\0\1"
+ADTS_HEAD = 7
 
 
-def _aggregated(payload: bytes, at: int) -> bytes:
-    """The units of a packet that has several, each behind its length."""
-    found = b""
-    while at + 2 < len(payload):
-        length = int.from_bytes(payload[at : at + 2], "big")
-        found += START + payload[at + 2 : at + 2 + length]
-        at += 2 + length
-    return found
+def with_start_codes(frame: Frame) -> bytes:
+    return b"".join(START + unit for unit in frame.units)
 
 
-def _h264(payload: bytes) -> bytes:
-    kind = payload[0] & 31
-    if kind == 24:
-        return _aggregated(payload, 1)
-    if kind != 28:
-        return START + payload
-    begins = payload[1] & 0x80
-    return (START + bytes([payload[0] & 0xE0 | payload[1] & 31]) if begins else b"") + payload[2:]
+def joined(frame: Frame) -> bytes:
+    return b"".join(frame.units)
 
 
-def _h265(payload: bytes) -> bytes:
-    kind = payload[0] >> 1 & 63
-    if kind == 48:
-        return _aggregated(payload, 2)
-    if kind != 49:
-        return START + payload
-    begins = payload[2] & 0x80
-    return (START + bytes([payload[0] & 0x81 | (payload[2] & 63) << 1, payload[1]]) if begins else b"") + payload[3:]
+class Adts:
+    """Frames of AAC behind heads that say what they are (ISO 13818-7)."""
+
+    def __init__(self, config: bytes) -> None:
+        kind, rate, channels = config[0] >> 3, (config[0] & 7) << 1 | config[1] >> 7, config[1] >> 3 & 15
+        self.fixed = 0xFFF1 << 40 | (kind - 1 & 3) << 38 | rate << 34 | channels << 30
+
+    def __call__(self, frame: Frame) -> bytes:
+        content = joined(frame)
+        head = self.fixed | len(content) + ADTS_HEAD << 13 | 0x7FF << 2
+        return head.to_bytes(ADTS_HEAD, "big") + content
 
 
-UNPACKED: Dict[str, Callable[[bytes], bytes]] = {"H264": _h264, "H265": _h265}
+class Elementary:
+    """How the elementary stream of a track begins, and what it has of a frame."""
+
+    def __init__(self, before: bytes, form: Callable[[Frame], bytes]) -> None:
+        self.before, self.form = before, form
 
 
-def unpacked(encoding: str) -> Optional[Callable[[bytes], bytes]]:
-    """What makes the elementary stream of a payload, for the encodings of which one is made."""
-    return UNPACKED.get(encoding.upper())
-
-
-def parameters(description: str, payload_type: int) -> bytes:
-    """The parameter sets that a description has of a payload type, which come before all."""
-    line = re.search(rf"(?m)^a=fmtp:{payload_type} (.*)$", description)
-    sets = re.findall(r"sprop-(?:parameter-sets|vps|sps|pps)=([^;\s]+)", line[1]) if line else []
-    return b"".join(START + base64.b64decode(one) for text in sets for one in text.split(",") if one)
+def elementary_of(track: Track, parameters: Dict[str, str]) -> Optional[Elementary]:
+    """That of a track, for the encodings that have one."""
+    encoding = track.encoding.upper()
+    if encoding in ("H264", "H265"):
+        return Elementary(b"".join(START + it for it in sets_of(track, parameters)), with_start_codes)
+    if encoding == "MPEG4-GENERIC" and len(parameters.get("config", "")) >= 4:
+        return Elementary(b"", Adts(bytes.fromhex(parameters["config"])))
+    return Elementary(b"", joined) if encoding in ("MPA", "MPV") else None

@@ -19,15 +19,17 @@ class Compared(NamedTuple):
     first_unit: Optional[int]
     sounds: int
     sounds_wanted: int
+    first_sound: int
     same_sounds: bool
     # By the time of a picture in the film, how many milliseconds it is shown later than the sound of its time.
     lip_sync: List[Tuple[float, float]]
 
-    @property
-    def is_whole(self) -> bool:
-        """All pictures and sounds came, bit by bit; ffmpeg's packets lack the last frame of AAC."""
-        is_all = self.pictures == self.pictures_wanted and self.sounds >= self.sounds_wanted - 1
-        return self.end == "the end" and is_all and self.same_pictures and self.same_sounds
+    def is_whole_from(self, picture: int = 0) -> bool:
+        """All pictures from one on, and all sounds from where it begins on, came bit by bit, and then the end. ffmpeg's
+        packets lack the last frame of AAC."""
+        is_all = self.pictures == self.pictures_wanted - picture and self.first_unit == picture
+        has_sounds = self.first_sound + self.sounds >= self.sounds_wanted - 1 and (picture > 0 or self.first_sound == 0)
+        return self.end == "the end" and is_all and has_sounds and self.same_pictures and self.same_sounds
 
     def apart_after(self, seconds: float) -> float:
         """By how many milliseconds picture and sound are apart at most, so long after the first picture."""

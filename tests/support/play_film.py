@@ -1,7 +1,8 @@
 #!/usr/bin/python3
 """play_film.py URL FILM udp|tcp [--seek SECOND AT] [--pause AT FOR]: plays by GStreamer's rtspsrc, as it comes with a
 distribution, and prints as JSON how what is depayloaded compares with the film: what came, in which order, and when
-each picture and frame of sound is shown beside its time in the film. It is run by the system's Python, which has gi."""
+each picture and frame of sound is shown beside its time in the film. AT is so many seconds behind the first picture. It
+is run by the system's Python, which has gi."""
 import argparse
 import bisect
 import json
@@ -23,6 +24,8 @@ DEPAYLOADERS = {
     "aac": "rtpmp4gdepay",
     "opus": "rtpopusdepay",
 }
+# What examples/import gives the picture, and the first sound behind it.
+FIRST_PAYLOAD_TYPE = {"video": 96, "audio": 97}
 # Nothing plays for longer, in seconds.
 LONGEST = 220
 
@@ -52,10 +55,8 @@ class Play:
         bus.add_signal_watch()
         bus.connect("message", self._heard)
         GLib.timeout_add(LONGEST * 1000, self._stop, "it doesn't end")
-        if words.seek:
-            GLib.timeout_add(int(words.seek[1] * 1000), self._seek, words.seek[0])
-        if words.pause:
-            GLib.timeout_add(int(words.pause[0] * 1000), self._pause, words.pause[1])
+        self.words = words
+        self.has_begun = False
 
     def run(self) -> None:
         self.pipeline.set_state(Gst.State.PLAYING)
@@ -65,6 +66,13 @@ class Play:
     def _added(self, _source: Any, pad: Any) -> None:
         caps = (pad.get_current_caps() or pad.query_caps()).get_structure(0)
         media = caps.get_string("media")
+        if caps.get_int("payload")[1] != FIRST_PAYLOAD_TYPE[media]:
+            # Of two sounds the second is played to nobody.
+            rest = Gst.parse_bin_from_description("fakesink sync=false async=false", True)
+            self.pipeline.add(rest)
+            rest.sync_state_with_parent()
+            pad.link(rest.get_static_pad("sink"))
+            return
         depayloader = DEPAYLOADERS[self.film.picture if media == "video" else self.film.sound]
         sink = "appsink name=taken emit-signals=true sync=false async=false max-buffers=0"
         part = Gst.parse_bin_from_description(f"{depayloader} ! {sink}", True)
@@ -77,8 +85,18 @@ class Play:
         sample = sink.emit("pull-sample")
         buffer = sample.get_buffer()
         shown = sample.get_segment().to_running_time(Gst.Format.TIME, buffer.pts)
+        if media == "video" and not self.has_begun:
+            self._begin()
         self.came[media].append(Came(buffer.extract_dup(0, buffer.get_size()), shown / 1e9))
         return Gst.FlowReturn.OK
+
+    def _begin(self) -> None:
+        """The first picture has come, so all is there that a seek and a pause go through."""
+        self.has_begun = True
+        if self.words.seek:
+            GLib.timeout_add(int(self.words.seek[1] * 1000), self._seek, self.words.seek[0])
+        if self.words.pause:
+            GLib.timeout_add(int(self.words.pause[0] * 1000), self._pause, self.words.pause[1])
 
     def _heard(self, _bus: Any, message: Any) -> None:
         if message.type == Gst.MessageType.EOS:
@@ -93,7 +111,8 @@ class Play:
 
     def _seek(self, second: float) -> bool:
         self.came = {"video": [], "audio": []}
-        self.pipeline.seek_simple(Gst.Format.TIME, Gst.SeekFlags.FLUSH, int(second * 1e9))
+        if not self.pipeline.seek_simple(Gst.Format.TIME, Gst.SeekFlags.FLUSH, int(second * 1e9)):
+            self._stop("the seek was refused")
         return False
 
     def _pause(self, seconds: float) -> bool:
@@ -141,6 +160,7 @@ def said_of(play: Play) -> Dict[str, Any]:
     units = [digest(it) for came in play.came["video"] for it in pictures_in(units_of(came.content), film.picture)]
     frames = [digest(came.content) for came in play.came["audio"]]
     first: Optional[int] = film.units.index(units[0]) if units and units[0] in film.units else None
+    begins = film.frames.index(frames[0]) if frames and frames[0] in film.frames else 0
     return {
         "end": play.end,
         "pictures": len(play.came["video"]),
@@ -149,7 +169,8 @@ def said_of(play: Play) -> Dict[str, Any]:
         "first_unit": first,
         "sounds": len(frames),
         "sounds_wanted": len(film.sound_times),
-        "same_sounds": not film.frames or frames == film.frames[: len(frames)],
+        "first_sound": begins,
+        "same_sounds": not film.frames or frames == film.frames[begins : begins + len(frames)],
         "lip_sync": lip_sync(play),
     }
 
