@@ -57,11 +57,13 @@ unfolding octet_of
 octet-read n small =
     rw (decimal-read 3 n (omega arith) (omega (arith, small)) (omega (arith, small)), le-ltb 255 n (omega (arith, small)), decimal-unpadded n (omega (arith, small))) refl
 
+port-of-read : (n : ℕ) → n < 2 ^ 16 → port_of (decimal n) ≡ Some n
+unfolding port_of
+port-of-read n small =
+    rw (decimal-read 5 n (omega arith) (omega (arith, small)) (omega (arith, small)), le-ltb 65535 n (omega (arith, small)), decimal-unpadded n (omega (arith, small))) refl
+
 pub port-read : (n : ℕ) → n < 2 ^ 16 → IsPort (decimal n) n
-port-read n small = record { bytes = decimal-digits n (omega (arith, small)); read = read } where
-  read : port_of (decimal n) ≡ Some n
-  unfolding port_of
-  read = rw (decimal-read 5 n (omega arith) (omega (arith, small)) (omega (arith, small)), le-ltb 65535 n (omega (arith, small)), decimal-unpadded n (omega (arith, small))) refl
+port-read n small = record { bytes = decimal-digits n (omega (arith, small)); read = port-of-read n small }
 
 -- ---- an address
 
