@@ -5,7 +5,7 @@ use Rattle.std.specs.Char.{is_ascii_digit}
 use Rattle.std.specs.List.{list_all}
 use Rattle.std.specs.Str.Parse.{digits_value}
 use Rattle.std.proofs.lemmas.Bool.{and_right, ne_eqb, le-ltb}
-use Rattle.std.proofs.lemmas.Fmt.{decimal_is_IsNumeral, length-decimal-le, first_decimal}
+use Rattle.std.proofs.lemmas.Fmt.{decimal_is_IsNumeral, decimal_digit, length-decimal-le, first_decimal}
 use Rattle.rtsp_text.specs.Bytes.{is_other}
 use Rattle.rtsp_text.specs.Decimal.{SpellsNumber, number_of}
 use Rattle.rtsp_text.specs.Options.{Finds}
@@ -39,7 +39,7 @@ unpadded [] first = refl
 unpadded (b ∷ text) first = and_right (nat_lt 0 (length text)) (b == 48) (ne_eqb b 48 (λ e. absurd (omega (arith, e, first))))
 
 decimal-unpadded : (n : ℕ) → n < 2 ^ 64 → is_padded (decimal n) ≡ false
-decimal-unpadded zero small = refl
+decimal-unpadded zero small = let one : decimal 0 ≡ 48 ∷ [] = decimal_digit 0 (omega arith) in ap is_padded one
 decimal-unpadded (suc n) small = unpadded (decimal (suc n)) (first_decimal (suc n) (omega arith) small)
 
 decimal-digits : (n : ℕ) → n < 2 ^ 64 → list_all is_ascii_digit (decimal n) ≡ true

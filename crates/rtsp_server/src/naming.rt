@@ -80,7 +80,10 @@ fn take(stream: &TcpStream, mut header: &mut [u8]) -> bool {
         }
         match reader.read(header) {
             Ok(0) => return false,
-            Ok(count) => header = &mut header[count..],
+            Ok(count) => {
+                let count = count.min(header.len());
+                header = &mut header[count..];
+            }
             Err(fault) if fault.kind() == ErrorKind::Interrupted => {}
             Err(_) => return false,
         }

@@ -13,7 +13,7 @@ fn read_url(alloc: Global, text: &str) -> Result<Option<Url>, AllocError>
 {
     match Url::parse(alloc, text) {
         Ok(url) => {
-            if matches!(url.scheme(), "rtsp" | "rtsps") {
+            if url.scheme() == "rtsp" || url.scheme() == "rtsps" {
                 Ok(Some(url))
             } else {
                 Ok(None)
