@@ -4,7 +4,6 @@ make namespaces."""
 import contextlib
 import os
 import pathlib
-import shutil
 import signal
 import subprocess
 import sys
@@ -21,7 +20,6 @@ BALANCER, SERVERS, PLAYERS = "10.77.0.1", ["10.77.0.11", "10.77.0.12", "10.77.0.
 FLEET = TOP / "packaging/fleet"
 SHARE, CONNECTIONS = 8, 6
 TONE = Presentation(units=300)
-HERE = pathlib.Path(__file__).resolve()
 SOON = 15.0
 # Opens so many connections to the balancer, asks OPTIONS on each, says how many were answered, and holds them until its
 # input ends.
@@ -116,8 +114,6 @@ class Fleet:
         self.running[address] = self.nets.begin(self.nets.inside, *words, stdout=log, stderr=log)
 
     def begin_balancer(self) -> None:
-        for name in ("request", "rtsps"):
-            (self.folder / f"{name}.pem").touch()
         key, made = self.folder / "key.pem", self.folder / "made.pem"
         subject = ["-subj", "/CN=media.example", "-days", "2"]
         run("openssl", "req", "-x509", "-newkey", "rsa:2048", "-nodes", "-keyout", str(key), "-out", str(made), *subject)
@@ -137,6 +133,9 @@ class Fleet:
             (self.folder / f"{track.name}.raw").write_bytes(b"".join(map(track.unit, range(TONE.units))))
         for number in range(len(SERVERS)):
             self.begin_server(number)
+        until = time.monotonic() + SOON
+        while not all(self.listens(number) for number in range(len(SERVERS))) and time.monotonic() < until:
+            time.sleep(0.1)
         self.begin_balancer()
         return self
 
@@ -144,6 +143,9 @@ class Fleet:
         for it in self.running.values():
             it.kill()
             it.wait()
+
+    def listens(self, number: int) -> bool:
+        return any("listening on" in it for it in self.lines(number))
 
     def lines(self, number: int) -> List[str]:
         path = self.folder / f"{number}.log"
