@@ -8,18 +8,22 @@ const PLAYER: Origin = Origin::Player(0x0a4d_0065, 42_748);
 
 const LINE: &[u8] = b"PROXY TCP4 10.77.0.101 10.77.0.1 42748 7001\r\nOPTIONS * RTSP/2.0\r\n\r\n";
 
-const BINARY: &[u8] = b"\r\n\r\n\0\r\nQUIT\n\x21\x11\0\x0c\x0a\x4d\0\x65\x0a\x4d\0\x01\xa6\xfc\x1b\x5aOPTIONS";
+const BINARY: &[u8] =
+    b"\r\n\r\n\0\r\nQUIT\n\x21\x11\0\x0c\x0a\x4d\0\x65\x0a\x4d\0\x01\xa6\xfc\x1b\x5aOPTIONS";
 
 // With what is told besides, as a checksum.
-const TOLD: &[u8] = b"\r\n\r\n\0\r\nQUIT\n\x21\x11\0\x13\x0a\x4d\0\x65\x0a\x4d\0\x01\xa6\xfc\x1b\x5b\x03\0\x04\x27\x41\xfb\x65";
+const TOLD: &[u8] =
+    b"\r\n\r\n\0\r\nQUIT\n\x21\x11\0\x13\x0a\x4d\0\x65\x0a\x4d\0\x01\xa6\xfc\x1b\x5b\x03\0\x04\x27\x41\xfb\x65";
 
 const LOCAL: &[u8] = b"\r\n\r\n\0\r\nQUIT\n\x20\0\0\0";
 
 // Of IPv6: 36 bytes of addresses and ports.
-const SIXES: &[u8] = b"\r\n\r\n\0\r\nQUIT\n\x21\x21\0\x24................................\x01\x02\x03\x04";
+const SIXES: &[u8] =
+    b"\r\n\r\n\0\r\nQUIT\n\x21\x21\0\x24................................\x01\x02\x03\x04";
 
 // It has no end within 107 bytes.
-const LONG_LINE: &[u8] = b"PROXY TCP4 10.77.0.101 10.77.0.1 42748 7001 ..............................................................";
+const LONG_LINE: &[u8] =
+    b"PROXY TCP4 10.77.0.101 10.77.0.1 42748 7001 ..............................................................";
 
 // Whether nothing is told of any shorter front of a header, and this of the whole, whatever is behind.
 fn is_told_at(bytes: &[u8], size: usize, seen: Seen) -> bool {
@@ -84,7 +88,13 @@ fn what_else_is_refused(rt: HostRuntime) {
 fn addresses_in_text(rt: HostRuntime) {
     assert!(rt; read_address(b"10.77.0.1") == Some(0x0a4d_0001));
     assert!(rt; read_address(b"255.255.255.255") == Some(u32::MAX));
-    for text in [b"10.77.0".as_slice(), b"10.77.0.1.2".as_slice(), b"10.77.0.01".as_slice(), b"::1".as_slice(), b"".as_slice()] {
+    for text in [
+        b"10.77.0".as_slice(),
+        b"10.77.0.1.2".as_slice(),
+        b"10.77.0.01".as_slice(),
+        b"::1".as_slice(),
+        b"".as_slice(),
+    ] {
         assert!(rt; read_address(text) == None);
     }
 }

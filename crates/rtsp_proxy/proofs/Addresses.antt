@@ -89,9 +89,15 @@ four-bytes a b c d p q r s =
 four-read : (a b c d : ℕ) → a < 256 → b < 256 → c < 256 → d < 256 → address_of (four_of a b c d) ≡ Some (a * 0x1000000 + b * 0x10000 + c * 0x100 + d)
 unfolding address_of
 four-read a b c d p q r s =
-    rw (split_found 46 (decimal a) (decimal b ++ 46 ∷ (decimal c ++ 46 ∷ decimal d)) (undotted a p), octet-read a p,
-        split_found 46 (decimal b) (decimal c ++ 46 ∷ decimal d) (undotted b q), octet-read b q,
-        split_found 46 (decimal c) (decimal d) (undotted c r), octet-read c r, octet-read d s) refl
+    rw (
+      split_found 46 (decimal a) (decimal b ++ 46 ∷ (decimal c ++ 46 ∷ decimal d)) (undotted a p),
+      octet-read a p,
+      split_found 46 (decimal b) (decimal c ++ 46 ∷ decimal d) (undotted b q),
+      octet-read b q,
+      split_found 46 (decimal c) (decimal d) (undotted c r),
+      octet-read c r,
+      octet-read d s,
+    ) refl
 
 pub address-read : (n : ℕ) → n < 2 ^ 32 → IsAddress (dotted n) n
 address-read n small =

@@ -20,9 +20,15 @@ tcp4-read : (source target port target_port : List ℕ) (a b p q : ℕ) → IsAd
     → tcp4_of (source ++ 32 ∷ (target ++ 32 ∷ (port ++ 32 ∷ target_port))) ≡ Some (Player a p)
 unfolding tcp4_of
 tcp4-read source target port target_port a b p q s t m n =
-    rw (split_found 32 source (target ++ 32 ∷ (port ++ 32 ∷ target_port)) (all_other is_dotted 32 source refl s.bytes), s.read,
-        split_found 32 target (port ++ 32 ∷ target_port) (all_other is_dotted 32 target refl t.bytes), t.read,
-        split_found 32 port target_port (all_other is_ascii_digit 32 port refl m.bytes), m.read, n.read) refl
+    rw (
+      split_found 32 source (target ++ 32 ∷ (port ++ 32 ∷ target_port)) (all_other is_dotted 32 source refl s.bytes),
+      s.read,
+      split_found 32 target (port ++ 32 ∷ target_port) (all_other is_dotted 32 target refl t.bytes),
+      t.read,
+      split_found 32 port target_port (all_other is_ascii_digit 32 port refl m.bytes),
+      m.read,
+      n.read,
+    ) refl
 
 origin-read : (source target port target_port : List ℕ) (a b p q : ℕ) → IsAddress source a → IsAddress target b → IsPort port p → IsPort target_port q
     → origin_of (fields source target port target_port) ≡ Ok (Player a p)

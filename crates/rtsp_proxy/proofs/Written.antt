@@ -20,7 +20,7 @@ line-is-read source target port target_port text s t p q =
     let told = fields (dotted source) (dotted target) (decimal port) (decimal target_port) in
     let short = fields-short (dotted source) (dotted target) (decimal port) (decimal target_port) (address-short source s) (address-short target t) (port-short port p) (port-short target_port q) in
     let read = texts-are-read (dotted source) (dotted target) (decimal port) (decimal target_port) text source target port target_port
-        (address-read source s) (address-read target t) (port-read port p) (port-read target_port q) short in
+    (address-read source s) (address-read target t) (port-read port p) (port-read target_port q) short in
     let whole : line_for source target port target_port ++ text ≡ word ++ told ++ 13 ∷ 10 ∷ text = ap (λ l. word ++ l) (append_assoc told (13 ∷ 10 ∷ []) text) in
     let size : 8 + length told ≡ length (line_for source target port target_port) = let long = length-append told (13 ∷ 10 ∷ []) in omega (arith, long) in
     ap proxy_of whole ∙ read ∙ ap (Header (Player source port)) size

@@ -17,10 +17,7 @@ fn two(high: u8, low: u8) -> u16
 fn four(a: u8, b: u8, c: u8, d: u8) -> u32
     ensures { result ≡ four a b c d }
 {
-    u32::from(a) * 0x0100_0000
-        + u32::from(b) * 0x0001_0000
-        + u32::from(c) * 0x0100
-        + u32::from(d)
+    u32::from(a) * 0x0100_0000 + u32::from(b) * 0x0001_0000 + u32::from(c) * 0x0100 + u32::from(d)
 }
 
 // Whose connection a whole header names: LOCAL is the balancer's own, and so is a family that isn't told.

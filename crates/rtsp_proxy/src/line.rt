@@ -57,7 +57,12 @@ pub fn read_address(text: &[u8]) -> Option<u32>
     let (c, d) = split_once(rest, b'.')?;
     let c = octet_of(c)?;
     let d = octet_of(d)?;
-    Some(u32::from(a) * 0x0100_0000 + u32::from(b) * 0x0001_0000 + u32::from(c) * 0x0100 + u32::from(d))
+    Some(
+        u32::from(a) * 0x0100_0000
+            + u32::from(b) * 0x0001_0000
+            + u32::from(c) * 0x0100
+            + u32::from(d),
+    )
 }
 
 // The source of a connection over IPv4: two addresses and two ports.

@@ -25,7 +25,10 @@ impl Balancer {
         if self.is_known.load(Ordering::SeqCst) {
             return false;
         }
-        self.headless.fetch_add(1, Ordering::SeqCst).saturating_add(1) == HEADLESS
+        self.headless
+            .fetch_add(1, Ordering::SeqCst)
+            .saturating_add(1)
+            == HEADLESS
     }
 }
 
@@ -50,7 +53,9 @@ impl Balancers {
     }
 
     fn find(&self, address: u32) -> Option<&Balancer> {
-        self.listed.iter().find(|balancer| balancer.address == address)
+        self.listed
+            .iter()
+            .find(|balancer| balancer.address == address)
     }
 
     /// Whether a connection from this address begins with a header.

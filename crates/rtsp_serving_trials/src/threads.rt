@@ -89,7 +89,8 @@ fn a_gate_lets_so_many_in(rt: HostRuntime) -> Result<(), AllocError> {
 }
 
 // Two of whom one is named, which takes the last place of its address; the other may only leave.
-const NAMED: &str = "? enters, ? enters, 1 enters, 2 full, 1 named, 1 unplaced, ? leaves, 2 enters, 1 leaves, ? enters";
+const NAMED: &str =
+    "? enters, ? enters, 1 enters, 2 full, 1 named, 1 unplaced, ? leaves, 2 enters, 1 leaves, ? enters";
 
 #[test]
 fn a_gate_names_whom_it_let_in(rt: HostRuntime) -> Result<(), AllocError> {
