@@ -2,6 +2,7 @@ pub mod Fault
 pub mod Form
 pub mod Keys
 pub mod Tables
+pub mod Balancers
 pub mod Server
 pub mod MediaPath
 pub mod Distinct

@@ -288,7 +288,7 @@ fn few(items: &Array, most: usize) -> Result<&Array, TableFault>
     }
 }
 
-/// The items of an array, of which there are 1 to `most`.
+/// The items of a value, of which there are 1 to `most`.
 pub(crate) fn list(value: &Value, most: usize) -> Result<&Array, TableFault>
     ensures value { GivesBy OutOfMemory (λ v. array_view v.now) result
         (list_in most (Some (view value.now))) }

@@ -3,6 +3,7 @@
 
 #![tactic(auto)]
 
+mod balancers;
 mod example;
 mod fault;
 mod found;

@@ -22,6 +22,8 @@ mod operations;
 #[cfg(test)]
 mod packets;
 #[cfg(test)]
+mod proxy_headers;
+#[cfg(test)]
 mod rows;
 #[cfg(test)]
 mod texts;

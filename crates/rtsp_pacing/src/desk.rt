@@ -72,6 +72,8 @@ pub(crate) struct PacerDesk<'a, R, N: Numbers> {
     is_held: bool,
     // Of which sessions it was told that frames were dropped.
     told: ToldSessions,
+    // And of which that a port of their players refuses all.
+    refusing: ToldSessions,
     seat: BookSeat,
     ghost ours: { IsSeatOf seat parts.lock.now },
 }
@@ -103,6 +105,7 @@ impl<'a, R, N: Numbers> PacerDesk<'a, R, N> {
             turns_left: 0,
             is_held: false,
             told: ToldSessions::new(alloc),
+            refusing: ToldSessions::new(alloc),
             seat,
         }
     }
@@ -179,14 +182,19 @@ impl<R: Wait, N: Numbers> PacerDesk<'_, R, N> {
 
     // Forgets of which sessions it was told that don't live any more, before more memory would be taken.
     fn forget_told(&mut self) {
-        if !self.told.is_full() {
+        if !self.told.is_full() && !self.refusing.is_full() {
             return;
         }
-        for place in (0..self.told.len()).rev() {
+        for place in (0..self.told.len().max(self.refusing.len())).rev() {
             if let Some(session) = self.told.at(place)
                 && self.phase(session).is_none()
             {
                 self.told.forget(place);
+            }
+            if let Some(session) = self.refusing.at(place)
+                && self.phase(session).is_none()
+            {
+                self.refusing.forget(place);
             }
         }
     }
@@ -231,6 +239,15 @@ impl<R: Wait + Clock, N: Numbers> PacerDesk<'_, R, N> {
                 cause: dropped.cause,
             };
             let event = Event::FramesDropped { session, loss };
+            self.parts.log.event(self.rt, event);
+        }
+    }
+
+    // Tells that a port of a session's player refuses all packets, once for each session.
+    pub(crate) fn tell_refusing(&mut self, session: u64) {
+        self.forget_told();
+        if self.refusing.note(session) {
+            let event = Event::PortRefuses { session };
             self.parts.log.event(self.rt, event);
         }
     }

@@ -60,6 +60,8 @@ pub(crate) struct PacedPlay {
     rate: u64,
     // Its frames that were dropped, and of which it wasn't told yet.
     dropped: Option<Dropped>,
+    // Whether a port of its player refuses all packets, as it was seen last.
+    is_refused: bool,
 }
 
 // What came of sending: a turn, with when the next packet is due; or, where the unit that is due isn't
@@ -134,6 +136,7 @@ impl PacedPlay {
             reached: due,
             rate: rate_of(view),
             dropped: None,
+            is_refused: false,
         };
         Some((play, due))
     }
@@ -179,7 +182,17 @@ impl PacedPlay {
             self.next = due;
         }
         self.tell_dropped(desk, next, moment);
+        self.tell_refusing(desk, moment);
         next
+    }
+
+    // Tells of a port that has refused all packets for so long that it is sent none.
+    fn tell_refusing<R: Wait + Clock>(&mut self, desk: &mut PacerDesk<'_, R>, moment: u64) {
+        let is_refused = self.ways.is_any_spared(moment);
+        if is_refused && !self.is_refused {
+            desk.tell_refusing(self.session());
+        }
+        self.is_refused = is_refused;
     }
 
     // Tells of frames that were dropped, once they were counted for long enough or the play is over.

@@ -4,7 +4,7 @@
 //! `server` starts all of them and joins them, with what `opening` gives; `threads` is what each does,
 //! and `shared` what all share, `all_lanes` and `end_note` among it. `socket_lane` is a lane of sockets,
 //! `clients` its connections and its turns, and `letting_in` lets them in; `client` is one of them, and
-//! `visiting` reads it. While the journal has no room `foresight` tells what may be read, and
+//! `visiting` reads it. Where `balancers` lists who connected, `naming` finds whom it connects. While the journal has no room `foresight` tells what may be read, and
 //! `putting_aside` has the others wait. `answering` is what is done with its input over its handle of the book, `writing`
 //! and `hearing` what is done with its output and its RTCP; `unread` is what it holds of a message that
 //! isn't whole. Of a lane, `service` and `tools` are what it answers with, `lane_lines` what it holds of
@@ -18,6 +18,7 @@
 
 mod all_lanes;
 mod answering;
+mod balancers;
 mod channels;
 mod client;
 mod clients;
@@ -28,6 +29,7 @@ mod foresight;
 mod hearing;
 mod lane_lines;
 mod letting_in;
+mod naming;
 mod opening;
 mod putting_aside;
 mod readers;

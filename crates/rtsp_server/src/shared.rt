@@ -1,6 +1,7 @@
 //! What the threads of a server share.
 
 use crate::all_lanes::AllLanes;
+use crate::balancers::Balancers;
 use crate::end_note::EndNote;
 use crate::opening::Opening;
 use crate::stopping::StopTimes;
@@ -8,7 +9,7 @@ use crate::unread::HELD_IN_ALL;
 use mio::net::TcpListener;
 use rtsp_content::{Operation, Server, Table};
 use rtsp_lock::BookHandle;
-use rtsp_log::{BATCH_LINES, Event, Log};
+use rtsp_log::{BATCH_LINES, Event, HeaderCause, Log};
 use rtsp_metrics::Counters;
 use rtsp_pacing::Bells;
 use rtsp_shares::{ShareTable, Watermark};
@@ -46,6 +47,8 @@ impl Lent {
 pub(crate) struct Shared {
     pub(crate) listener: TcpListener,
     pub(crate) gate: Gate,
+    /// Those whose connections begin with a header.
+    pub(crate) balancers: Balancers,
     /// What addresses have of the sessions, where each has a share of them.
     pub(crate) session_shares: Option<Mutex<ShareTable>>,
     pub(crate) outlets: Outlets,
@@ -78,6 +81,7 @@ impl Drop for Shared {
         let Self {
             listener: _listener,
             gate: _gate,
+            balancers: _balancers,
             session_shares: _session_shares,
             outlets: _outlets,
             lent: _lent,
@@ -141,11 +145,13 @@ impl Shared {
         let ports = PortTable::open(alloc, numbers.first_port, numbers.pairs)?;
         let bells = Bells::new(alloc, of.pacers, numbers.sessions)?;
         let gate = Gate::new(alloc, connections, numbers.connections_per_address)?;
+        let balancers = Balancers::open(alloc, of.operation.proxy())?;
         let session_shares = session_shares(alloc, numbers)?;
         let log = open_log(alloc, of.operation.access_log())?;
         Ok(Shared {
             listener,
             gate,
+            balancers,
             session_shares,
             outlets: Outlets::new(alloc),
             lent,
@@ -205,6 +211,17 @@ impl Shared {
             Refused::Full => self.log.event(rt, Event::TooManyConnections),
             Refused::Over => {}
         }
+    }
+
+    /// A connection of the balancer at this address was closed, since its header was refused.
+    pub(crate) fn note_header_refused<R: Wait + rt::Clock>(
+        &self,
+        rt: &R,
+        balancer: u32,
+        cause: HeaderCause,
+    ) {
+        self.counters.header_refused();
+        self.balancers.note_refused(rt, &self.log, balancer, cause);
     }
 
     /// A connection was closed at once, since there is no descriptor.

@@ -38,12 +38,17 @@ fn name_of(entered: Result<(), Refused>) -> &'static str {
 // Whether an address leaves the gate, or what comes of its entering it.
 fn passes<R: Wait>(rt: &R, gate: &Gate, step: &str) -> bool {
     let (peer, wanted) = step.split_once(' ').unwrap_or((step, ""));
-    let peer = peer.parse().unwrap_or(0);
-    if wanted == "leaves" {
-        gate.leave(rt, peer);
-        return true;
+    let address = peer.parse().unwrap_or(0);
+    let place = if peer == "?" { None } else { Some(address) };
+    match wanted {
+        "leaves" => {
+            gate.leave(rt, place);
+            true
+        }
+        "named" => gate.name(rt, address) == Ok(()),
+        "unplaced" => gate.name(rt, address) == Err(Refused::Share),
+        _ => name_of(gate.enter(rt, place)) == wanted,
     }
-    name_of(gate.enter(rt, peer)) == wanted
 }
 
 // Whether all steps of a line come to what they say, and whether the gate is shut then.
@@ -80,6 +85,19 @@ fn a_gate_lets_so_many_in(rt: HostRuntime) -> Result<(), AllocError> {
     let gate = Gate::new(rt.alloc(), Some(5), Some(2))?;
     gate.allow(3);
     assert!(rt; lets_five_in(&rt, &gate));
+    Ok(())
+}
+
+// Two of whom one is named, which takes the last place of its address; the other may only leave.
+const NAMED: &str =
+    "? enters, ? enters, 1 enters, 2 full, 1 named, 1 unplaced, ? leaves, 2 enters, 1 leaves, ? enters";
+
+#[test]
+fn a_gate_names_whom_it_let_in(rt: HostRuntime) -> Result<(), AllocError> {
+    let gate = Gate::new(rt.alloc(), None, Some(2))?;
+    gate.allow(3);
+    assert!(rt; ends_shut(&rt, &gate, NAMED) == Some(false));
+    assert!(rt; gate.open_now() == 3);
     Ok(())
 }
 
