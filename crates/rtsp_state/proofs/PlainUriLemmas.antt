@@ -1,5 +1,5 @@
 -- A plain URI is the text of a URL with the same path, and the parser gives that URL.
-use Rattle.std.proofs.Common.{◌≡◌, ◌≢◌, ℕ, ◌-◌, ◌^◌, ◌<◌, Bool, true, false, not, ◌&&◌, ◌==◌, List, [], ◌∷◌, ◌++◌, length, get_or, Option, Some, None, All, refl, sym, ap, ◌∙◌, subst, inl, ⊎_elim, append-nil, arith, lit<}
+use Rattle.std.proofs.Common.{◌≡◌, ◌≢◌, ℕ, ◌-◌, ◌^◌, ◌<◌, Bool, true, false, not, ◌&&◌, ◌==◌, List, [], ◌∷◌, ◌++◌, length, get_or, Option, Some, None, Ok, All, refl, sym, ap, ◌∙◌, subst, inl, ⊎_elim, append-nil, arith, lit<}
 use Rattle.std.specs.Prelude.{codes, decimal, IfSome}
 use Rattle.std.specs.List.{list_all}
 use Rattle.std.proofs.lemmas.Bool.{and_parts, and_right, cases_eq, eqb-true, ne_eqb, true≢false, both_ways}
@@ -220,10 +220,16 @@ bare : (scheme : Scheme) (host : List ℕ) (port : Option ℕ) (path : List ℕ)
 bare scheme host None path = ap (λ p. scheme_text scheme ++ (codes "://" ++ (host ++ p))) (append-nil path)
 bare scheme host (Some n) path = ap (λ p. scheme_text scheme ++ (codes "://" ++ (host ++ (58 ∷ (decimal n ++ p))))) (append-nil path)
 
--- the parser reads its own text, and the scheme is one of the two
+-- either scheme is one of RTSP
+taken : (scheme : Scheme) (host : List ℕ) (port : Option ℕ) (path : List ℕ) → of_scheme (Ok (plain_parts scheme host port path)) ≡ Some (plain_parts scheme host port path)
+taken rtsp host port path = refl
+taken rtsps host port path = refl
+
+-- the parser reads its own text
 own_text : (scheme : Scheme) (host : List ℕ) (port : Option ℕ) (path : List ℕ) → ArePlain host port path → rtsp_url (serialize (plain_parts scheme host port path)) ≡ Some (plain_parts scheme host port path)
 own_text scheme host port path h =
-    ap of_scheme (parse_url-serialize (plain_parts scheme host port path) None (valid scheme host port path h) (canonical scheme host port path h))
+    ap of_scheme (parse_url-serialize (plain_parts scheme host port path) None (valid scheme host port path h) (canonical scheme host port path h)) ∙
+    taken scheme host port path
 
 own_uri : (scheme : Scheme) (host : List ℕ) (port : Option ℕ) (path : List ℕ) → ArePlain host port path → uri_of (serialize (plain_parts scheme host port path)) ≡ Some (plain_parts scheme host port path)
 own_uri scheme host port path h =
