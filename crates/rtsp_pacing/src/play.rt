@@ -187,7 +187,11 @@ impl PacedPlay {
     }
 
     // Tells of a port that has refused all packets for so long that it is sent none.
-    fn tell_refusing<R: Wait + Clock>(&mut self, desk: &mut PacerDesk<'_, R>, moment: u64) {
+    fn tell_refusing<R: Wait + Clock, N: Numbers>(
+        &mut self,
+        desk: &mut PacerDesk<'_, R, N>,
+        moment: u64,
+    ) {
         let is_refused = self.ways.is_any_spared(moment);
         if is_refused && !self.is_refused {
             desk.tell_refusing(self.session());
