@@ -7,7 +7,7 @@ use crate::service::Service;
 use crate::shared::Shared;
 use crossbeam_utils::CachePadded;
 use rtsp_content::Table;
-use rtsp_lock::{BookHandle, DrawnNumbers};
+use rtsp_lock::BookHandle;
 use rtsp_metrics::AnswerCounters;
 use rtsp_threads::{Lane, LaneTurn, RoomLooks};
 use std::alloc::Global;
@@ -56,7 +56,7 @@ impl SocketLane {
     }
 }
 
-impl Lane<DrawnNumbers> for SocketLane {
+impl Lane for SocketLane {
     fn turn<R: Wait + Net<Listener = net::TcpListener, Stream = net::TcpStream> + rt::Clock>(
         &mut self,
         rt: &R,

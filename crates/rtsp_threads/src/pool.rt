@@ -4,7 +4,7 @@ ghost use Rattle.std.specs.Arc.{arc_value};
 ghost use Rattle.rtsp_lock.specs.Calls.{IsSeatOf, SameSeat};
 
 use rtsp_content::Table;
-use rtsp_lock::{BookHandle, BookLock, BookSeat, Numbers};
+use rtsp_lock::{BookHandle, BookLock, BookSeat, DrawnNumbers};
 use std::alloc::Global;
 use std::net::{Net, TcpListener, TcpStream};
 use std::rt::Clock;
@@ -22,14 +22,14 @@ pub struct LaneTurn {
 }
 
 /// A source of connections, with all that their requests are answered by.
-pub trait Lane<N: Numbers>: Drop {
+pub trait Lane: Drop {
     /// One turn: connections are accepted, those that are ready are visited, or one is served to
     /// its end. Each connection has a seat of its own, which is split off the lane's.
     fn turn<R: Wait + Net<Listener = TcpListener, Stream = TcpStream> + Clock>(
         &mut self,
         rt: &R,
         alloc: Global,
-        handle: &mut BookHandle<N>,
+        handle: &mut BookHandle,
         table: &Table,
     ) -> LaneTurn;
 }
@@ -44,11 +44,13 @@ pub struct PoolEnd {
 }
 
 // Runs a lane to its end: how many connections it served.
-fn run_lane<
-    R: Wait + Net<Listener = TcpListener, Stream = TcpStream> + Clock,
-    N: Numbers,
-    L: Lane<N>,
->(rt: &R, alloc: Global, table: &Table, mut handle: BookHandle<N>, mut lane: L) -> u64 {
+fn run_lane<R: Wait + Net<Listener = TcpListener, Stream = TcpStream> + Clock, L: Lane>(
+    rt: &R,
+    alloc: Global,
+    table: &Table,
+    mut handle: BookHandle,
+    mut lane: L,
+) -> u64 {
     let mut served = 0u64;
     for _ in rt.forever() {
         let turn = lane.turn(rt, alloc, &mut handle, table);
@@ -63,9 +65,8 @@ fn run_lane<
 // Runs the lanes, each in a thread of its own with a handle that is split off this one.
 fn run_lanes<
     R: Threads + Wait + Net<Listener = TcpListener, Stream = TcpStream> + Clock + Sync,
-    N: Numbers + Send + Sync,
-    L: Lane<N> + Send,
->(rt: &R, alloc: Global, table: &Table, mut own: BookHandle<N>, lanes: Vec<L>) -> PoolEnd {
+    L: Lane + Send,
+>(rt: &R, alloc: Global, table: &Table, mut own: BookHandle, lanes: Vec<L>) -> PoolEnd {
     let Ok(mut handles) = Vec::with_capacity(alloc, lanes.len()) else {
         return none_served(&lanes);
     };
@@ -103,13 +104,12 @@ fn none_served<L>(lanes: &Vec<L>) -> PoolEnd {
 /// joins the threads.
 pub fn run_pool<
     R: Threads + Wait + Net<Listener = TcpListener, Stream = TcpStream> + Clock + Sync,
-    N: Numbers + Send + Sync,
-    L: Lane<N> + Send,
+    L: Lane + Send,
 >(
     rt: &R,
     alloc: Global,
     lanes: Vec<L>,
-    lock: &Arc<BookLock<N>>,
+    lock: &Arc<BookLock<DrawnNumbers>>,
     seat: &mut BookSeat,
     table: &Table,
 ) -> PoolEnd

@@ -5,7 +5,7 @@
 use crate::world::{serve, tone};
 use rtsp_content::Table;
 use rtsp_engine::{Asker, BindFault, Binder, CountedReader, CountedWriter, ServeEnd, TURNS, Words};
-use rtsp_lock::{AnyNumbers, open};
+use rtsp_lock::{DrawnNumbers, open_for};
 use rtsp_server::{BookHandle, Lane, LaneTurn, PoolEnd, run_pool, whole_of};
 use rtspd::CountedWords;
 use std::alloc::Global;
@@ -73,7 +73,7 @@ struct OneSetup {
 fn is_set_up<R: Wait, B: Binder>(
     rt: &R,
     alloc: Global,
-    handle: &mut BookHandle<AnyNumbers>,
+    handle: &mut BookHandle,
     binder: &mut B,
     words: &mut CountedWords,
     table: &Table,
@@ -101,7 +101,7 @@ impl OneSetup {
         &self,
         rt: &R,
         alloc: Global,
-        handle: &mut BookHandle<AnyNumbers>,
+        handle: &mut BookHandle,
         table: &Table,
     ) -> Option<()> {
         let mut own = handle.split(rt)?;
@@ -123,12 +123,12 @@ impl OneSetup {
     }
 }
 
-impl Lane<AnyNumbers> for OneSetup {
+impl Lane for OneSetup {
     fn turn<R: Wait + Net<Listener = TcpListener, Stream = TcpStream> + Clock>(
         &mut self,
         rt: &R,
         alloc: Global,
-        handle: &mut BookHandle<AnyNumbers>,
+        handle: &mut BookHandle,
         table: &Table,
     ) -> LaneTurn {
         LaneTurn {
@@ -179,7 +179,7 @@ fn serves_both<R: Threads + Wait + Net<Listener = TcpListener, Stream = TcpStrea
     is_waiting_first: bool,
 ) -> Option<bool> {
     let table = tone(alloc)?;
-    let (lock, mut seat) = open(alloc, &whole_of(&table)).ok()?;
+    let (lock, mut seat) = open_for::<DrawnNumbers>(alloc, &whole_of(&table)).ok()?;
     let lock = Arc::new(alloc, lock).ok()?;
     let (one, two) = (flag(alloc, false)?, flag(alloc, false)?);
     let lanes = lanes(alloc, is_waiting_first, &one, &two)?;
