@@ -1,0 +1,1 @@
+-- The crate has no lemmas of its own.
