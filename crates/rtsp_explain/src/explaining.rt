@@ -2,7 +2,7 @@
 
 use crate::findings::{Explainer, Findings};
 use crate::keys::{Key, PRESENTATION, Presence, SERVER, TRACK};
-use crate::lines::Place;
+use crate::lines::{Place, line_of};
 use crate::numbers::grouped;
 use crate::rules::kind_of;
 use crate::tracks::{Numbers, explain_journal, explain_rate};
@@ -148,25 +148,26 @@ impl Explainer<'_> {
         let Some(number) = number_in(server, key) else {
             return Ok(());
         };
-        let (most, other) = match key {
-            "pairs" => {
-                let first = number_in(server, "first_port").unwrap_or(0);
-                (65_536_i64.saturating_sub(first) / 2, "pairs")
-            }
-            "renewal_step" => {
-                let timeout = number_in(server, "timeout").unwrap_or(60);
-                (timeout.saturating_mul(1000).saturating_sub(1), "timeout")
-            }
-            "sessions_per_address" => (number_in(server, "sessions").unwrap_or(number), "sessions"),
+        let other = match key {
+            "pairs" => number_in(server, "first_port").unwrap_or(0),
+            "renewal_step" => number_in(server, "timeout").unwrap_or(60),
+            "sessions_per_address" => number_in(server, "sessions").unwrap_or(number),
             _ => return Ok(()),
+        };
+        let most = match key {
+            "pairs" => 65_536_i64.saturating_sub(other) / 2,
+            "renewal_step" => other.saturating_mul(1000).saturating_sub(1),
+            _ => other,
         };
         if number <= most {
             return Ok(());
         }
         let (is, most) = (grouped(self.alloc, number)?, grouped(self.alloc, most)?);
-        let why = match other {
-            "pairs" => format!(in self.alloc; "is {is}; from this first port on there are {most}")?,
-            "timeout" => format!(in self.alloc; "is {is}; with this timeout it has to be at most {most}")?,
+        let why = match key {
+            "pairs" => format!(in self.alloc; "is {is}; from port {other} there are {most}")?,
+            "renewal_step" => format!(in self.alloc;
+                "is {is}; with timeout {other} it has to be at most {most}"
+            )?,
             _ => format!(in self.alloc; "is {is}; of sessions {most} it has to be at most all")?,
         };
         self.fault(Place::Server, key, why.as_str())
@@ -185,7 +186,16 @@ impl Explainer<'_> {
             return Ok(());
         };
         let first = first.saturating_add(1);
-        let why = format!(in self.alloc; "is {name:?}, as that of number {first}; names have to differ")?;
+        let other = match place {
+            Place::Track(presentation, _) => Place::Track(presentation, first),
+            _ => Place::Presentation(first),
+        };
+        let why = match line_of(self.text, other, "name") {
+            Some(line) => format!(in self.alloc;
+                "is {name:?}, as another one in line {line}; names have to differ"
+            )?,
+            None => format!(in self.alloc; "is {name:?}, as another one; names have to differ")?,
+        };
         self.fault(place, "name", why.as_str())
     }
 

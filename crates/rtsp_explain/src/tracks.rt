@@ -74,9 +74,11 @@ pub(crate) fn explain_journal(
     if least <= journal {
         return Ok(());
     }
+    let s = if tracks > 1 { "s" } else { "" };
+    let many = grouped(explainer.alloc, sessions)?;
     let (is, wants) = (grouped(explainer.alloc, journal)?, grouped(explainer.alloc, least)?);
     let why = format!(in explainer.alloc;
-        "is {is}; `serve` with these sessions, tracks and workers wants {wants}, else players may be refused 503 for what others do"
+        "is {is}; `serve` with sessions = {many}, {tracks} track{s} each and workers = {workers} wants {wants}, else players may be refused 503 for what others do"
     )?;
     explainer.note(Place::Server, "journal", why.as_str())
 }

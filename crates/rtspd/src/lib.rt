@@ -20,7 +20,7 @@ pub use devices::{
     Conversation, CountedWords, NoPlays, PEER, StandingClock, law_alone_has_places, serve_alone,
 };
 pub use reasons::tell_reasons;
-pub use rtsp_command_line::{CommandLine, Exit, read_words};
+pub use rtsp_command_line::{CommandLine, Exit, Help, read_help, read_words};
 pub use rtsp_log::takes_last_lines;
 pub use rtsp_traits::{
     NoShares, PortSet, law_admitted_gains_ports, law_ports_show, law_refused_keeps_ports,
