@@ -10,6 +10,7 @@ use std::alloc::{AllocError, Global};
 use toml::{Table, Value};
 
 const MOST_PRESENTATIONS: usize = 256;
+
 const MOST_TRACKS: usize = 8;
 
 /// Whatever can be said of a configuration that stands at this path; no file that it names is looked at.
@@ -32,7 +33,8 @@ pub fn explain(alloc: Global, path: &str, bytes: &[u8]) -> Result<Findings, Allo
             explainer.findings.faults.push(fault)?;
         }
     }
-    Ok(explainer.findings)
+    let Explainer { findings, .. } = explainer;
+    Ok(findings)
 }
 
 /// The number at a key, if there is one.
@@ -42,12 +44,9 @@ pub(crate) fn number_in(table: &Table, key: &str) -> Option<i64> {
 
 // The name at a key among the items of a list before this one: the number of the item that has it.
 fn named_before(items: &[Value], count: usize, name: &str) -> Option<usize> {
-    items
-        .iter()
-        .take(count)
-        .position(|item| {
-            item.get("name").and_then(|value| value.as_str()) == Some(name)
-        })
+    items.iter().take(count).position(|item| {
+        item.get("name").and_then(|value| value.as_str()) == Some(name)
+    })
 }
 
 impl Explainer<'_> {
@@ -69,10 +68,13 @@ impl Explainer<'_> {
                 None
             }
         };
-        let items = self.items(document, "presentation", MOST_PRESENTATIONS, Place::Document)?;
+        let place = Place::Document;
         let mut tracks = 0;
-        for (index, item) in items.iter().enumerate() {
-            tracks = tracks.max(self.presentation(items, index, item, server)?);
+        if let Some(items) = self.items(document, "presentation", MOST_PRESENTATIONS, place)? {
+            for (index, item) in items.iter().enumerate() {
+                let count = self.presentation(items, index, item, server)?;
+                tracks = tracks.max(count);
+            }
         }
         if let Some(server) = server
             && tracks > 0
@@ -98,7 +100,9 @@ impl Explainer<'_> {
         self.keys(table, &PRESENTATION, place)?;
         self.distinct(items, index, place)?;
         self.unknown(table, &PRESENTATION, "track", place)?;
-        let tracks = self.items(table, "track", MOST_TRACKS, place)?;
+        let Some(tracks) = self.items(table, "track", MOST_TRACKS, place)? else {
+            return Ok(0);
+        };
         for (number, item) in tracks.iter().enumerate() {
             let place = Place::Track(index.saturating_add(1), number.saturating_add(1));
             let Some(track) = item.as_table() else {
@@ -206,7 +210,7 @@ impl Explainer<'_> {
         key: &str,
         most: usize,
         place: Place,
-    ) -> Result<&'t [Value], AllocError> {
+    ) -> Result<Option<&'t [Value]>, AllocError> {
         let head = match place {
             Place::Document => "[[presentation]]",
             _ => "[[presentation.track]]",
@@ -219,18 +223,22 @@ impl Explainer<'_> {
             Some(Value::Array(items)) => {
                 let count = items.len();
                 if 1 <= count && count <= most {
-                    return Ok(items.as_slice());
+                    return Ok(Some(items.as_slice()));
                 }
-                let why = format!(in self.alloc; "has {count} tables; there have to be 1 to {most}")?;
+                let why = format!(in self.alloc;
+                    "has {count} tables; there have to be 1 to {most}"
+                )?;
                 self.fault(place, key, why.as_str())?;
             }
             Some(value) => {
                 let kind = kind_of(value);
-                let why = format!(in self.alloc; "is {kind}; it has to be 1 to {most} tables {head}")?;
+                let why = format!(in self.alloc;
+                    "is {kind}; it has to be 1 to {most} tables {head}"
+                )?;
                 self.fault(place, key, why.as_str())?;
             }
         }
-        Ok(&[])
+        Ok(None)
     }
 
     // Keys that the program ignores. One that belongs to another table, or is nearly one that isn't there, may be meant.
@@ -243,8 +251,7 @@ impl Explainer<'_> {
     ) -> Result<(), AllocError> {
         for name in table.keys() {
             let name = name.as_str();
-            let is_known = keys.iter().any(|key| key.name == name)
-                || also.split(' ').any(|word| word == name);
+            let is_known = has_key(keys, name) || also.split(' ').any(|word| word == name);
             if is_known {
                 continue;
             }
@@ -257,24 +264,26 @@ impl Explainer<'_> {
 
     // What a key that isn't known may have been meant as.
     fn hint(&self, table: &Table, keys: &[Key], name: &str) -> Result<String, AllocError> {
-        let has = |keys: &[Key]| keys.iter().any(|key| key.name == name);
-        for (head, keys) in [
-            ("[server]", SERVER.as_slice()),
-            ("[[presentation]]", PRESENTATION.as_slice()),
-            ("[[presentation.track]]", TRACK.as_slice()),
-        ] {
-            if has(keys) {
-                return format!(in self.alloc; ": it belongs to {head}");
+        if has_key(&SERVER, name) {
+            return String::from_str(self.alloc, ": it belongs to [server]");
+        }
+        if has_key(&PRESENTATION, name) {
+            return String::from_str(self.alloc, ": it belongs to [[presentation]]");
+        }
+        if has_key(&TRACK, name) {
+            return String::from_str(self.alloc, ": it belongs to [[presentation.track]]");
+        }
+        for key in keys {
+            if table.get(key.name).is_none() && is_near(name, key.name) {
+                return format!(in self.alloc; ": is {} meant?", key.name);
             }
         }
-        let meant = keys
-            .iter()
-            .find(|key| table.get(key.name).is_none() && is_near(name, key.name));
-        match meant {
-            Some(key) => format!(in self.alloc; ": is {} meant?", key.name),
-            None => Ok(String::new(self.alloc)),
-        }
+        Ok(String::new(self.alloc))
     }
+}
+
+fn has_key(keys: &[Key], name: &str) -> bool {
+    keys.iter().any(|key| key.name == name)
 }
 
 // Whether two words differ in at most two letters that stand together, in any case.
@@ -283,13 +292,13 @@ fn is_near(one: &str, other: &str) -> bool {
     let front = one
         .iter()
         .zip(other)
-        .take_while(|(a, b)| a.eq_ignore_ascii_case(b))
+        .take_while(|(a, b)| a.to_ascii_lowercase() == b.to_ascii_lowercase())
         .count();
     let back = one
         .iter()
         .rev()
         .zip(other.iter().rev())
-        .take_while(|(a, b)| a.eq_ignore_ascii_case(b))
+        .take_while(|(a, b)| a.to_ascii_lowercase() == b.to_ascii_lowercase())
         .count();
     let longer = one.len().max(other.len());
     longer > 3 && longer.saturating_sub(front.saturating_add(back)) <= 2

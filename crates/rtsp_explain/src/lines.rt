@@ -18,7 +18,7 @@ pub enum Place {
 }
 
 impl fmt::Display for Place {
-    fn fmt(&self, f: &mut fmt::Formatter<'_>) -> fmt::Result {
+    fn fmt<W: fmt::Write>(&self, f: &mut fmt::Formatter<W>) -> fmt::Result {
         match self {
             Place::Document | Place::Unknown => Ok(()),
             Place::Server => write!(f, "server"),
@@ -41,14 +41,21 @@ fn head_of(line: &str) -> Option<(&str, bool)> {
 
 // What ends a text that begins here and goes on over further lines.
 fn left_open(value: &str) -> Option<&'static str> {
-    for quotes in ["\"\"\"", "'''"] {
-        if let Some(rest) = value.strip_prefix(quotes)
-            && rest.find(quotes).is_none()
-        {
-            return Some(quotes);
-        }
+    if is_open(value, "\"\"\"") {
+        return Some("\"\"\"");
+    }
+    if is_open(value, "'''") {
+        return Some("'''");
     }
     None
+}
+
+// Whether these quotes begin it, and don't end within it.
+fn is_open(value: &str, quotes: &str) -> bool {
+    match value.strip_prefix(quotes) {
+        Some(rest) => rest.find(quotes).is_none(),
+        None => false,
+    }
 }
 
 // The table behind a head that stands behind this place.

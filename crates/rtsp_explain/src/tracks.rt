@@ -76,7 +76,10 @@ pub(crate) fn explain_journal(
     }
     let s = if tracks > 1 { "s" } else { "" };
     let many = grouped(explainer.alloc, sessions)?;
-    let (is, wants) = (grouped(explainer.alloc, journal)?, grouped(explainer.alloc, least)?);
+    let (is, wants) = (
+        grouped(explainer.alloc, journal)?,
+        grouped(explainer.alloc, least)?,
+    );
     let why = format!(in explainer.alloc;
         "is {is}; `serve` with sessions = {many}, {tracks} track{s} each and workers = {workers} wants {wants}, else players may be refused 503 for what others do"
     )?;

@@ -85,7 +85,9 @@ fn told(alloc: Global, words: &[&str]) -> Result<String, AllocError> {
                 connections,
             },
         ) => format!(in alloc; "serve {config:?} {listen:?} {connections:?}"),
-        Some(CommandLine::Check { config, listen }) => format!(in alloc; "check {config:?} {listen:?}"),
+        Some(CommandLine::Check { config, listen }) => format!(in alloc;
+            "check {config:?} {listen:?}"
+        ),
     }
 }
 

@@ -48,7 +48,10 @@ impl Report<'_> {
 
     // The findings, the notes last.
     fn findings(&mut self, findings: &Findings) -> Result<(), AllocError> {
-        for line in findings.faults.iter().chain(&findings.notes) {
+        for line in &findings.faults {
+            self.line(line.as_str())?;
+        }
+        for line in &findings.notes {
             self.line(line.as_str())?;
         }
         Ok(())
@@ -66,16 +69,18 @@ impl Report<'_> {
     }
 
     fn taken(&mut self) -> Result<(), AllocError> {
-        self.line(match self.exit {
+        let end = match self.exit {
             Exit::Done => "the program takes it",
             _ => "the program takes it, but `serve` doesn't start with it here",
-        })
+        };
+        self.line(end)
     }
 }
 
 // How many bytes a file has.
 fn length_of<R: Files<File = File>>(rt: &R, path: &str) -> io::Result<u64> {
-    Ok(File::open(rt, path)?.metadata()?.len())
+    let file = File::open(rt, path)?;
+    Ok(file.metadata()?.len())
 }
 
 // Looks at the file of a track.
@@ -94,16 +99,25 @@ fn look_at_track<R: Files<File = File>>(
         Ok(length) if length == wanted => return Ok(()),
         Ok(length) => {
             let (length, wanted) = (shown(alloc, length)?, shown(alloc, wanted)?);
-            let (units, octets) = (shown(alloc, u64::from(units))?, shown(alloc, u64::from(octets))?);
+            let (units, octets) = (
+                shown(alloc, u64::from(units))?,
+                shown(alloc, u64::from(octets))?,
+            );
             let why = format!(in alloc;
                 "{name}: {path} has {length} bytes, and {units} units of {octets} octets are {wanted}"
             )?;
             (Exit::BadConfiguration, why)
         }
         Err(error) if error.kind() == ErrorKind::NotFound => {
-            (Exit::DeviceFailed, format!(in alloc; "{name}: there is no file {path}")?)
+            (
+                Exit::DeviceFailed,
+                format!(in alloc; "{name}: there is no file {path}")?,
+            )
         }
-        Err(error) => (Exit::DeviceFailed, format!(in alloc; "{name}: {path}: {error}")?),
+        Err(error) => (
+            Exit::DeviceFailed,
+            format!(in alloc; "{name}: {path}: {error}")?,
+        ),
     };
     report.stop(exit, place, "file", why.as_str())
 }
@@ -172,7 +186,12 @@ fn look<R: Files<File = File> + AllocGlobal + Net<Listener = TcpListener, Stream
             ErrorKind::NotFound => format!(in report.alloc; "there is no folder {folder}")?,
             _ => format!(in report.alloc; "{folder}: {error}")?,
         };
-        report.stop(Exit::DeviceFailed, Place::Server, "journal_files", why.as_str())?;
+        report.stop(
+            Exit::DeviceFailed,
+            Place::Server,
+            "journal_files",
+            why.as_str(),
+        )?;
     }
     Ok(())
 }
@@ -209,12 +228,7 @@ fn told<R: Files<File = File> + AllocGlobal + Net<Listener = TcpListener, Stream
 pub(crate) fn run_check<
     R: Files<File = File> + AllocGlobal + Net<Listener = TcpListener, Stream = TcpStream>,
     O: Write + Drop,
->(
-    rt: &R,
-    config: &str,
-    listen: Option<&str>,
-    writer: O,
-) -> Result<(), Exit> {
+>(rt: &R, config: &str, listen: Option<&str>, writer: O) -> Result<(), Exit> {
     address_of(listen)?;
     let bytes = read_file(rt, config)?;
     let mut report = Report {

@@ -46,17 +46,12 @@ pub fn tell_reasons<
 
 // Tells which address is none, if one is, and how the program is called.
 fn tell_of_words<R: AllocGlobal + Eprint>(rt: &R, words: &[&str]) {
-    if let Ok(
-        Some(
-            CommandLine::Serve {
-                listen: Some(text), ..
-            }
-            | CommandLine::Check {
-                listen: Some(text), ..
-            },
-        ),
-    ) = read_words(rt.alloc(), words)
-    {
+    let listen = match read_words(rt.alloc(), words) {
+        Ok(Some(CommandLine::Serve { listen, .. })) => listen,
+        Ok(Some(CommandLine::Check { listen, .. })) => listen,
+        _ => None,
+    };
+    if let Some(text) = listen {
         let _ = eprintln!(rt;
             "rtspd: --listen {text}: no IPv4 address and port, as 127.0.0.1:8554"
         );

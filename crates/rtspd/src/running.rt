@@ -100,15 +100,13 @@ fn exit_of(ended: Result<(), Exit>) -> Exit {
 
 // Tells of the program itself.
 fn run_help<O: Write + Drop>(help: Help, writer: O) -> Result<(), Exit> {
-    let texts = match help {
-        Help::Usage => [USAGE, EXPLANATION],
-        Help::Version => [VERSION, ""],
+    let (first, rest) = match help {
+        Help::Usage => (USAGE, EXPLANATION),
+        Help::Version => (VERSION, ""),
     };
     let mut writer = CountedWriter::new(writer);
-    for text in texts {
-        if writer.write(text.as_bytes()).is_err() {
-            return Err(Exit::DeviceFailed);
-        }
+    if writer.write(first.as_bytes()).is_err() || writer.write(rest.as_bytes()).is_err() {
+        return Err(Exit::DeviceFailed);
     }
     Ok(())
 }
