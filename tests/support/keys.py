@@ -82,7 +82,7 @@ def of_the_look(code: str) -> List[Key]:
     """The keys that `rtspd check` explains, by its tables."""
     tables = {"SERVER": "server", "PRESENTATION": "presentation", "TRACK": "presentation.track"}
     parts = re.findall(r"(?ms)^pub\(crate\) const (\w+): \[Key; \d+\] = \[(.*?)^\];", code)
-    return [(tables[name], it) for name, rows in parts for it in re.findall(r'\bkey\(\s*"(\w+)"', rows)]
+    return [(tables[name], it) for name, rows in parts for it in re.findall(r'\bname: "(\w+)"', rows)]
 
 
 def of_program(code: str) -> Set[str]:
