@@ -1,1 +1,0 @@
--- The crate has no lemmas of its own.

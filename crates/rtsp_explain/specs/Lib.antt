@@ -1,1 +1,0 @@
--- The crate has no definitions of its own.
