@@ -147,16 +147,30 @@ impl Explainer<'_> {
         Ok(())
     }
 
+    // The number at a key of `[server]`, or its default, where it is right.
+    fn right_number(&self, server: &Table, name: &str) -> Result<Option<i64>, AllocError> {
+        let Some(value) = server.get(name) else {
+            return Ok(if name == "timeout" { Some(60) } else { None });
+        };
+        match is_right(self.alloc, &SERVER, name, value)? {
+            true => Ok(value.as_integer()),
+            false => Ok(None),
+        }
+    }
+
     // What two keys of `[server]` ask of each other.
     fn together(&mut self, server: &Table, key: &str) -> Result<(), AllocError> {
         let Some(number) = number_in(server, key) else {
             return Ok(());
         };
         let other = match key {
-            "pairs" => number_in(server, "first_port").unwrap_or(0),
-            "renewal_step" => number_in(server, "timeout").unwrap_or(60),
-            "sessions_per_address" => number_in(server, "sessions").unwrap_or(number),
+            "pairs" => "first_port",
+            "renewal_step" => "timeout",
+            "sessions_per_address" => "sessions",
             _ => return Ok(()),
+        };
+        let Some(other) = self.right_number(server, other)? else {
+            return Ok(());
         };
         let most = match key {
             "pairs" => 65_536_i64.saturating_sub(other) / 2,
@@ -179,13 +193,15 @@ impl Explainer<'_> {
 
     // No two tables side by side have one name.
     fn distinct(&mut self, items: &[Value], index: usize, place: Place) -> Result<(), AllocError> {
-        let name = items
-            .get(index)
-            .and_then(|item| item.get("name"))
-            .and_then(|value| value.as_str());
-        let Some(name) = name else {
+        let Some(value) = items.get(index).and_then(|item| item.get("name")) else {
             return Ok(());
         };
+        let Some(name) = value.as_str() else {
+            return Ok(());
+        };
+        if !is_right(self.alloc, &PRESENTATION, "name", value)? {
+            return Ok(());
+        }
         let Some(first) = named_before(items, index, name) else {
             return Ok(());
         };
@@ -279,6 +295,14 @@ impl Explainer<'_> {
             }
         }
         Ok(String::new(self.alloc))
+    }
+}
+
+// Whether a value is as the key of this name wants it.
+fn is_right(alloc: Global, keys: &[Key], name: &str, value: &Value) -> Result<bool, AllocError> {
+    match keys.iter().find(|key| key.name == name) {
+        Some(key) => Ok(key.rule.fault(alloc, value, key.what)?.is_none()),
+        None => Ok(true),
     }
 }
 

@@ -76,7 +76,7 @@ fn place_after(place: Place, presentations: &mut usize, name: &str, is_item: boo
     Place::Unknown
 }
 
-/// The line, counted from 1, of a key in a table, or of the table's head where the key is empty; none where it isn't
+/// The line, counted from 1, of a key in a table, or of the table's head where the key is empty, or is the table's name; none where it isn't
 /// written there by itself, as in a table within one line.
 pub fn line_of(text: &str, wanted: Place, key: &str) -> Option<usize> {
     let mut place = Place::Document;
@@ -92,7 +92,8 @@ pub fn line_of(text: &str, wanted: Place, key: &str) -> Option<usize> {
         }
         if let Some((name, is_item)) = head_of(line) {
             place = place_after(place, &mut presentations, name, is_item);
-            if key.is_empty() && place == wanted {
+            let is_named = wanted == Place::Document && !is_item && name == key;
+            if is_named || (key.is_empty() && place == wanted) {
                 return Some(index.saturating_add(1));
             }
             continue;
