@@ -11,7 +11,6 @@ mod keys;
 mod lines;
 mod numbers;
 mod rules;
-mod tests;
 mod tracks;
 
 pub use explaining::explain;
