@@ -14,7 +14,7 @@ const MOST_PRESENTATIONS: usize = 256;
 const MOST_TRACKS: usize = 8;
 
 /// Whatever can be said of a configuration that stands at this path; no file that it names is looked at.
-pub fn explain(alloc: Global, path: &str, bytes: &[u8]) -> Result<Findings, AllocError> {
+pub fn explain<'x>(alloc: Global, path: &'x str, bytes: &'x [u8]) -> Result<Findings, AllocError> {
     let text = std::str::from_utf8(bytes).unwrap_or("");
     let mut explainer = Explainer::new(alloc, path, text);
     match toml::table_from_slice(alloc, bytes) {
