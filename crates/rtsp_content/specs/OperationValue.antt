@@ -6,3 +6,5 @@ pub record OperationValue : Type 0 where
   pub journal : Option JournalFilesValue
   pub access_log : Bool
   pub status : Option (List ℕ)
+  pub status_open : Bool
+  pub drain : ℕ

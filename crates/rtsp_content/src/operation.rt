@@ -9,7 +9,8 @@ ghost use Rattle.rtsp_content.specs.Operation.{operation_of, operation_of_docume
 
 use crate::fault::TableFault;
 use crate::journal_files::{JournalFiles, read_files};
-use crate::keys::{Form, flag_at, optional_text_at, table_at};
+use crate::keys::{Form, flag_at, number_at_or, optional_text_at, table_at};
+use crate::limits::{DEFAULT_DRAIN, MAX_DRAIN};
 use crate::media_path::media_folder;
 use std::alloc::Global;
 use std::marker::Model;
@@ -21,6 +22,8 @@ pub struct Operation {
     journal: Option<JournalFiles>,
     access_log: bool,
     status: Option<String>,
+    status_open: bool,
+    drain: u64,
 }
 
 impl Model for Operation {
@@ -42,10 +45,14 @@ fn read_operation(alloc: Global, table: &Table, path: &str) -> Result<Operation,
     let journal = read_files(server, folder)?;
     let access_log = flag_at(server, "access_log")?;
     let status = optional_text_at(alloc, server, "status", Form::Address)?;
+    let status_open = flag_at(server, "status_open")?;
+    let drain = number_at_or(server, "drain", 1, MAX_DRAIN, DEFAULT_DRAIN)?;
     Ok(Operation {
         journal,
         access_log,
         status,
+        status_open,
+        drain,
     })
 }
 
@@ -89,5 +96,19 @@ impl Operation {
         ensures { option_map (λ s. s.now) result ≡ self.now.status }
     {
         self.status.as_deref()
+    }
+
+    /// Whether players' addresses are shown there to all, and not to this machine alone.
+    pub fn status_open(&self) -> bool
+        ensures { result ≡ self.now.status_open }
+    {
+        self.status_open
+    }
+
+    /// For how many seconds at most plays go on where the server is drained.
+    pub fn drain(&self) -> u64
+        ensures { result ≡ self.now.drain }
+    {
+        self.drain
     }
 }

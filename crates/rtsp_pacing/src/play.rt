@@ -1,11 +1,13 @@
 //! A play that a pacer sends.
 
+mod audience;
 mod ending;
 mod leaving;
 
 ghost use Rattle.std.specs.Prelude.{◌≡◌, ◌<◌, ◌≤◌, ◌↔◌, IsTrue, IfSome, Some, unwrap_or, if◌then◌else◌};
 ghost use Rattle.rtsp_pacing.specs.Beginning.{Begins, IsApart};
 
+use self::audience::Watched;
 use crate::desk::PacerDesk;
 use crate::dropped::Dropped;
 use crate::noted::NewPlay;
@@ -37,6 +39,7 @@ pub(crate) struct PacedPlay {
     asked: NewPlay,
     // The place of its presentation.
     presentation: u16,
+    watched: Watched,
     pacer: Pacer,
     ways: Ways,
     stage: Stage,
@@ -120,6 +123,7 @@ impl PacedPlay {
         let play = PacedPlay {
             asked,
             presentation: place,
+            watched: Watched::by(desk, view),
             pacer,
             ways: Ways::of(desk.rt, &desk.parts, view),
             stage: Stage::Sending,
@@ -196,14 +200,14 @@ impl PacedPlay {
         };
         if is_due {
             self.dropped = None;
-            desk.tell_dropped(self.session(), dropped);
+            desk.tell_dropped(self.session(), self.name(), dropped);
         }
     }
 
     // Tells of frames that were dropped, where it wasn't: the pacer is at its end.
     pub(crate) fn tell_rest<R: Wait + Clock>(&self, desk: &mut PacerDesk<'_, R>) {
         if let Some(dropped) = self.dropped {
-            desk.tell_dropped(self.session(), dropped);
+            desk.tell_dropped(self.session(), self.name(), dropped);
         }
     }
 
@@ -322,6 +326,7 @@ impl PacedPlay {
             now: moment,
             room: self.ways.room_when_late(late),
             packets: 0,
+            bytes: 0,
             lost: 0,
             dropped: None,
             failed: 0,
@@ -337,9 +342,11 @@ impl PacedPlay {
             None
         };
         let (packets, lost, waits) = (sink.packets, sink.lost, sink.waits);
+        let bytes = sink.bytes;
         let failed = failures_in(sink.failed, waits);
         self.dropped = Dropped::count(self.dropped, sink.dropped);
         desk.count(packets, lost, failed, late);
+        self.watched.count(desk, packets, bytes, lost, late);
         let next = self.pacer.next_due();
         self.last = moment;
         if waits {

@@ -24,6 +24,8 @@ pub(crate) struct PacketSink<'a, 'w, R> {
     // How much of the play's streams may wait for a connection.
     pub(crate) room: FrameRoom,
     pub(crate) packets: u64,
+    // How many bytes these have.
+    pub(crate) bytes: u64,
     pub(crate) lost: u64,
     // What of the lost was dropped for want of room.
     pub(crate) dropped: Option<Dropped>,
@@ -64,9 +66,11 @@ impl<R: Wait> Sink for PacketSink<'_, '_, R> {
     }
 
     fn send(&mut self, track: u16, packet: &mut Packet) -> Result<(), SinkFault> {
+        let bytes = packet.datagram().len() as u64;
         let went = self.ways.send(self.rt, self.now, self.room, track, packet);
         if went == Went::Sent {
             self.packets = self.packets.saturating_add(1);
+            self.bytes = self.bytes.saturating_add(bytes);
         } else {
             self.lost = self.lost.saturating_add(1);
         }

@@ -1,18 +1,22 @@
 //! What is counted and shown of a server, for whoever runs it.
 
 use crate::channels::Channels;
+use crate::naming::{named, viewing_of};
+use crate::operating::{end_by_operator, sessions_text, standing};
 use crate::service::Service;
 use crate::shared::Shared;
 use rtsp_content::Table;
 use rtsp_engine::Asker;
 use rtsp_lock::{BookHandle, HandOutFault, Mark, Then};
-use rtsp_log::{Access, Event, moment};
+use rtsp_log::{Access, EndCause, Event, moment};
 use rtsp_metrics::{BookFigures, Counts, Held, Method, Snapshot};
 use rtsp_record::Entry;
 use rtsp_sockets::RunningClock;
-use rtsp_status::Source;
+use rtsp_status::{SessionMeant, Source, Standing};
 use rtsp_watch::{Told, Witness};
+use std::alloc::{AllocError, Global};
 use std::cell::Cell;
+use std::net::Net;
 use std::rt;
 use std::sync::Wait;
 
@@ -129,8 +133,11 @@ impl<R: Wait + rt::Clock> Witness for AnswerCounter<'_, R> {
         if method == Method::Teardown {
             shared.ends.note();
         }
-        if let Some(session) = told.ended {
-            shared.end_place(rt, session);
+        if let Some(viewing) = viewing_of(told, self.asker, self.service.now) {
+            shared.audience.enter(rt, viewing);
+        }
+        if let Some(life) = told.ended {
+            shared.end_place(rt, life.session);
         }
         if method == Method::Setup && may_have_opened(told.status) {
             self.setups.set(self.setups.get().saturating_add(1));
@@ -149,9 +156,12 @@ impl<R: Wait + rt::Clock> Witness for AnswerCounter<'_, R> {
                 method: told.method,
                 uri: told.uri,
                 status: told.status,
-                session: told.session(),
+                session: named(rt, &shared.audience, told),
             };
             lines.add(rt, log, self.moment, access);
+        }
+        if let Some(life) = told.ended {
+            shared.tell_ended(rt, life.session, EndCause::Teardown);
         }
     }
 }
@@ -216,7 +226,7 @@ impl<R: Wait> Figures<'_, R> {
     }
 }
 
-impl<R: Wait + rt::Clock> Source for Figures<'_, R> {
+impl<R: Wait + Net + rt::Clock> Source for Figures<'_, R> {
     fn snapshot(&mut self) -> Snapshot {
         let open = self.shared.gate.open_now();
         Snapshot {
@@ -228,5 +238,21 @@ impl<R: Wait + rt::Clock> Source for Figures<'_, R> {
             book: self.book(),
             counts: self.counts(),
         }
+    }
+
+    fn standing(&mut self) -> Standing {
+        standing(self.rt, self.shared, self.book().rate)
+    }
+
+    fn sessions(&mut self, alloc: Global) -> Result<Vec<u8>, AllocError> {
+        sessions_text(self.rt, alloc, self.shared)
+    }
+
+    fn drain(&mut self) {
+        self.shared.begin_drain(self.rt);
+    }
+
+    fn end(&mut self, session: SessionMeant) -> bool {
+        end_by_operator(self.rt, self.shared, &mut self.handle, session)
     }
 }

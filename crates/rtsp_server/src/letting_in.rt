@@ -47,6 +47,10 @@ impl Clients {
         stream: TcpStream,
         peer: u32,
     ) {
+        if service.shared.draining.is_begun() {
+            service.shared.counters.turned_away();
+            return;
+        }
         let gate = &service.shared.gate;
         if let Err(why) = gate.enter(service.rt, peer) {
             service.shared.note_refused(service.rt, peer, why);

@@ -243,7 +243,11 @@ fn open_status<R: Net + rt::Clock + RandomSource>(
         return Ok(None);
     };
     match text.parse::<SocketAddrV4>() {
-        Ok(address) => Ok(Some(StatusServer::open(rt, alloc, SocketAddr::V4(address))?)),
+        Ok(address) => {
+            let address = SocketAddr::V4(address);
+            let is_open = operation.status_open();
+            Ok(Some(StatusServer::open(rt, alloc, address, is_open)?))
+        }
         Err(_) => Err(ServerFault::DeviceFailed),
     }
 }

@@ -95,7 +95,7 @@ pub(crate) struct OnePacer {
 }
 
 // The body of the thread that shows the figures, where that is wanted. It is lent no more than it needs.
-fn show<R: Wait + rt::Clock>(
+fn show<R: Wait + Net + rt::Clock>(
     rt: &R,
     alloc: Global,
     table: &Table,
@@ -148,6 +148,7 @@ impl Parts {
                 bell,
                 decisions: &shared.decisions,
                 counters: &shared.counters,
+                audience: &shared.audience,
                 log: &shared.log,
                 begun: shared.begun,
             };
@@ -162,10 +163,10 @@ impl Parts {
 
     // The body of the thread that looks for signals. Where the system doesn't tell of them, it is said.
     fn watch<R: Wait + rt::Clock>(&self, rt: &R, status: Option<OwnStatus>) {
-        match status {
-            Some(status) => watch_signals(rt, &status, self),
-            None => self.shared.log.event(rt, Event::NoSignals),
+        if status.is_none() {
+            self.shared.log.event(rt, Event::NoSignals);
         }
+        watch_signals(rt, status.as_ref(), self);
     }
 
     // Waits until all lanes have begun. Where some haven't when they should have, these have no thread;
@@ -256,6 +257,7 @@ impl Parts {
     ) {
         let mut binder = self.shared.unbinder(rt);
         end_expired(rt, last, &mut binder, u64::MAX);
+        self.shared.tell_stopped(rt);
         if let (Some(scribe), Some(bell)) = (&mut scribe, &self.shared.scribe) {
             scribe.end(rt, last, bell);
         }
