@@ -46,7 +46,7 @@ ASKED = [
     *[("SETUP", "/a", (OVER_UDP,))] * 3,
     ("RECORD", "", ()),
 ]
-ACCESS = re.compile(rb'\S+Z access 127\.0\.0\.1 (\d+) "([^"]*)" "([^"]*)" (\d+) ([0-9a-f]{8}|-)\n')
+ACCESS = re.compile(rb'\S+Z access 127\.0\.0\.1 (\d+) "([^"]*)" "([^"]*)" (\d+) (?:(\d+):)?(?:(\d+):)?([0-9a-f]{8}|-)\n')
 
 
 def shown_at() -> Tuple[int, str]:
@@ -255,7 +255,9 @@ def lines_of_the_log(checks: Checks) -> None:
         checks.same("the status", 0, server.ends(8))
     lines = [it for it in map(ACCESS.fullmatch, server.log) if it]
     checks.same("who asked what", asked, [(it[2], it[3], it[4]) for it in lines])
-    checks.same("eight digits of the session", session[:8].encode(), lines[0][5] if lines else None)
+    checks.same("eight digits of the session", session[:8].encode(), lines[0][6] if lines else None)
+    checks.same("its name where it is set up and where it ends", lines[0].groups()[4:], lines[-1].groups()[4:])
+    checks.that("which has its number", lines[0][5] is not None, server.log)
     checks.that("and no more of them", not any(session.encode() in it for it in server.log))
     checks.that("its start is told", any(b" info started with 1 presentations" in it for it in server.log), server.log[:2])
     checks.that("its stop is told", any(b"info a signal came" in it for it in server.log), server.log[-1:])
