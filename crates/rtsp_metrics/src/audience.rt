@@ -1,7 +1,7 @@
 //! Who watches what: the sessions that live, as whoever runs the server sees them, and what of each
 //! presentation was played.
 
-use crate::films::{FilmFigures, Films, Transport};
+use crate::films::{FilmCounters, FilmFigures, Films, Transport};
 use crate::session_counts::{SessionCounts, SessionSums};
 use std::alloc::{AllocError, Global};
 use std::collections::BTreeMap;
@@ -84,6 +84,45 @@ impl Rows {
         self.numbers.remove(&row.viewing.id);
         Some(row.viewer())
     }
+
+    fn has(&self, session: u64) -> bool {
+        self.by_number.contains_key(&session)
+    }
+
+    fn viewing(&self, session: u64) -> Option<Viewing> {
+        Some(self.by_number.get(&session)?.viewing)
+    }
+
+    fn number_of(&self, id: u128) -> Option<u64> {
+        self.numbers.get(&id).copied()
+    }
+
+    fn counts(&self, session: u64) -> Option<Arc<SessionCounts>> {
+        Arc::try_clone(&self.by_number.get(&session)?.counts).ok()
+    }
+
+    fn next(&self, session: u64) -> Option<Viewer> {
+        let (_, row) = self.by_number.range(session..).next()?;
+        Some(row.viewer())
+    }
+
+    fn next_of(&self, conn: u64, session: u64) -> Option<Viewing> {
+        for (_, row) in self.by_number.range(session..) {
+            if row.viewing.conn == conn {
+                return Some(row.viewing);
+            }
+        }
+        None
+    }
+
+    fn note_living(&mut self, session: u64, lives: bool) -> bool {
+        let Some(row) = self.by_number.get_mut(&session) else {
+            return false;
+        };
+        let was_missing = row.is_missing;
+        row.is_missing = !lives;
+        was_missing && !lives
+    }
 }
 
 /// The sessions that live, and the counters of each presentation. What is not known of a session for
@@ -108,18 +147,24 @@ impl Audience {
         })
     }
 
+    // The counters of what a session watches.
+    fn film_of(&self, viewing: &Viewing) -> Option<&FilmCounters> {
+        self.films.of(viewing.film, viewing.transport)
+    }
+
+    // Takes a session in where it isn't known. Whether it is new.
+    fn note<R: Wait>(&self, rt: &R, viewing: Viewing) -> bool {
+        let Ok(counts) = Arc::new(self.alloc, SessionCounts::new(viewing.digits())) else {
+            return false;
+        };
+        let mut rows = self.rows.lock(rt);
+        !rows.has(viewing.session) && rows.insert(viewing, counts).is_ok()
+    }
+
     /// A track was set up in a session. Nothing is done where the session is known.
     pub fn enter<R: Wait>(&self, rt: &R, viewing: Viewing) {
-        let mut rows = self.rows.lock(rt);
-        if rows.by_number.contains_key(&viewing.session) {
-            return;
-        }
-        let counts = SessionCounts::new(viewing.digits());
-        let Ok(counts) = Arc::new(self.alloc, counts) else {
-            return;
-        };
-        if rows.insert(viewing, counts).is_ok()
-            && let Some(film) = self.films.of(viewing.film, viewing.transport)
+        if self.note(rt, viewing)
+            && let Some(film) = self.film_of(&viewing)
         {
             film.enter();
         }
@@ -128,10 +173,7 @@ impl Audience {
     /// A session has ended. What was sent to it by now, where it was known.
     pub fn leave<R: Wait>(&self, rt: &R, session: u64) -> Option<Viewer> {
         let viewer = self.rows.lock(rt).remove(session)?;
-        let Viewing {
-            film, transport, ..
-        } = viewer.viewing;
-        if let Some(film) = self.films.of(film, transport) {
+        if let Some(film) = self.film_of(&viewer.viewing) {
             film.leave();
         }
         Some(viewer)
@@ -139,22 +181,21 @@ impl Audience {
 
     /// The session of this number, if it is known.
     pub fn viewing<R: Wait>(&self, rt: &R, session: u64) -> Option<Viewing> {
-        Some(self.rows.lock(rt).by_number.get(&session)?.viewing)
+        self.rows.lock(rt).viewing(session)
     }
 
     /// The number of the session of this id, if it is known.
     pub fn number_of<R: Wait>(&self, rt: &R, id: u128) -> Option<u64> {
-        self.rows.lock(rt).numbers.get(&id).copied()
+        self.rows.lock(rt).number_of(id)
     }
 
     /// A play of a session begins: where what is sent to it is counted.
     pub fn play<R: Wait>(&self, rt: &R, session: u64) -> Option<Arc<SessionCounts>> {
-        let rows = self.rows.lock(rt);
-        let row = rows.by_number.get(&session)?;
-        if let Some(film) = self.films.of(row.viewing.film, row.viewing.transport) {
+        let viewing = self.viewing(rt, session)?;
+        if let Some(film) = self.film_of(&viewing) {
             film.play();
         }
-        Arc::try_clone(&row.counts).ok()
+        self.rows.lock(rt).counts(session)
     }
 
     /// So many bytes of a presentation were sent.
@@ -166,32 +207,18 @@ impl Audience {
 
     /// The least session of a number that isn't below this one, with what was sent to it.
     pub fn next<R: Wait>(&self, rt: &R, session: u64) -> Option<Viewer> {
-        let rows = self.rows.lock(rt);
-        let (_, row) = rows.by_number.range(session..).next()?;
-        Some(row.viewer())
+        self.rows.lock(rt).next(session)
     }
 
     /// The least session of a number that isn't below this one, of those that were begun on a connection.
     pub fn next_of<R: Wait>(&self, rt: &R, conn: u64, session: u64) -> Option<Viewing> {
-        let rows = self.rows.lock(rt);
-        for (_, row) in rows.by_number.range(session..) {
-            if row.viewing.conn == conn {
-                return Some(row.viewing);
-            }
-        }
-        None
+        self.rows.lock(rt).next_of(conn, session)
     }
 
     /// Notes whether a session was seen to live. Whether it is the second time in a row that it wasn't:
     /// whoever ended it had the time to tell.
     pub fn note_living<R: Wait>(&self, rt: &R, session: u64, lives: bool) -> bool {
-        let mut rows = self.rows.lock(rt);
-        let Some(row) = rows.by_number.get_mut(&session) else {
-            return false;
-        };
-        let was_missing = row.is_missing;
-        row.is_missing = !lives;
-        was_missing && !lives
+        self.rows.lock(rt).note_living(session, lives)
     }
 
     /// What was played of a presentation over a transport.

@@ -19,6 +19,7 @@ mod page;
 mod rows;
 mod session_counts;
 mod snapshot;
+mod viewer_text;
 
 pub use answer_counters::AnswerCounters;
 pub use audience::{Audience, Viewer, Viewing};

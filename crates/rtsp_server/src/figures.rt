@@ -244,7 +244,7 @@ impl<R: Wait + Net + rt::Clock> Source for Figures<'_, R> {
         standing(self.rt, self.shared, self.book().rate)
     }
 
-    fn sessions(&mut self, alloc: Global) -> Result<Vec<u8>, AllocError> {
+    fn sessions(&self, alloc: Global) -> Result<Vec<u8>, AllocError> {
         sessions_text(self.rt, alloc, self.shared)
     }
 

@@ -4,11 +4,11 @@
 use crate::shared::Shared;
 use rtsp_lock::BookHandle;
 use rtsp_log::EndCause;
-use rtsp_metrics::{Held, Viewer, Viewing};
+use rtsp_metrics::Held;
 use rtsp_status::{Agent, SessionMeant, Standing};
 use rtsp_threads::{HELD_TOLD_AFTER, end_session};
 use std::alloc::{AllocError, Global};
-use std::net::{Ipv4Addr, Net};
+use std::net::Net;
 use std::rt;
 use std::sync::Wait;
 
@@ -22,9 +22,11 @@ fn is_journal_written<R: Wait + rt::Clock>(rt: &R, shared: &Shared) -> bool {
 
 // How much of the uplink is free, in percent.
 fn free_percent(rate: Held) -> u8 {
-    let whole = u128::from(rate.held) + u128::from(rate.free);
-    let percent = (u128::from(rate.free) * 100).checked_div(whole);
-    u8::try_from(percent.unwrap_or(0)).unwrap_or(100)
+    let whole = rate.held.saturating_add(rate.free);
+    match rate.free.saturating_mul(100).checked_div(whole) {
+        Some(percent) => percent.min(100) as u8,
+        None => 0,
+    }
 }
 
 /// How the server stands, of whose uplink so much is held.
@@ -42,36 +44,6 @@ pub(crate) fn standing<R: Wait + rt::Clock>(rt: &R, shared: &Shared, rate: Held)
     }
 }
 
-// A session as an object of JSON. Nothing in it needs an escape: a name of the configuration has letters,
-// digits and few signs.
-fn session_text(
-    alloc: Global,
-    shared: &Shared,
-    now: u64,
-    viewer: &Viewer,
-) -> Result<String, AllocError> {
-    let Viewing {
-        session,
-        peer,
-        conn,
-        film,
-        transport,
-        since,
-        ..
-    } = viewer.viewing;
-    let digits = viewer.viewing.digits();
-    let player = Ipv4Addr::from_bits(peer);
-    let film = str::from_utf8(shared.end_lines.name(film)).unwrap_or("");
-    let over = str::from_utf8(transport.name()).unwrap_or("");
-    let seconds = now.saturating_sub(since) / 1_000;
-    let (sent, lost, late) = (viewer.sums.sent, viewer.sums.lost, viewer.sums.late);
-    format!(in alloc;
-        "{{\"session\":\"{session}:{digits:08x}\",\"number\":{session},\"player\":\"{player}\",\
-\"connection\":{conn},\"presentation\":\"{film}\",\"transport\":\"{over}\",\"seconds\":{seconds},\
-\"packets\":{{\"sent\":{sent},\"lost\":{lost},\"late\":{late}}}}}"
-    )
-}
-
 /// The sessions that live, as JSON: an array with an object for each on a line of its own, the least
 /// number first.
 pub(crate) fn sessions_text<R: Wait + rt::Clock>(
@@ -83,13 +55,17 @@ pub(crate) fn sessions_text<R: Wait + rt::Clock>(
     let mut text = Vec::new(alloc);
     let mut from = 0u64;
     text.extend_from_slice(b"[")?;
-    while let Some(viewer) = shared.audience.next(rt, from) {
-        let session = viewer.viewing.session;
-        let before: &[u8] = if from == 0 { b"\n" } else { b",\n" };
-        text.extend_from_slice(before)?;
-        let one = session_text(alloc, shared, now, &viewer)?;
-        text.extend_from_slice(one.as_bytes())?;
-        let Some(next) = session.checked_add(1) else {
+    for _ in rt.forever() {
+        let Some(viewer) = shared.audience.next(rt, from) else {
+            break;
+        };
+        if from > 0 {
+            text.extend_from_slice(b",")?;
+        }
+        text.extend_from_slice(b"\n")?;
+        let film = shared.end_lines.name(viewer.viewing.film);
+        viewer.write_json(&mut text, film, now)?;
+        let Some(next) = viewer.viewing.session.checked_add(1) else {
             break;
         };
         from = next;

@@ -26,7 +26,7 @@ impl Source for SomeFigures {
         }
     }
 
-    fn sessions(&mut self, alloc: Global) -> Result<Vec<u8>, AllocError> {
+    fn sessions(&self, alloc: Global) -> Result<Vec<u8>, AllocError> {
         let mut text = Vec::new(alloc);
         text.extend_from_slice(b"[]\n")?;
         Ok(text)

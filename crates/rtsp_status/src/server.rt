@@ -35,7 +35,7 @@ pub trait Source {
     fn standing(&mut self) -> Standing;
 
     /// Who watches what, as JSON.
-    fn sessions(&mut self, alloc: Global) -> Result<Vec<u8>, AllocError>;
+    fn sessions(&self, alloc: Global) -> Result<Vec<u8>, AllocError>;
 
     /// No more connections are to be let in, and the server ends once nothing plays any more.
     fn drain(&mut self);
