@@ -12,10 +12,13 @@ mod counter;
 mod counters;
 mod families;
 mod figures;
+mod film_section;
 mod films;
+mod further;
 mod kinds;
 mod media_failures;
 mod page;
+mod plain;
 mod rows;
 mod session_counts;
 mod snapshot;
@@ -25,9 +28,12 @@ pub use answer_counters::AnswerCounters;
 pub use audience::{Audience, Viewer, Viewing};
 pub use counters::Counters;
 pub use figures::metrics_text;
+pub use film_section::film_section;
 pub use films::{FilmFigures, Transport};
+pub use further::{FilmLine, Further, ProcessFigures, WritingFigures, further_text};
 pub use kinds::{Method, Outcome, Refusal};
 pub use page::{PAGE_HEAD, page_text};
+pub use plain::plain_text;
 pub use session_counts::{LATE_MS, SessionCounts, SessionSums};
 pub use snapshot::{
     BookFigures, ByMethod, ByOutcome, Connections, Counts, Held, Lateness, Packets, Refusals,

@@ -1,6 +1,7 @@
 //! What is counted and shown of a server, for whoever runs it.
 
 use crate::channels::Channels;
+use crate::further::further;
 use crate::naming::{named, viewing_of};
 use crate::operating::{end_by_operator, sessions_text, standing};
 use crate::service::Service;
@@ -12,7 +13,8 @@ use rtsp_log::{Access, EndCause, Event, moment};
 use rtsp_metrics::{BookFigures, Counts, Held, Method, Snapshot};
 use rtsp_record::Entry;
 use rtsp_sockets::RunningClock;
-use rtsp_status::{SessionMeant, Source, Standing};
+use rtsp_status::{Further, SessionMeant, Source, Standing};
+use rtsp_threads::OwnUsage;
 use rtsp_watch::{Told, Witness};
 use std::alloc::{AllocError, Global};
 use std::cell::Cell;
@@ -181,6 +183,8 @@ pub(crate) struct Figures<'a, R> {
     pub(crate) shared: &'a Shared,
     pub(crate) table: &'a Table,
     pub(crate) handle: BookHandle,
+    /// What the system says of the process, where it does.
+    pub(crate) usage: Option<OwnUsage>,
     /// No entry: nothing is handed out to it.
     pub(crate) nothing: Vec<Entry>,
 }
@@ -238,6 +242,10 @@ impl<R: Wait + Net + rt::Clock> Source for Figures<'_, R> {
             book: self.book(),
             counts: self.counts(),
         }
+    }
+
+    fn further(&mut self, alloc: Global) -> Result<Further, AllocError> {
+        further(self.rt, alloc, self.shared, self.usage.as_ref())
     }
 
     fn standing(&mut self) -> Standing {

@@ -12,8 +12,8 @@ use std::net::Net;
 use std::rt;
 use std::sync::Wait;
 
-// Whether the journal is written, where it is to be.
-fn is_journal_written<R: Wait + rt::Clock>(rt: &R, shared: &Shared) -> bool {
+/// Whether the journal is written, where it is to be.
+pub(crate) fn is_journal_written<R: Wait + rt::Clock>(rt: &R, shared: &Shared) -> bool {
     match &shared.scribe {
         Some(bell) => !bell.is_stuck() && !bell.is_held_for(rt, HELD_TOLD_AFTER),
         None => true,

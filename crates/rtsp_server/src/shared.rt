@@ -9,7 +9,7 @@ use crate::unread::HELD_IN_ALL;
 use mio::net::TcpListener;
 use rtsp_content::{Operation, Server, Table};
 use rtsp_lock::BookHandle;
-use rtsp_log::{BATCH_LINES, Event, Log};
+use rtsp_log::{BATCH_LINES, Event, Log, moment};
 use rtsp_metrics::{Audience, Counters};
 use rtsp_pacing::Bells;
 use rtsp_shares::{ShareTable, Watermark};
@@ -67,8 +67,9 @@ pub(crate) struct Shared {
     /// What is told to whoever runs the server.
     pub(crate) log: Log,
     pub(crate) end_lines: EndLines,
-    /// From when on moments are counted.
+    /// From when on moments are counted, and when that was, in milliseconds since 1970.
     pub(crate) begun: Instant,
+    pub(crate) started: u64,
     /// How far the lanes have read, so that connections which were silent up to then are over.
     pub(crate) watermark: Mutex<Watermark>,
     pub(crate) ends: EndNote,
@@ -96,6 +97,7 @@ impl Drop for Shared {
             log: _log,
             end_lines: _end_lines,
             begun: _,
+            started: _,
             watermark: _watermark,
             ends: _ends,
             draining: _draining,
@@ -172,6 +174,7 @@ impl Shared {
             log,
             end_lines,
             begun,
+            started: moment(rt),
             watermark: Mutex::new(watermark),
             ends: EndNote::new(),
             draining: Draining::new(of.operation.drain()),

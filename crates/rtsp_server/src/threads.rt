@@ -14,7 +14,7 @@ use rtsp_pacing::{PacerParts, PacerPlays, pace};
 use rtsp_sockets::{Media, Reader};
 use rtsp_status::StatusServer;
 use rtsp_threads::{
-    OwnStatus, PoolEnd, STANDING_LIMIT, STOP_TOLD_AFTER, Scribe, StopBell, end_expired, run_pool,
+    OwnStatus, OwnUsage, PoolEnd, STANDING_LIMIT, STOP_TOLD_AFTER, Scribe, StopBell, end_expired, run_pool,
 };
 use std::alloc::Global;
 use std::fs::File;
@@ -81,6 +81,7 @@ impl Drop for Start {
 pub(crate) struct Beside {
     pub(crate) signals: Option<OwnStatus>,
     pub(crate) status: Option<StatusServer>,
+    pub(crate) usage: Option<OwnUsage>,
     pub(crate) handle: BookHandle,
     // The handle of the book that is left at the end.
     pub(crate) last: BookHandle,
@@ -101,6 +102,7 @@ fn show<R: Wait + Net + rt::Clock>(
     table: &Table,
     shared: &Shared,
     status: Option<StatusServer>,
+    usage: Option<OwnUsage>,
     handle: BookHandle,
 ) {
     if let Some(mut status) = status {
@@ -109,6 +111,7 @@ fn show<R: Wait + Net + rt::Clock>(
             shared,
             table,
             handle,
+            usage,
             nothing: Vec::new(alloc),
         };
         status.run(rt, &mut figures, &shared.halt);
@@ -287,13 +290,14 @@ impl Parts {
             let Beside {
                 signals,
                 status,
+                usage,
                 handle,
                 mut last,
             } = beside;
             let (table, shared) = (&self.table, &*self.shared);
             let watches = scope.spawn(move || self.watch(rt, signals)).is_ok();
             let shows = scope
-                .spawn(move || show(rt, alloc, table, shared, status, handle))
+                .spawn(move || show(rt, alloc, table, shared, status, usage, handle))
                 .is_ok();
             if !(watches && shows) {
                 self.stop_for_want_of_threads(rt);

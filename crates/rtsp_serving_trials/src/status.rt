@@ -3,7 +3,7 @@
 use crate::figures::snapshot;
 use crate::parts::contains;
 use rtsp_metrics::Snapshot;
-use rtsp_status::{Agent, Halt, SessionMeant, Source, Standing, StatusServer};
+use rtsp_status::{Agent, Further, Halt, SessionMeant, Source, Standing, StatusServer};
 use std::alloc::{AllocError, Global};
 use std::io::{self, Read, Write};
 use std::net::{Ipv4Addr, Net, SocketAddr, SocketAddrV4, TcpStream};
@@ -17,6 +17,15 @@ struct SomeFigures;
 impl Source for SomeFigures {
     fn snapshot(&mut self) -> Snapshot {
         snapshot()
+    }
+
+    fn further(&mut self, alloc: Global) -> Result<Further, AllocError> {
+        let mut lines = Vec::new(alloc);
+        lines.extend_from_slice(b"# TYPE more counter\n# HELP more Of it.\nmore_total 1\n")?;
+        Ok(Further {
+            lines,
+            section: Vec::new(alloc),
+        })
     }
 
     fn standing(&mut self) -> Standing {
@@ -60,6 +69,8 @@ const ASKED: &str = "\
     GET / HTTP/1.1 -> HTTP/1.1 200 OK\r\n..<tr><th>Sessions<td><td class=n>3\n|\
     HEAD / HTTP/1.1 -> HTTP/1.1 200 OK\r\n..\r\n\r\n|\
     GET /x HTTP/1.1 -> HTTP/1.1 404 ..\r\n\r\n|\
+    GET /metrics HTTP/1.1 -> HTTP/1.1 200 OK\r\n..\nmore_total 1\n# EOF\n|\
+    GET /metrics HTTP/1.1\r\nAccept: text/plain -> HTTP/1.1 200 OK\r\n..# TYPE more_total counter\n# HELP more_total Of it.\nmore_total 1\n|\
     GET /healthz HTTP/1.1 -> HTTP/1.1 200 OK\r\n..\r\n\r\nok\n|\
     GET /ready HTTP/1.1 -> HTTP/1.1 200 OK\r\n..\r\n\r\nready\n|\
     OPTIONS / HTTP/1.1 -> HTTP/1.1 200 OK\r\n..\r\n\r\nready\n|\

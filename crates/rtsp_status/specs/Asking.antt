@@ -23,6 +23,7 @@ IsNothing path =
 -- a request of this method for this path, from there, asks for this
 abbrev pub Asks : List ℕ → List ℕ → Nearness → Bool → Asked → Type 0
 Asks method path near open asks.Metrics = IsLook method × (path ≡ codes "/metrics")
+Asks method path near open asks.Plain = IsLook method × (path ≡ codes "/metrics")
 Asks method path near open asks.Page = IsLook method × (path ≡ codes "/")
 Asks method path near open asks.Health = IsLook method × (path ≡ codes "/healthz")
 Asks method path near open asks.Ready = (IsLook method × (path ≡ codes "/ready")) ⊎ (method ≡ codes "OPTIONS")
@@ -46,6 +47,7 @@ IsCode shown other n = n ≡ 200
 -- what each answer has of what is shown: that of the sessions is the source's
 abbrev pub IsBody : Shown → Asked → List ℕ → Type 0
 IsBody shown asks.Metrics text = text ≡ shown.metrics.items
+IsBody shown asks.Plain text = text ≡ shown.plain.items
 IsBody shown asks.Page text = text ≡ shown.page.items
 IsBody shown asks.Health text = text ≡ codes "ok\n"
 IsBody shown asks.Ready text = text ≡ (if shown.is_ready then codes "ready\n" else codes "not ready\n")

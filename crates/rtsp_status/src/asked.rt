@@ -23,6 +23,8 @@ pub enum Nearness {
 #[derive(Clone, Copy, PartialEq, Eq)]
 pub(crate) enum Asked {
     Metrics,
+    // The same in the older format.
+    Plain,
     Page,
     Health,
     Ready,

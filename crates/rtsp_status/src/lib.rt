@@ -24,5 +24,5 @@ pub use halt::Halt;
 pub use limits::{HEAD, LIFE, PEERS};
 pub use server::{Source, StatusServer};
 pub use service::StatusService;
-pub use shown::Shown;
+pub use shown::{Further, Shown};
 pub use standing::{Agent, Standing};

@@ -5,7 +5,7 @@ use crate::limits::{HEAD, LIFE, PEERS};
 use crate::asked::SessionMeant;
 use crate::peer::{Peer, nearness_of};
 use crate::service::StatusService;
-use crate::shown::Shown;
+use crate::shown::{Further, Shown};
 use crate::standing::Standing;
 use crate::watch::{EVENTS, Watch};
 use http_server::{Config, Connection};
@@ -31,6 +31,9 @@ const LOOK: u64 = 250;
 /// Whoever tells what there is to show, and does what is asked for.
 pub trait Source {
     fn snapshot(&mut self) -> Snapshot;
+
+    /// What is shown beside it.
+    fn further(&mut self, alloc: Global) -> Result<Further, AllocError>;
 
     fn standing(&mut self) -> Standing;
 
@@ -217,14 +220,21 @@ impl StatusServer {
         self.sweep(now);
     }
 
+    // Shows what there is now.
+    fn look<S: Source>(&self, source: &mut S, shown: &mut Shown) {
+        let snapshot = source.snapshot();
+        if let Ok(further) = source.further(self.alloc)
+            && let Ok(fresh) = Shown::of(self.alloc, &snapshot, &further, source.standing())
+        {
+            *shown = fresh;
+        }
+    }
+
     // One wait and what comes of it. The snapshot is taken before any request is answered from it;
     // where there is no memory for its texts, what was shown last is shown again.
     fn serve_once<S: Source>(&mut self, source: &mut S, shown: &mut Shown, now: u64) {
         if !self.watch.is_quiet() {
-            let snapshot = source.snapshot();
-            if let Ok(fresh) = Shown::of(self.alloc, &snapshot, source.standing()) {
-                *shown = fresh;
-            }
+            self.look(source, shown);
         }
         self.turn(source, shown, now);
     }

@@ -30,9 +30,26 @@ const PLAIN: &str = "text/plain; charset=utf-8";
 
 const OPEN_METRICS: &str = "application/openmetrics-text; version=1.0.0; charset=utf-8";
 
+const PLAIN_METRICS: &str = "text/plain; version=0.0.4; charset=utf-8";
+
 const HTML: &str = "text/html; charset=utf-8";
 
 const JSON: &str = "application/json";
+
+// Whether the text format is asked for, and OpenMetrics isn't.
+fn wants_plain(request: &Request<Bytes>) -> bool {
+    let name = HeaderName::from_static("accept");
+    let Some(value) = request.headers().get(&name) else {
+        return false;
+    };
+    let accepted = value.as_bytes();
+    memmem(accepted, b"text/plain") && !memmem(accepted, b"openmetrics")
+}
+
+// Whether a text has a part.
+fn memmem(text: &[u8], part: &[u8]) -> bool {
+    text.windows(part.len()).any(|window| window == part)
+}
 
 // Adds the headers of a text of this kind, which no cache is to keep.
 fn describe(response: &mut Response, kind: HeaderValue) -> Result<(), AllocError>
@@ -100,6 +117,7 @@ fn fill(response: &mut Response, asked: Asked, shown: &Shown) -> Result<(), Allo
         Asked::Metrics => {
             write_text(response, HeaderValue::from_static(OPEN_METRICS), &shown.metrics)
         }
+        Asked::Plain => write_text(response, HeaderValue::from_static(PLAIN_METRICS), &shown.plain),
         Asked::Page => write_text(response, HeaderValue::from_static(HTML), &shown.page),
         Asked::Health => write_text(response, HeaderValue::from_static(PLAIN), b"ok\n"),
         Asked::Ready => write_ready(response, shown),
@@ -155,7 +173,10 @@ impl<S: Source> Service for StatusService<'_, S> {
         response: &mut Response,
     ) -> Result<(), AllocError> {
         let (method, path) = (request.method().as_str(), request.uri().path());
-        let asked = asked_by(method, path, self.nearness, self.is_open);
+        let asked = match asked_by(method, path, self.nearness, self.is_open) {
+            Asked::Metrics if wants_plain(request) => Asked::Plain,
+            asked => asked,
+        };
         fill(response, asked, self.shown)?;
         self.act(asked, response)
     }

@@ -21,6 +21,7 @@ mod lane_shares;
 mod leaving;
 mod limits;
 mod pool;
+mod process;
 mod relieving;
 mod room_looks;
 mod room_wait;
@@ -45,6 +46,7 @@ pub use limits::{
     TURN_EVERY, TURN_TIME, VISIT_TIME,
 };
 pub use pool::{Lane, LaneTurn, PoolEnd, run_pool};
+pub use process::{OwnUsage, Usage};
 pub use relieving::{ask_for_room, make_room};
 pub use room_looks::RoomLooks;
 pub use room_wait::RoomWait;
