@@ -134,9 +134,9 @@ late_buckets n =
     labelled (codes "_bucket{le=\"0.04\"}") (early n + n.within_20_ms + n.within_40_ms) ∷
     labelled (codes "_bucket{le=\"0.1\"}") (early n + n.within_20_ms + n.within_40_ms + n.within_100_ms) ∷
     labelled (codes "_bucket{le=\"0.4\"}") (soon n) ∷
-    labelled (codes "_bucket{le=\"1\"}") (soon n + n.within_1_s) ∷
-    labelled (codes "_bucket{le=\"4\"}") (soon n + n.within_1_s + n.within_4_s) ∷
-    labelled (codes "_bucket{le=\"10\"}") (soon n + n.within_1_s + n.within_4_s + n.within_10_s) ∷
+    labelled (codes "_bucket{le=\"1.0\"}") (soon n + n.within_1_s) ∷
+    labelled (codes "_bucket{le=\"4.0\"}") (soon n + n.within_1_s + n.within_4_s) ∷
+    labelled (codes "_bucket{le=\"10.0\"}") (soon n + n.within_1_s + n.within_4_s + n.within_10_s) ∷
     labelled (codes "_bucket{le=\"+Inf\"}") (all_packets n) ∷
     labelled (codes "_count") (all_packets n) ∷ []
 

@@ -84,8 +84,8 @@ rtspd_refusals_total{reason=\"unavailable\"} 2
 rtspd_packet_lateness_seconds_bucket{le=\"0.005\"} 1234567
 rtspd_packet_lateness_seconds_bucket{le=\"0.01\"} 1234570
 ..
-rtspd_packet_lateness_seconds_bucket{le=\"4\"} 1234570
-rtspd_packet_lateness_seconds_bucket{le=\"10\"} 1234571
+rtspd_packet_lateness_seconds_bucket{le=\"4.0\"} 1234570
+rtspd_packet_lateness_seconds_bucket{le=\"10.0\"} 1234571
 rtspd_packet_lateness_seconds_bucket{le=\"+Inf\"} 1234571
 rtspd_packet_lateness_seconds_count 1234571
 rtspd_packet_lateness_seconds_sum 1244.587

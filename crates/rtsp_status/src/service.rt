@@ -36,19 +36,27 @@ const HTML: &str = "text/html; charset=utf-8";
 
 const JSON: &str = "application/json";
 
-// Whether the text format is asked for, and OpenMetrics isn't.
-fn wants_plain(request: &Request<Bytes>) -> bool {
-    let name = HeaderName::from_static("accept");
-    let Some(value) = request.headers().get(&name) else {
-        return false;
-    };
-    let accepted = value.as_bytes();
-    memmem(accepted, b"text/plain") && !memmem(accepted, b"openmetrics")
+// Whether the text format is among what is accepted, and OpenMetrics isn't.
+fn prefers_plain(accepted: &str) -> bool {
+    let mut has_plain = false;
+    for kind in accepted.split(',') {
+        let kind = kind.trim();
+        if kind.starts_with("application/openmetrics-text") {
+            return false;
+        }
+        has_plain = has_plain || kind.starts_with("text/plain");
+    }
+    has_plain
 }
 
-// Whether a text has a part.
-fn memmem(text: &[u8], part: &[u8]) -> bool {
-    text.windows(part.len()).any(|window| window == part)
+fn wants_plain(request: &Request<Bytes>) -> bool {
+    match request.headers().get("accept") {
+        Some(value) => match value.to_str() {
+            Ok(accepted) => prefers_plain(accepted),
+            Err(_) => false,
+        },
+        None => false,
+    }
 }
 
 // Adds the headers of a text of this kind, which no cache is to keep.
