@@ -158,7 +158,10 @@ impl Audience {
             return false;
         };
         let mut rows = self.rows.lock(rt);
-        !rows.has(viewing.session) && rows.insert(viewing, counts).is_ok()
+        if rows.has(viewing.session) {
+            return false;
+        }
+        rows.insert(viewing, counts).is_ok()
     }
 
     /// A track was set up in a session. Nothing is done where the session is known.

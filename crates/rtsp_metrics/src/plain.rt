@@ -1,18 +1,12 @@
 //! The text format of Prometheus (0.0.4), for readers that don't know OpenMetrics.
 
-use rtsp_text::append_all;
+use rtsp_text::{append_all, split_once};
 use std::alloc::{AllocError, Global};
 
 // How lines of OpenMetrics begin.
 const TYPE: &[u8] = b"# TYPE ";
 
 const HELP: &[u8] = b"# HELP ";
-
-// The name at the beginning of a text, and what stands behind it and a blank.
-fn name_of(text: &[u8]) -> Option<(&[u8], &[u8])> {
-    let at = text.iter().position(|byte| *byte == b' ')?;
-    Some((text.get(..at)?, text.get(at + 1..)?))
-}
 
 // Writes a line on a family, which is named as its figures are.
 fn write_on_family(
@@ -21,7 +15,7 @@ fn write_on_family(
     rest: &[u8],
     is_counter: bool,
 ) -> Result<(), AllocError> {
-    let (name, told) = name_of(rest).unwrap_or((rest, b""));
+    let (name, told) = split_once(rest, b' ').unwrap_or((rest, b""));
     let end: &[u8] = if is_counter { b"_total " } else { b" " };
     append_all(out, &[begin, name, end, told])
 }

@@ -102,36 +102,10 @@ impl<'a, R: rt::Clock> AnswerCounter<'a, R> {
     }
 }
 
-impl<R: Wait + rt::Clock> Witness for AnswerCounter<'_, R> {
-    fn asked(&self, method: &[u8]) {
-        if is_counting(Method::of(method)) {
-            let Service { rt, shared, .. } = self.service;
-            let mut clock = RunningClock::new(rt, shared.begun);
-            self.service.decisions().begin(&mut clock);
-        }
-    }
-
-    fn heard(&self, channel: u8) {
-        self.heard.set(self.heard.get().with(channel));
-    }
-
-    fn answered(&self, told: &Told<'_>) {
-        let method = Method::of(told.method);
-        let Service {
-            rt,
-            shared,
-            answers,
-            lines,
-            recorded,
-            ..
-        } = self.service;
-        answers.answered(method, told.status);
-        if is_counting(method) {
-            self.end_decision();
-        }
-        if !matches!(method, Method::Options | Method::Describe) || told.session().is_some() {
-            recorded.note();
-        }
+impl<R: Wait + rt::Clock> AnswerCounter<'_, R> {
+    // Notes which session was begun or has ended.
+    fn note_session(&self, method: Method, told: &Told<'_>) {
+        let Service { rt, shared, .. } = self.service;
         if method == Method::Teardown {
             shared.ends.note();
         }
@@ -144,9 +118,13 @@ impl<R: Wait + rt::Clock> Witness for AnswerCounter<'_, R> {
         if method == Method::Setup && may_have_opened(told.status) {
             self.setups.set(self.setups.get().saturating_add(1));
         }
-        if told.status == UNAVAILABLE {
-            self.is_unavailable.set(true);
-        }
+    }
+
+    // Tells the log of the answer, and of the session that has ended.
+    fn tell(&self, told: &Told<'_>) {
+        let Service {
+            rt, shared, lines, ..
+        } = self.service;
         let log = &shared.log;
         if told.status == OUT_OF_MEMORY {
             log.event(rt, Event::OutOfMemory);
@@ -165,6 +143,39 @@ impl<R: Wait + rt::Clock> Witness for AnswerCounter<'_, R> {
         if let Some(life) = told.ended {
             shared.tell_ended(rt, life.session, EndCause::Teardown);
         }
+    }
+}
+
+impl<R: Wait + rt::Clock> Witness for AnswerCounter<'_, R> {
+    fn asked(&self, method: &[u8]) {
+        if is_counting(Method::of(method)) {
+            let Service { rt, shared, .. } = self.service;
+            let mut clock = RunningClock::new(rt, shared.begun);
+            self.service.decisions().begin(&mut clock);
+        }
+    }
+
+    fn heard(&self, channel: u8) {
+        self.heard.set(self.heard.get().with(channel));
+    }
+
+    fn answered(&self, told: &Told<'_>) {
+        let method = Method::of(told.method);
+        let Service {
+            answers, recorded, ..
+        } = self.service;
+        answers.answered(method, told.status);
+        if is_counting(method) {
+            self.end_decision();
+        }
+        if !matches!(method, Method::Options | Method::Describe) || told.session().is_some() {
+            recorded.note();
+        }
+        self.note_session(method, told);
+        if told.status == UNAVAILABLE {
+            self.is_unavailable.set(true);
+        }
+        self.tell(told);
     }
 }
 
