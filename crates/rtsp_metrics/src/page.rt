@@ -45,7 +45,11 @@ fn server_section(alloc: Global, of: &Snapshot) -> Result<Vec<u8>, AllocError>
             Row::Held(b"Pairs of ports", book.pairs),
             Row::Held(b"Ports", book.ports),
             Row::Bar(b"Journal, used", u128::from(book.entries), journal(book)),
-            Row::Bar(b"Journal, kept for ends", u128::from(book.owed), journal(book)),
+            Row::Bar(
+                b"Journal, kept for ends",
+                u128::from(book.owed),
+                journal(book),
+            ),
             Row::Held(b"Connections", of.connections),
         ],
     )

@@ -123,7 +123,10 @@ impl<R: Wait + rt::Clock> AnswerCounter<'_, R> {
     // Tells the log of the answer, and of the session that has ended.
     fn tell(&self, told: &Told<'_>) {
         let Service {
-            rt, shared, lines, ..
+            rt,
+            shared,
+            lines,
+            ..
         } = self.service;
         let log = &shared.log;
         if told.status == OUT_OF_MEMORY {
@@ -162,7 +165,9 @@ impl<R: Wait + rt::Clock> Witness for AnswerCounter<'_, R> {
     fn answered(&self, told: &Told<'_>) {
         let method = Method::of(told.method);
         let Service {
-            answers, recorded, ..
+            answers,
+            recorded,
+            ..
         } = self.service;
         answers.answered(method, told.status);
         if is_counting(method) {

@@ -32,8 +32,7 @@ fn free_percent(rate: Held) -> u8 {
 /// How the server stands, of whose uplink so much is held.
 pub(crate) fn standing<R: Wait + rt::Clock>(rt: &R, shared: &Shared, rate: Held) -> Standing {
     let is_ending = shared.draining.is_begun() || shared.lanes.stop_by().is_some();
-    let is_ready =
-        !is_ending && shared.lanes.standing() > 0 && is_journal_written(rt, shared);
+    let is_ready = !is_ending && shared.lanes.standing() > 0 && is_journal_written(rt, shared);
     Standing {
         is_ready,
         agent: if is_ready {

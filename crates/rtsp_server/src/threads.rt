@@ -14,7 +14,8 @@ use rtsp_pacing::{PacerParts, PacerPlays, pace};
 use rtsp_sockets::{Media, Reader};
 use rtsp_status::StatusServer;
 use rtsp_threads::{
-    OwnStatus, OwnUsage, PoolEnd, STANDING_LIMIT, STOP_TOLD_AFTER, Scribe, StopBell, end_expired, run_pool,
+    OwnStatus, OwnUsage, PoolEnd, STANDING_LIMIT, STOP_TOLD_AFTER, Scribe, StopBell, end_expired,
+    run_pool,
 };
 use std::alloc::Global;
 use std::fs::File;

@@ -22,18 +22,18 @@ IsNothing path =
 
 -- a request of this method for this path, from there, asks for this
 abbrev pub Asks : List ℕ → List ℕ → Nearness → Bool → Asked → Type 0
-Asks method path near open asks.Metrics = IsLook method × (path ≡ codes "/metrics")
-Asks method path near open asks.Plain = IsLook method × (path ≡ codes "/metrics")
-Asks method path near open asks.Page = IsLook method × (path ≡ codes "/")
-Asks method path near open asks.Health = IsLook method × (path ≡ codes "/healthz")
-Asks method path near open asks.Ready = (IsLook method × (path ≡ codes "/ready")) ⊎ (method ≡ codes "OPTIONS")
-Asks method path near open asks.Agent = IsLook method × (path ≡ codes "/agent")
-Asks method path near open asks.Sessions = IsLook method × (path ≡ codes "/sessions") × MayLook near open
-Asks method path near open asks.Drain = (method ≡ codes "POST") × (path ≡ codes "/drain") × (near ≡ Loopback)
-Asks method path near open (asks.End session) = (method ≡ codes "POST") × (near ≡ Loopback)
-Asks method path near open asks.Forbidden = near ≡ Elsewhere
-Asks method path near open asks.Nothing = IsLook method × IsNothing path
-Asks method path near open asks.NotAllowed = ¬ IsLook method
+Asks method path near is_open asks.Metrics = IsLook method × (path ≡ codes "/metrics")
+Asks method path near is_open asks.Plain = IsLook method × (path ≡ codes "/metrics")
+Asks method path near is_open asks.Page = IsLook method × (path ≡ codes "/")
+Asks method path near is_open asks.Health = IsLook method × (path ≡ codes "/healthz")
+Asks method path near is_open asks.Ready = (IsLook method × (path ≡ codes "/ready")) ⊎ (method ≡ codes "OPTIONS")
+Asks method path near is_open asks.Agent = IsLook method × (path ≡ codes "/agent")
+Asks method path near is_open asks.Sessions = IsLook method × (path ≡ codes "/sessions") × MayLook near is_open
+Asks method path near is_open asks.Drain = (method ≡ codes "POST") × (path ≡ codes "/drain") × (near ≡ Loopback)
+Asks method path near is_open (asks.End session) = (method ≡ codes "POST") × (near ≡ Loopback)
+Asks method path near is_open asks.Forbidden = near ≡ Elsewhere
+Asks method path near is_open asks.Nothing = IsLook method × IsNothing path
+Asks method path near is_open asks.NotAllowed = ¬ IsLook method
 
 -- the status of each answer: of the end of a session whether there was one
 abbrev pub IsCode : Shown → Asked → ℕ → Type 0
@@ -60,8 +60,8 @@ abbrev pub Fills : Shown → Asked → Response → Type 0
 Fills shown asked r = IsCode shown asked r.status × IsBody shown asked r.body.items
 
 -- The answer to a request of this method for this path, from there, where this is shown.
-pub record Answers (shown : Shown) (near : Nearness) (open : Bool) (method path : List ℕ) (r : Response) : Type 0 where
+pub record Answers (shown : Shown) (near : Nearness) (is_open : Bool) (method path : List ℕ) (r : Response) : Type 0 where
   pub asked : Asked
-  pub asks : Asks method path near open asked
+  pub asks : Asks method path near is_open asked
   pub status : IsCode shown asked r.status
   pub body : IsBody shown asked r.body.items

@@ -1,8 +1,8 @@
 //! The thread that serves.
 
+use crate::asked::SessionMeant;
 use crate::halt::Halt;
 use crate::limits::{HEAD, LIFE, PEERS};
-use crate::asked::SessionMeant;
 use crate::peer::{Peer, nearness_of};
 use crate::service::StatusService;
 use crate::shown::{Further, Shown};

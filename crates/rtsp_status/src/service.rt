@@ -123,9 +123,17 @@ fn fill(response: &mut Response, asked: Asked, shown: &Shown) -> Result<(), Allo
     say_close(response)?;
     match asked {
         Asked::Metrics => {
-            write_text(response, HeaderValue::from_static(OPEN_METRICS), &shown.metrics)
+            write_text(
+                response,
+                HeaderValue::from_static(OPEN_METRICS),
+                &shown.metrics,
+            )
         }
-        Asked::Plain => write_text(response, HeaderValue::from_static(PLAIN_METRICS), &shown.plain),
+        Asked::Plain => write_text(
+            response,
+            HeaderValue::from_static(PLAIN_METRICS),
+            &shown.plain,
+        ),
         Asked::Page => write_text(response, HeaderValue::from_static(HTML), &shown.page),
         Asked::Health => write_text(response, HeaderValue::from_static(PLAIN), b"ok\n"),
         Asked::Ready => write_ready(response, shown),
