@@ -23,7 +23,7 @@ fn write_film(out: &mut Vec<u8>, film: &FilmLine<'_>) -> Result<(), AllocError> 
     write_cell(out, udp.plays.saturating_add(tcp.plays))?;
     write_cell(out, udp.bytes / MEGABYTE)?;
     write_cell(out, tcp.bytes / MEGABYTE)?;
-    append_all(out, &[b"\n"])
+    out.extend_from_slice(b"\n")
 }
 
 /// What is watched of each presentation, as a section of the page.
@@ -33,6 +33,6 @@ pub fn film_section(alloc: Global, films: &[FilmLine<'_>]) -> Result<Vec<u8>, Al
     for film in films {
         write_film(&mut text, film)?;
     }
-    append_all(&mut text, &[b"</table>\n"])?;
+    text.extend_from_slice(b"</table>\n")?;
     Ok(text)
 }

@@ -91,28 +91,18 @@ fn write_writing(out: &mut Vec<u8>, of: &WritingFigures) -> Result<(), AllocErro
 }
 
 // A count of a presentation over a transport.
-fn write_film(
+fn write_film<'a>(
     out: &mut Vec<u8>,
-    figure: &[u8],
-    film: &[u8],
+    figure: &'a [u8],
+    film: &'a [u8],
     over: Transport,
     count: u64,
 ) -> Result<(), AllocError> {
+    append_all(out, &[figure, b"{presentation=\"", film])?;
+    append_all(out, &[b"\",transport=\"", over.name(), b"\"} "])?;
     let mut digits = Buffer::new();
     let digits = digits.format(count);
-    append_all(
-        out,
-        &[
-            figure,
-            b"{presentation=\"",
-            film,
-            b"\",transport=\"",
-            over.name(),
-            b"\"} ",
-            digits.as_bytes(),
-            b"\n",
-        ],
-    )
+    append_all(out, &[digits.as_bytes(), b"\n"])
 }
 
 fn write_sessions(out: &mut Vec<u8>, films: &[FilmLine<'_>]) -> Result<(), AllocError> {

@@ -32,25 +32,17 @@ impl Viewer {
             ..
         } = self.viewing;
         write_number(out, b"{\"session\":\"", session)?;
-        append_all(out, &[b":"])?;
+        out.extend_from_slice(b":")?;
         write_hex_u32(out, self.viewing.digits())?;
         write_number(out, b"\",\"number\":", session)?;
         write_address(out, peer)?;
         write_number(out, b"\",\"connection\":", conn)?;
-        append_all(
-            out,
-            &[
-                b",\"presentation\":\"",
-                film,
-                b"\",\"transport\":\"",
-                transport.name(),
-                b"\"",
-            ],
-        )?;
+        append_all(out, &[b",\"presentation\":\"", film])?;
+        append_all(out, &[b"\",\"transport\":\"", transport.name(), b"\""])?;
         write_number(out, b",\"seconds\":", now.saturating_sub(since) / 1_000)?;
         write_number(out, b",\"packets\":{\"sent\":", self.sums.sent)?;
         write_number(out, b",\"lost\":", self.sums.lost)?;
         write_number(out, b",\"late\":", self.sums.late)?;
-        append_all(out, &[b"}}"])
+        out.extend_from_slice(b"}}")
     }
 }
