@@ -1,0 +1,5 @@
+pub mod Behind
+pub mod Counting
+pub mod AtDesk
+pub mod Repaired
+pub mod SameVerdict
