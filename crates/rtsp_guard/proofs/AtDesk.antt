@@ -1,5 +1,5 @@
 -- A desk behind a gate.
-use Rattle.std.proofs.Common.{◌≡◌, ℕ, List, [], ◌∷◌, Result, Ok, Err, OnOk, IfErr, refl, sym, ◌∙◌, ap, subst}
+use Rattle.std.proofs.Common.{◌≡◌, ℕ, List, [], ◌∷◌, Result, Ok, Err, OnOk, IfErr, refl, sym, ◌∙◌, ap, subst, inl, inr}
 use Rattle.rtsp_grammar.specs.declared.fault.MessageFault.{MessageFault}
 use Rattle.rtsp_grammar.specs.declared.message.Item.{Item}
 use Rattle.rtsp_grammar.specs.declared.message.Item.TheVariants as items
@@ -16,7 +16,9 @@ use Rattle.rtsp_engine.specs.declared.desk.Desk.{Desk}
 use Rattle.rtsp_engine.proofs.Keeping.{answered_keeps, fault_keeps}
 use Rattle.rtsp_engine.proofs.Parts.{same_parts, same_again}
 use Rattle.rtsp_guard.specs.Guarding.{Kept, turned, AnswersBy, GivesUpBy, AnswersGuarded, GivesUpGuarded}
-use Rattle.rtsp_guard.specs.AtDesk.{NoneIsLetThrough, TakesAtDesk, FaultsAtDesk}
+use Rattle.rtsp_dialect.specs.Repair.{repaired, repaired_item}
+use Rattle.rtsp_dialect.specs.Repairing.{AnswersRepaired, GivesUpRepaired}
+use Rattle.rtsp_guard.specs.AtDesk.{NoneIsLetThrough, TakesAtDesk, FaultsAtDesk, TakesRepairedAtDesk, FaultsRepairedAtDesk}
 use Rattle.rtsp_guard.specs.Quiet.{OnlyCounted, Unchanged, ChangesNothing}
 use Rattle.rtsp_guard.proofs.Counting.{same_gate, after_counted, counted_again, stays_refused}
 
@@ -60,6 +62,28 @@ module _ {R B W C P S : Type 0} (d : Devices B W C P S) where
       → OnOk pushed (TakesAtDesk d bytes rest s t) → IfErr pushed (λ f. FaultsAtDesk d bytes f s t) → Same s.answerer t.answerer
   pushed_same (Ok done) bytes rest s t ok err = answered_keeps Here Up Same (λ s. same_parts s.answerer) (λ s t u h k. same_again s.answerer t.answerer u.answerer h k) here_same lost_same bytes rest s t ok
   pushed_same (Err fault) bytes rest s t ok err = fault_keeps Here Up Same (λ s. same_parts s.answerer) (λ s t u h k. same_again s.answerer t.answerer u.answerer h k) here_same lost_same bytes fault s t err
+
+  -- ---- where each request is repaired first
+
+  abbrev R' : Kept (Desk R B W C P S) → Item → List ℕ → Kept (Desk R B W C P S) → Type 0
+  R' = AnswersRepaired Here Up
+
+  abbrev L' : Kept (Desk R B W C P S) → Item → Kept (Desk R B W C P S) → Type 0
+  L' = GivesUpRepaired Here Up
+
+  repaired_here : (s t : Kept (Desk R B W C P S)) (item : Item) (bytes : List ℕ) → R' s item bytes t → Same s t
+  repaired_here s t item bytes h = here_same s t (repaired_item item) bytes h
+
+  repaired_lost : (s t : Kept (Desk R B W C P S)) (item : Item) → L' s item t → Same s t
+  repaired_lost s t (items.Request request) (inl e) = subst (λ (z : Kept (Desk R B W C P S)). Same z t) e (same_parts t.answerer)
+  repaired_lost s t (items.Request request) (inr h) = lost_same s t (items.Request (repaired request)) h
+  repaired_lost s t (items.Response response) h = lost_same s t (items.Response response) h
+  repaired_lost s t (items.Frame frame) h = lost_same s t (items.Frame frame) h
+
+  pub repaired_same : (pushed : Result (Unit {0}) MessageFault) (bytes rest : List ℕ) (s t : Output (Kept (Desk R B W C P S)))
+      → OnOk pushed (TakesRepairedAtDesk d bytes rest s t) → IfErr pushed (λ f. FaultsRepairedAtDesk d bytes f s t) → Same s.answerer t.answerer
+  repaired_same (Ok done) bytes rest s t ok err = answered_keeps R' L' Same (λ s. same_parts s.answerer) (λ s t u h k. same_again s.answerer t.answerer u.answerer h k) repaired_here repaired_lost bytes rest s t ok
+  repaired_same (Err fault) bytes rest s t ok err = fault_keeps R' L' Same (λ s. same_parts s.answerer) (λ s t u h k. same_again s.answerer t.answerer u.answerer h k) repaired_here repaired_lost bytes fault s t err
 
   -- ---- refused requests
 

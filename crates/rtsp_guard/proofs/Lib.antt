@@ -2,4 +2,5 @@ pub mod Behind
 pub mod Counting
 pub mod AtDesk
 pub mod Repaired
+pub mod Lent
 pub mod SameVerdict

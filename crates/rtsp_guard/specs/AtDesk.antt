@@ -12,7 +12,8 @@ use Rattle.rtsp_traits.specs.Devices.{Devices}
 use Rattle.rtsp_engine.specs.DeskAnswers.{AnswersAt, GivesUpAt}
 use Rattle.rtsp_engine.specs.Served.{Output}
 use Rattle.rtsp_engine.specs.declared.desk.Desk.{Desk}
-use Rattle.rtsp_guard.specs.Guarding.{Kept, TakesGuarded, FaultsGuarded}
+use Rattle.rtsp_dialect.specs.Repairing.{TakesRepaired, FaultsRepaired}
+use Rattle.rtsp_guard.specs.Guarding.{Kept, AnswersGuarded, GivesUpGuarded, TakesGuarded, FaultsGuarded}
 
 -- none of the items is a request that is let through at this gate
 abbrev pub NoneIsLetThrough : Users → Gate → List Item → Type 0
@@ -28,3 +29,10 @@ module _ {R B W C P S : Type 0} (d : Devices B W C P S) where
 
   abbrev pub FaultsAtDesk : List ℕ → MessageFault → Output (Kept (Desk R B W C P S)) → Output (Kept (Desk R B W C P S)) → Type 0
   FaultsAtDesk bytes fault s t = FaultsGuarded (AnswersAt d) (GivesUpAt d) bytes fault s t
+
+  -- the same of the repaired items
+  abbrev pub TakesRepairedAtDesk : List ℕ → List ℕ → Output (Kept (Desk R B W C P S)) → Output (Kept (Desk R B W C P S)) → Type 0
+  TakesRepairedAtDesk bytes rest s t = TakesRepaired (AnswersGuarded (AnswersAt d) (GivesUpAt d)) (GivesUpGuarded (AnswersAt d) (GivesUpAt d)) bytes rest s t
+
+  abbrev pub FaultsRepairedAtDesk : List ℕ → MessageFault → Output (Kept (Desk R B W C P S)) → Output (Kept (Desk R B W C P S)) → Type 0
+  FaultsRepairedAtDesk bytes fault s t = FaultsRepaired (AnswersGuarded (AnswersAt d) (GivesUpAt d)) (GivesUpGuarded (AnswersAt d) (GivesUpAt d)) bytes fault s t

@@ -1,5 +1,6 @@
 pub mod Refusing
 pub mod Guarding
 pub mod AtDesk
+pub mod Understanding
 pub mod Quiet
 pub mod Repaired

@@ -1,19 +1,17 @@
-//! Has the requests of a connection answered that are let through at its gate.
+//! One who answers behind a gate, as an `Answerer`.
 
-ghost use Rattle.std.specs.Prelude.{◌≡◌, ◌++◌, IfErr, OnOk};
-ghost use Rattle.rtsp_grammar.specs.Answer.{IsUndecided};
-ghost use Rattle.rtsp_engine.specs.Served.{Answered, FaultedAfter, at};
-ghost use Rattle.rtsp_guard.specs.Guarding.{AnswersBehind, GivesUpBehind, TakesGuarded, FaultsGuarded, keeps};
+ghost use Rattle.rtsp_guard.specs.Guarding.{AnswersBehind, GivesUpBehind};
 
 use crate::refusing::refuse;
 use rtsp_credentials::{Gate, Users};
-use rtsp_engine::{Answerer, Connection};
-use rtsp_grammar::{Item, MessageFault, Request};
+use rtsp_engine::Answerer;
+use rtsp_grammar::Item;
 use rtsp_state::Room;
 use rtsp_watch::Recorder;
 use std::alloc::{AllocError, Global};
 
-/// One who answers, behind a gate.
+/// One who answers, behind a gate. A request that isn't let through is refused, and he never learns of
+/// it.
 #[derive(Drop)]
 pub(crate) struct Guarded<'a, 'u, A> {
     pub(crate) gate: Gate,
@@ -48,52 +46,4 @@ impl<A: Recorder> Recorder for Guarded<'_, '_, A> {
     fn closed(&self) -> Option<u64> {
         self.answerer.closed()
     }
-}
-
-impl<A: Answerer> Guarded<'_, '_, A> {
-    // Takes a piece of a connection's input. Who answers stays the same one, and so do the users.
-    fn push(
-        &mut self,
-        alloc: Global,
-        connection: &mut Connection,
-        piece: &[u8],
-        room: &mut Room,
-    ) -> Result<(), MessageFault>
-        ensures kept { self.new.answerer.ghost_name ≡ self.old.answerer.ghost_name }
-        ensures users { self.new.users.now ≡ self.old.users.now }
-        ensures goes_on { OnOk result (Answered (AnswersBehind A.answers A.gives_up) (GivesUpBehind A.answers A.gives_up)
-            (connection.old ++ piece.now) connection.new (at room.old self.old) (at room.new self.new)) }
-        ensures undecided { OnOk result (IsUndecided connection.new) }
-        ensures ends { IfErr result (λ f. FaultedAfter (AnswersBehind A.answers A.gives_up) (GivesUpBehind A.answers A.gives_up)
-            (connection.old ++ piece.now) f (at room.old self.old) (at room.new self.new)) }
-    {
-        connection.push(alloc, self, piece, room)
-    }
-}
-
-/// Takes a piece of a connection's input as `Connection::push` does. A request that is let through at
-/// the gate is answered by `answerer`; one that isn't is refused, and `answerer` never learns of it.
-pub fn push_guarded<A: Answerer>(
-    alloc: Global,
-    gate: &mut Gate,
-    users: &Users,
-    answerer: &mut A,
-    connection: &mut Connection,
-    piece: &[u8],
-    room: &mut Room,
-) -> Result<(), MessageFault>
-    ensures goes_on { OnOk result (TakesGuarded A.answers A.gives_up (connection.old ++ piece.now) connection.new
-        (at room.old (keeps gate.old users.now answerer.old)) (at room.new (keeps gate.new users.now answerer.new))) }
-    ensures undecided { OnOk result (IsUndecided connection.new) }
-    ensures ends { IfErr result (λ f. FaultsGuarded A.answers A.gives_up (connection.old ++ piece.now) f
-        (at room.old (keeps gate.old users.now answerer.old)) (at room.new (keeps gate.new users.now answerer.new))) }
-{
-    let mut guarded = Guarded {
-        gate: *gate,
-        users,
-        answerer,
-    };
-    let pushed = guarded.push(alloc, connection, piece, room);
-    *gate = guarded.gate;
-    pushed
 }

@@ -1,7 +1,7 @@
 use Rattle.std.proofs.Common.{refl, rules}
 use Rattle.rtsp_guard.specs.Guarding.{keeps}
 use Rattle.rtsp_guard.proofs.Behind.{taken_behind, faulted_behind, guarded_as}
-use Rattle.rtsp_guard.proofs.guarding.push_guarded.Goals as goal
+use Rattle.rtsp_guard.proofs.watching.push_guarded.Goals as goal
 
 pub returns-clause-goes_on : goal.returns-clause-goes_on
 returns-clause-goes_on g c =
