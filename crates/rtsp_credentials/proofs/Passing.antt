@@ -82,5 +82,5 @@ pub rightful_pass : RightfulPass
 unfolding passed
 rightful_pass users gate request last free h =
     ap (λ (b : Bool). cond b (Ok gate) (must (nat_lt gate.wrong 8) TooManyWrong >>= (λ (m : Unit {0}). judged users gate request >>= onward gate))) free
-    ∙ ap (λ (b : Bool). must b TooManyWrong >>= (λ (m : Unit {0}). judged users gate request >>= onward gate)) (still_open gate.wrong (nat_lt gate.wrong 8) refl h.open)
+    ∙ ap (λ (b : Bool). must b TooManyWrong >>= (λ (m : Unit {0}). judged users gate request >>= onward gate)) (still_open gate.wrong (nat_lt gate.wrong 8) refl h.few)
     ∙ ap (λ (r : Result ℕ Refusal). r >>= onward gate) (judges users gate request last h)

@@ -73,14 +73,14 @@ steps false b2 b3 r b5 last h = absurd cc
 right_by : (users : Users) (gate : Gate) (request : Request) (value : List ℕ) (c : CredentialTexts) (last : ℕ) → gate.wrong < 8 → values_of (codes "Authorization") request.headers ≡ value ∷ [] → credentials_in value ≡ Ok c
     → judged_by users gate (method_name request.method) request.uri c ≡ Ok last → IsRight users gate request last
 unfolding judged_by
-right_by users gate request value c last open only says h =
+right_by users gate request value c last few only says h =
     let s = steps (bytes_eq c.uri request.uri) (bytes_eq c.realm users.realm) (bytes_eq c.nonce gate.nonce) (last_after gate c.count)
     (is_response (secret_in users.users c.username c.algorithm) c (method_name request.method)) last h in
     let uri = equal c.uri request.uri s.0 in
     let nonce = equal c.nonce gate.nonce s.2 in
     let found = answered (secret_in users.users c.username c.algorithm) c (method_name request.method) s.4 in
     record {
-      open = open;
+      few = few;
       value = value;
       only = only;
       credentials = c;
@@ -97,10 +97,10 @@ right_by users gate request value c last open only says h =
 
 right : (users : Users) (gate : Gate) (request : Request) (last : ℕ) → gate.wrong < 8 → judged users gate request ≡ Ok last → IsRight users gate request last
 unfolding judged credentials_among
-right users gate request last open h =
+right users gate request last few h =
     let s = bind_ok (credentials_among request.headers) (λ (c : CredentialTexts). judged_by users gate (method_name request.method) request.uri c) last h in
     let t = bind_ok (authorization_of (values_of (codes "Authorization") request.headers)) credentials_in s.0 s.1.0 in
-    right_by users gate request t.0 s.0 last open (one_value (values_of (codes "Authorization") request.headers) t.0 t.1.0) t.1.1 s.1.1
+    right_by users gate request t.0 s.0 last few (one_value (values_of (codes "Authorization") request.headers) t.0 t.1.0) t.1.1 s.1.1
 
 abbrev onward : Gate → ℕ → Result Gate Refusal
 onward gate last = Ok (record gate { last = last })
@@ -118,11 +118,11 @@ through : (users : Users) (gate next : Gate) (request : Request) (free : Bool) �
 through users gate next request true f h = inl (sym f, cc)
 through users gate next request false f h =
     let o = bind_ok (must (nat_lt gate.wrong 8) TooManyWrong) (λ (m : Unit {0}). tried users gate request) next h in
-    let open = still_open gate.wrong (nat_lt gate.wrong 8) refl (must_ok (nat_lt gate.wrong 8) TooManyWrong o.0 o.1.0) in
+    let few = still_open gate.wrong (nat_lt gate.wrong 8) refl (must_ok (nat_lt gate.wrong 8) TooManyWrong o.0 o.1.0) in
     let s = bind_ok (judged users gate request) (onward gate) next o.1.1 in
     let e : record gate { last = s.0 } ≡ next = cc (s.1.1) in
     let l : s.0 ≡ next.last = ap (λ (g : Gate). g.last) e in
-    inr (subst (λ (n : ℕ). IsRight users gate request n) l (right users gate request s.0 open s.1.0), sym e ∙ ap (λ (n : ℕ). record gate { last = n }) l)
+    inr (subst (λ (n : ℕ). IsRight users gate request n) l (right users gate request s.0 few s.1.0), sym e ∙ ap (λ (n : ℕ). record gate { last = n }) l)
 
 pub only_rightful : OnlyRightful
 unfolding passed

@@ -68,7 +68,7 @@ is_free request =
 unfoldable pub passed : Users → Gate → Request → Result Gate Refusal
 passed users gate request =
     if is_free request then Ok gate
-    else (must (nat_lt gate.wrong 8) refusals.TooManyWrong >>= (λ open. judged users gate request >>= (λ last. Ok (record gate { last = last }))))
+    else (must (nat_lt gate.wrong 8) refusals.TooManyWrong >>= (λ few. judged users gate request >>= (λ last. Ok (record gate { last = last }))))
 
 -- one wrong response more, as far as they are counted
 abbrev pub counted : ℕ → ℕ
@@ -89,7 +89,7 @@ IsNext gate (Some count) last = (count_number count.nc ≡ Some last) × (gate.l
 -- Fewer than eight responses of the connection were wrong. The request has one Authorization header. It is of the request's URI, of the realm and of the connection's nonce; and its
 -- response is the one that the digest of a user's password makes, which the file has (RFC 7616 section 3.4.1).
 pub record IsRight (users : Users) (gate : Gate) (request : Request) (last : ℕ) : Type 0 where
-  pub open : gate.wrong < 8
+  pub few : gate.wrong < 8
   pub value : List ℕ
   pub only : values_of (codes "Authorization") request.headers ≡ value ∷ []
   pub credentials : CredentialTexts

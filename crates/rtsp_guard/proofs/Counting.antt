@@ -45,7 +45,7 @@ abbrev onward : Gate → ℕ → Result Gate Refusal
 onward gate last = Ok (record gate { last = last })
 
 abbrev verdict : Bool → Bool → Gate → Result ℕ Refusal → Result Gate Refusal
-verdict free open gate last = cond free (Ok gate) (must open refusals.TooManyWrong >>= (λ (m : Unit {0}). last >>= onward gate))
+verdict free few gate last = cond free (Ok gate) (must few refusals.TooManyWrong >>= (λ (m : Unit {0}). last >>= onward gate))
 
 still : (old new : ℕ) (a b : Bool) → a ≡ nat_lt old 8 → b ≡ nat_lt new 8 → old ≤ new → b ≡ true → a ≡ true
 still old new true b e f more h = refl
@@ -70,5 +70,5 @@ unfolding passed
 stays_refused users g h request refusal c e =
     let same : judged users h request ≡ judged users g request = ap (λ (z : Gate). judged users z request) c.same ∙ judged_same users g h.wrong request in
     let found = closed (is_free request) (nat_lt g.wrong 8) (nat_lt h.wrong 8) g h (judged users g request) refusal
-        (still g.wrong h.wrong (nat_lt g.wrong 8) (nat_lt h.wrong 8) refl refl c.more) e in
+    (still g.wrong h.wrong (nat_lt g.wrong 8) (nat_lt h.wrong 8) refl refl c.more) e in
     (found.0, ap (λ (r : Result ℕ Refusal). verdict (is_free request) (nat_lt h.wrong 8) h r) same ∙ found.1)

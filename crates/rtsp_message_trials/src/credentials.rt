@@ -159,8 +159,22 @@ fn verdicts(alloc: Global, protection: Protection, texts: &[&str], expected: &[&
 #[test]
 fn credentials_without_qop_are_good_again(rt: HostRuntime) {
     let texts = [GSTREAMER, GSTREAMER];
-    assert!(rt; verdicts(rt.alloc(), Protection::AuthOrNone, &texts, &["uncounted", "uncounted"]));
-    assert!(rt; verdicts(rt.alloc(), Protection::Auth, &texts, &["other protection", "other protection"]));
+    assert!(rt;
+        verdicts(
+            rt.alloc(),
+            Protection::AuthOrNone,
+            &texts,
+            &["uncounted", "uncounted"]
+        )
+    );
+    assert!(rt;
+        verdicts(
+            rt.alloc(),
+            Protection::Auth,
+            &texts,
+            &["other protection", "other protection"]
+        )
+    );
 }
 
 const FIRST: &str =
@@ -186,9 +200,19 @@ const WRONG: &str =
 
 #[test]
 fn after_eight_wrong_responses_none_is_looked_at(rt: HostRuntime) {
-    let texts = [WRONG, WRONG, WRONG, WRONG, WRONG, WRONG, WRONG, WRONG, FIRST];
+    let texts = [
+        WRONG, WRONG, WRONG, WRONG, WRONG, WRONG, WRONG, WRONG, FIRST,
+    ];
     let expected = [
-        "wrong", "wrong", "wrong", "wrong", "wrong", "wrong", "wrong", "wrong", "too many wrong",
+        "wrong",
+        "wrong",
+        "wrong",
+        "wrong",
+        "wrong",
+        "wrong",
+        "wrong",
+        "wrong",
+        "too many wrong",
     ];
     assert!(rt; verdicts(rt.alloc(), Protection::Auth, &texts, &expected));
     let texts = [WRONG, WRONG, WRONG, WRONG, WRONG, WRONG, WRONG, FIRST];
