@@ -11,13 +11,13 @@ ghost use Rattle.rtsp_credentials.specs.Verdict.{must, is_response, number_rule,
 ghost use Rattle.rtsp_text.specs.Hexadecimal.{hex_text};
 
 use crate::algorithm::Algorithm;
+use crate::by_md5::md5_response;
+use crate::by_sha256::sha256_response;
 use crate::comparing::is_same;
 use crate::count::Count;
 use crate::credentials::{Credentials, count_number};
-use crate::md5_response::md5_response;
 use crate::protection::Protection;
 use crate::refusal::Refusal;
-use crate::sha256_response::sha256_response;
 use crate::users::Users;
 use hex::encode_to_slice;
 use rtsp_grammar::{Method, Request};

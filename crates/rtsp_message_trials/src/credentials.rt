@@ -2,8 +2,8 @@
 
 use crate::rows::{Lines, cut, hold_lines};
 use rtsp_credentials::{
-    Algorithm, Count, Gate, Offer, Protection, Refusal, UsersFault, md5_response, read_users,
-    sha256_response, write_challenge,
+    Algorithm, Count, Gate, Offer, Protection, Refusal, UsersFault, md5_response, md5_secret,
+    read_users, sha256_response, sha256_secret, write_challenge,
 };
 use rtsp_grammar::{Item, MessageFault, read_item};
 use std::alloc::Global;
@@ -15,11 +15,17 @@ const COUNT: Count<'static> = Count {
     cnonce: b"f2/wE4q74E6zIJEtWaHKaf5wv/H5QzzpXusqGemxURZJ",
 };
 
-// RFC 7616 section 3.9.1: the secrets are H(Mufasa:http-auth@example.org:Circle of Life).
+const USER: &[u8] = b"Mufasa";
+
+const REALM: &[u8] = b"http-auth@example.org";
+
+const PASSWORD: &[u8] = b"Circle of Life";
+
+// RFC 7616 section 3.9.1.
 #[test]
 fn the_vectors_of_the_standard(rt: HostRuntime) {
     let md5 = md5_response(
-        b"3d78807defe7de2157e2b0b6573a855f",
+        &md5_secret(USER, REALM, PASSWORD),
         NONCE,
         Some(COUNT),
         b"GET",
@@ -27,7 +33,7 @@ fn the_vectors_of_the_standard(rt: HostRuntime) {
     );
     assert!(rt; md5 == *b"8ca523f5e9506fed4657c9700eebdbec");
     let sha256 = sha256_response(
-        b"7987c64c30e25f1b74be53f966b49b90f2808aa92faf9a00262392d7b4794232",
+        &sha256_secret(USER, REALM, PASSWORD),
         NONCE,
         Some(COUNT),
         b"GET",

@@ -1,7 +1,7 @@
 //! The response of Digest by SHA-256.
 
 ghost use Rattle.std.specs.Prelude.{◌≡◌, ℕ, List, Some, None, option_map};
-ghost use Rattle.rtsp_credentials.specs.Digest.{hashed, asked_hash, keyed, proved_text, response_of};
+ghost use Rattle.rtsp_credentials.specs.Digest.{hashed, secret_of, asked_hash, keyed, proved_text, response_of};
 ghost use Rattle.rtsp_credentials.specs.CountView.{shown};
 ghost use Rattle.rtsp_credentials.specs.declared.algorithm.Algorithm.TheVariants as algorithms;
 
@@ -17,6 +17,19 @@ fn sha256_digits(hasher: Sha256) -> [u8; 64]
     let mut text = [0; 64];
     encode_to_slice(hasher.finalize(), &mut text).unwrap();
     text
+}
+
+/// H(A1) of a user, which a file of users has.
+pub fn sha256_secret(user: &[u8], realm: &[u8], password: &[u8]) -> [u8; 64]
+    ensures { result ≡ secret_of algorithms.Sha256 user.now realm.now password.now }
+{
+    let mut hasher = Sha256::new();
+    hasher.update(user);
+    hasher.update(b":");
+    hasher.update(realm);
+    hasher.update(b":");
+    hasher.update(password);
+    sha256_digits(hasher)
 }
 
 // H(A2).

@@ -1,7 +1,7 @@
 //! The response of Digest by MD5.
 
 ghost use Rattle.std.specs.Prelude.{◌≡◌, ℕ, List, Some, None, option_map};
-ghost use Rattle.rtsp_credentials.specs.Digest.{hashed, asked_hash, keyed, proved_text, response_of};
+ghost use Rattle.rtsp_credentials.specs.Digest.{hashed, secret_of, asked_hash, keyed, proved_text, response_of};
 ghost use Rattle.rtsp_credentials.specs.CountView.{shown};
 ghost use Rattle.rtsp_credentials.specs.declared.algorithm.Algorithm.TheVariants as algorithms;
 
@@ -17,6 +17,19 @@ fn md5_digits(hasher: Md5) -> [u8; 32]
     let mut text = [0; 32];
     encode_to_slice(hasher.finalize(), &mut text).unwrap();
     text
+}
+
+/// H(A1) of a user, which a file of users has.
+pub fn md5_secret(user: &[u8], realm: &[u8], password: &[u8]) -> [u8; 32]
+    ensures { result ≡ secret_of algorithms.Md5 user.now realm.now password.now }
+{
+    let mut hasher = Md5::new();
+    hasher.update(user);
+    hasher.update(b":");
+    hasher.update(realm);
+    hasher.update(b":");
+    hasher.update(password);
+    md5_digits(hasher)
 }
 
 // H(A2).
