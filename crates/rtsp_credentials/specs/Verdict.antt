@@ -35,10 +35,14 @@ abbrev pub last_after : Gate → Option CountText → Result ℕ Refusal
 last_after gate None = last_uncounted gate.protection gate.last
 last_after gate (Some count) = number_rule gate.last (count_number count.nc)
 
+-- the response is the one that a secret makes
+abbrev pub is_right : List ℕ → CredentialTexts → List ℕ → Bool
+is_right secret c method = bytes_eq (response_of c.algorithm secret c.nonce c.count method c.uri) c.response
+
 -- the response is the one that the user's password makes
 abbrev pub is_response : Option (List ℕ) → CredentialTexts → List ℕ → Bool
 is_response None c method = false
-is_response (Some secret) c method = bytes_eq (response_of c.algorithm secret c.nonce c.count method c.uri) c.response
+is_response (Some secret) c method = is_right secret c method
 
 -- the greatest nc after a request with these credentials
 unfoldable pub judged_by : Users → Gate → List ℕ → List ℕ → CredentialTexts → Result ℕ Refusal

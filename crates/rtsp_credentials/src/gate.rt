@@ -6,8 +6,7 @@ ghost use Rattle.rtsp_grammar.specs.Header.{values_of};
 ghost use Rattle.rtsp_grammar.specs.Method.{method_name};
 ghost use Rattle.rtsp_credentials.specs.CountView as counts;
 ghost use Rattle.rtsp_credentials.specs.CredentialsView.{shown};
-ghost use Rattle.rtsp_credentials.specs.Digest.{response_of};
-ghost use Rattle.rtsp_credentials.specs.Verdict.{must, is_response, number_rule, last_uncounted, is_options, is_free, counted};
+ghost use Rattle.rtsp_credentials.specs.Verdict.{must, is_right, is_response, number_rule, last_uncounted, is_options, is_free, counted};
 ghost use Rattle.rtsp_text.specs.Hexadecimal.{hex_text};
 
 use crate::algorithm::Algorithm;
@@ -47,7 +46,7 @@ fn no_secret(algorithm: Algorithm) -> &'static [u8] {
 
 // Whether the response is the one that a secret makes.
 fn is_right(secret: &[u8], c: &Credentials<'_>, method: &[u8]) -> bool
-    ensures { result ≡ bytes_eq (response_of c.now.algorithm secret.now c.now.nonce.now (option_map counts.shown c.now.count) method.now c.now.uri.now) c.now.response.now }
+    ensures { result ≡ is_right secret.now (shown c.now) method.now }
 {
     match c.algorithm {
         Algorithm::Md5 => is_same(

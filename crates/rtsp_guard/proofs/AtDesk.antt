@@ -22,7 +22,7 @@ use Rattle.rtsp_guard.specs.AtDesk.{NoneIsLetThrough, TakesAtDesk, FaultsAtDesk,
 use Rattle.rtsp_guard.specs.Quiet.{OnlyCounted, Unchanged, ChangesNothing}
 use Rattle.rtsp_guard.proofs.Counting.{same_gate, after_counted, counted_again, stays_refused}
 
-behind : (users : Users) (gate : Gate) (item : Item) (others : List Item) → NoneIsLetThrough users gate (item ∷ others) → NoneIsLetThrough users gate others
+pub behind : (users : Users) (gate : Gate) (item : Item) (others : List Item) → NoneIsLetThrough users gate (item ∷ others) → NoneIsLetThrough users gate others
 behind users gate (items.Request request) others none = none.1
 behind users gate (items.Response response) others none = none
 behind users gate (items.Frame frame) others none = none

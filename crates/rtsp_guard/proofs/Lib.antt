@@ -4,3 +4,4 @@ pub mod AtDesk
 pub mod Repaired
 pub mod Lent
 pub mod SameVerdict
+pub mod QuietPieces

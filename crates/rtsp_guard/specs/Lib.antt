@@ -4,3 +4,4 @@ pub mod AtDesk
 pub mod Understanding
 pub mod Quiet
 pub mod Repaired
+pub mod QuietPieces

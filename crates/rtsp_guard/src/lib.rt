@@ -17,7 +17,7 @@ mod refusing;
 mod understanding;
 mod watching;
 
-pub use laws::{law_changes_nothing, law_same_verdict};
+pub use laws::{law_changes_nothing, law_pieces_change_nothing, law_same_verdict};
 pub use lending::push_lent;
 pub use understanding::push_understood;
 pub use watching::{push_guarded, push_repaired_guarded};

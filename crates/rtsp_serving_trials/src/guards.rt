@@ -9,7 +9,7 @@ use rtsp_book::Receipt;
 use rtsp_content::Table;
 use rtsp_credentials::{Gate, Protection, Users, read_users};
 use rtsp_engine::{Asker, Connection};
-use rtsp_guard::{law_changes_nothing, law_same_verdict, push_lent};
+use rtsp_guard::{law_changes_nothing, law_pieces_change_nothing, law_same_verdict, push_lent};
 use rtsp_lock::{BookLock, BookSeat, open};
 use rtsp_record::Whole;
 use rtsp_state::Room;
@@ -278,5 +278,6 @@ fn a_user_s_session_is_ended_by_a_user(rt: HostRuntime) {
 #[test]
 fn the_laws_are_called() {
     law_changes_nothing::<HostRuntime, PortSet, Drawing, Ticking, Noting, NoShares>();
+    law_pieces_change_nothing::<PortSet, Drawing, Ticking, Noting, NoShares>();
     law_same_verdict();
 }
