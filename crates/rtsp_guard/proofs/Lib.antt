@@ -5,3 +5,4 @@ pub mod Repaired
 pub mod Lent
 pub mod SameVerdict
 pub mod QuietPieces
+pub mod Putting

@@ -1,5 +1,5 @@
 -- How a request is answered that isn't let through at a gate.
-use Rattle.std.specs.Prelude.{ℕ, Bool, true, false, List, [], ◌∷◌, map, codes, None, Result, Ok, Err, if◌then◌else◌}
+use Rattle.std.specs.Prelude.{ℕ, Bool, true, false, List, [], ◌∷◌, map, codes, decimal, None, Result, Ok, Err, if◌then◌else◌}
 use Rattle.rtsp_grammar.specs.Header.{HeaderText}
 use Rattle.rtsp_grammar.specs.Writing.{response_text}
 use Rattle.rtsp_grammar.specs.declared.message.Request.{Request}
@@ -12,7 +12,6 @@ use Rattle.rtsp_credentials.specs.declared.users.Users.{Users}
 use Rattle.rtsp_credentials.specs.declared.refusal.Refusal.{Refusal}
 use Rattle.rtsp_credentials.specs.declared.refusal.Refusal.TheVariants as refusals
 use Rattle.rtsp_state.specs.OrderOfRefusals.{cseq_of}
-use Rattle.rtsp_state.specs.Lines.{cseq_line}
 use Rattle.rtsp_state.specs.Response.{response, refused}
 use Rattle.rtsp_state.specs.declared.fault.Fault.{Fault}
 use Rattle.rtsp_state.specs.declared.fault.Fault.TheVariants as faults
@@ -25,6 +24,10 @@ is_malformed refusals.Malformed = true
 is_malformed refusals.OtherUri = true
 is_malformed refusal = false
 
+-- the number of the request
+abbrev pub number_line : ℕ → HeaderText
+number_line cseq = record { name = codes "CSeq"; value = decimal cseq }
+
 abbrev pub challenge_line : Users → Gate → Refusal → Algorithm → HeaderText
 challenge_line users gate refusal algorithm = record { name = codes "WWW-Authenticate"; value = challenge_text users.realm gate algorithm refusal }
 
@@ -34,7 +37,7 @@ challenge_lines users gate refusal = map (challenge_line users gate refusal) (al
 
 -- 401: who asks is to say who he is (RFC 7616 section 3.3)
 abbrev pub unauthorized : Users → Gate → Refusal → ℕ → Response
-unauthorized users gate refusal cseq = record { version = Rtsp2; status = 401; reason = codes "Unauthorized"; headers = cseq_line cseq ∷ challenge_lines users gate refusal; body = [] }
+unauthorized users gate refusal cseq = record { version = Rtsp2; status = 401; reason = codes "Unauthorized"; headers = number_line cseq ∷ challenge_lines users gate refusal; body = [] }
 
 abbrev pub bad_request : ℕ → Response
 bad_request cseq = refused (record { cseq = cseq; session = None }) (faults.Refused BadRequest)

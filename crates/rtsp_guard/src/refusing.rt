@@ -2,8 +2,8 @@
 
 ghost use Rattle.std.specs.Prelude.{◌≡◌, ◌++◌, ◌∷◌, [], None, IfOk, OnOk, OnErr};
 ghost use Rattle.rtsp_grammar.specs.Writing.{response_text};
-ghost use Rattle.rtsp_state.specs.Lines.{cseq_line};
-ghost use Rattle.rtsp_guard.specs.Refusing.{is_malformed, challenge_line, challenge_lines, unauthorized, bad_request, numbered, refusal_text};
+ghost use Rattle.rtsp_engine.specs.Served.{Puts};
+ghost use Rattle.rtsp_guard.specs.Refusing.{is_malformed, number_line, challenge_line, challenge_lines, unauthorized, bad_request, numbered, refusal_text};
 
 use itoa::Buffer;
 use rtsp_credentials::{Algorithm, Gate, Offer, Refusal, Users, write_challenge};
@@ -21,7 +21,7 @@ fn is_malformed(refusal: Refusal) -> bool
 }
 
 fn push_cseq(headers: &mut HeadersBuilder, cseq: u32) -> Result<(), AllocError>
-    ensures { OnOk result (headers.new.headers ≡ headers.old.headers ++ cseq_line cseq ∷ []) }
+    ensures { OnOk result (headers.new.headers ≡ headers.old.headers ++ number_line cseq ∷ []) }
 {
     let mut buffer = Buffer::new();
     headers.push(b"CSeq", buffer.format(cseq).as_bytes())
@@ -121,9 +121,8 @@ fn put_numbered(
     room.append(&response)
 }
 
-/// Answers a request that isn't let through: who asks is told what to prove, or that the request is
-/// malformed.
-pub(crate) fn refuse(
+// The response to a request that isn't let through.
+fn put_refusal(
     alloc: Global,
     users: &Users,
     gate: &Gate,
@@ -138,4 +137,21 @@ pub(crate) fn refuse(
         Ok(cseq) => put_numbered(alloc, users, gate, refusal, cseq, room),
         Err(_) => put_reply(room, &Reply::unnumbered()),
     }
+}
+
+/// Answers a request that isn't let through: who asks is told what to prove, or that the request is
+/// malformed.
+#[tactic(auto, using(crate::proofs::Putting::puts))]
+pub(crate) fn refuse(
+    alloc: Global,
+    users: &Users,
+    gate: &Gate,
+    refusal: Refusal,
+    request: &Request,
+    room: &mut Room,
+) -> Result<(), AllocError>
+    ensures ok { OnOk result (Puts (λ bytes. bytes ≡ refusal_text users.now gate.now refusal request.now) room.old.text room.new.text) }
+    ensures mute { OnErr result (room.new.text ≡ room.old.text) }
+{
+    put_refusal(alloc, users, gate, refusal, request, room)
 }
