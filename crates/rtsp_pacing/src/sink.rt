@@ -70,7 +70,8 @@ impl<R: Wait> PacketSink<'_, '_, '_, R> {
         if frames == 0 {
             return;
         }
-        let went = self.put(track, self.run.as_bytes());
+        let (rt, ways, now, room) = (self.rt, self.ways, self.now, self.room);
+        let went = ways.put_frames(rt, now, room, track, self.run.as_bytes());
         let count = match went {
             Went::Dropped(_) if frames > 1 => self.put_each(track, frames),
             _ => self.count.with_more(frames, went, self.now),
