@@ -35,6 +35,17 @@ impl FrameRun {
         })
     }
 
+    // A run that takes no memory until it has a frame.
+    pub(crate) fn empty(alloc: Global) -> FrameRun
+        ensures { result ≡ record { track = 0; frames = 0; bytes = [] } }
+    {
+        FrameRun {
+            track: 0,
+            frames: 0,
+            bytes: Vec::new(alloc),
+        }
+    }
+
     // Adds a frame of a track behind the others, where these are of that track, too, and it has room.
     // Whether it did.
     pub(crate) fn add(&mut self, track: u16, frame: &[u8]) -> bool

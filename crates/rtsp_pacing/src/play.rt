@@ -8,6 +8,7 @@ ghost use Rattle.rtsp_pacing.specs.Beginning.{Begins, IsApart};
 
 use crate::desk::PacerDesk;
 use crate::dropped::Dropped;
+use crate::frame_run::FrameRun;
 use crate::noted::NewPlay;
 use crate::packet_count::PacketCount;
 use crate::renewal::Renewal;
@@ -20,6 +21,7 @@ use rtsp_lock::Numbers;
 use rtsp_record::Phase;
 use rtsp_rtp::{LastTurn, Pacer, Turn, sent_before};
 use std::alloc::Global;
+use std::mem;
 use std::rt::Clock;
 use std::sync::Wait;
 
@@ -262,7 +264,7 @@ impl PacedPlay {
         let unit_ms = presentation.unit_ms().ms();
         self.heed_renewal(desk, moment);
         let passed = moment.saturating_sub(self.last);
-        let (turn, due) = match self.send(desk, phase, unit_ms, moment) {
+        let (turn, due) = match self.send(alloc, desk, phase, unit_ms, moment) {
             Sending::Waits(until) => return Next::At(until),
             Sending::Turned(turn, due) => (turn, due),
         };
@@ -320,6 +322,7 @@ impl PacedPlay {
     // for its media, too, but not for ever.
     fn send<R: Wait, N: Numbers>(
         &mut self,
+        alloc: Global,
         desk: &mut PacerDesk<'_, R, N>,
         phase: Phase,
         unit_ms: u32,
@@ -340,7 +343,7 @@ impl PacedPlay {
             presentation: usize::from(self.presentation),
             now: moment,
             room: self.ways.room_when_late(late),
-            run: &mut desk.room.frames,
+            run: mem::replace(&mut desk.room.frames, FrameRun::empty(alloc)),
             count: PacketCount::none(),
             failed: 0,
             waits: false,
@@ -355,8 +358,15 @@ impl PacedPlay {
             None
         };
         sink.put_run();
-        let (count, waits) = (sink.count, sink.waits);
-        let failed = failures_in(sink.failed, waits);
+        let PacketSink {
+            run,
+            count,
+            failed,
+            waits,
+            ..
+        } = sink;
+        desk.room.frames = run;
+        let failed = failures_in(failed, waits);
         self.dropped = Dropped::count(self.dropped, count.dropped);
         desk.count(count.sent, count.lost, failed, late);
         let next = self.pacer.next_due();

@@ -15,7 +15,7 @@ use std::sync::Wait;
 // media that can't be read is a failure. A unit that isn't read yet breaks the turn off, too, since it
 // isn't waited for.
 #[derive(Drop)]
-pub(crate) struct PacketSink<'a, 'w, 'r, R> {
+pub(crate) struct PacketSink<'a, 'w, R> {
     pub(crate) rt: &'a R,
     pub(crate) media: &'a Media,
     pub(crate) counters: &'a Counters,
@@ -24,8 +24,8 @@ pub(crate) struct PacketSink<'a, 'w, 'r, R> {
     pub(crate) now: u64,
     // How much of the play's streams may wait for a connection.
     pub(crate) room: FrameRoom,
-    // The frames of the unit that is being sent. It is put before a sink is let go.
-    pub(crate) run: &'r mut FrameRun,
+    // The frames of the unit that is being sent, in the pacer's room. They are put before a sink is let go.
+    pub(crate) run: FrameRun,
     pub(crate) count: PacketCount,
     // The calls that have failed, for whatever reason.
     pub(crate) failed: u64,
@@ -41,7 +41,7 @@ pub(crate) fn failures_in(failed: u64, waits: bool) -> u64
     failed.saturating_sub(u64::from(waits))
 }
 
-impl<R: Wait> PacketSink<'_, '_, '_, R> {
+impl<R: Wait> PacketSink<'_, '_, R> {
     // Puts frames of a track.
     fn put(&self, track: u16, frames: &[u8]) -> Went {
         self.ways
@@ -96,7 +96,7 @@ impl<R: Wait> PacketSink<'_, '_, '_, R> {
     }
 }
 
-impl<R: Wait> Sink for PacketSink<'_, '_, '_, R> {
+impl<R: Wait> Sink for PacketSink<'_, '_, R> {
     ghost use Rattle.std.specs.Prelude.{⊤};
 
     ghost calls = { record { octets = λ s track unit bytes u. ⊤; sends = λ s track packet u. ⊤; refuses = λ s track unit fault u. ⊤; reports = λ s track packet u. ⊤; fails = λ s u. ⊤; failures = λ s. s.failed } };
