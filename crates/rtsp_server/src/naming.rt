@@ -108,7 +108,7 @@ fn peek(stream: &TcpStream, piece: &mut [u8]) -> Result<Option<usize>, ErrorKind
 
 /// Looks for the header in front of what has come, by a piece that has room for the longest. Only a
 /// header is taken, and only once it is whole. At the end of the input no more comes.
-pub(crate) fn look(stream: &TcpStream, piece: &mut [u8], is_ending: bool) -> Look {
+pub(crate) fn look_for_header(stream: &TcpStream, piece: &mut [u8], is_ending: bool) -> Look {
     let count = match peek(stream, piece) {
         Ok(Some(0)) | Err(_) => return Look::Gone,
         Ok(Some(count)) => count.min(piece.len()),

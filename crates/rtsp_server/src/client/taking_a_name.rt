@@ -1,7 +1,7 @@
 //! A connection of a balancer comes by the address of its player.
 
 use super::Client;
-use crate::naming::{Look, Naming, look};
+use crate::naming::{Look, Naming, look_for_header};
 use crate::service::Service;
 use crate::tools::Tools;
 use crate::visiting::Visit;
@@ -21,7 +21,7 @@ impl Client {
             return None;
         };
         let piece = tools.piece.as_mut_slice();
-        match look(self.outlet.stream(), piece, self.is_ending) {
+        match look_for_header(self.outlet.stream(), piece, self.is_ending) {
             Look::Found(origin) => self.take_origin(service, origin),
             Look::Waits => {
                 self.is_readable = false;
