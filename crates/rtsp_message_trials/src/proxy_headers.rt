@@ -23,7 +23,7 @@ const SIXES: &[u8] =
 
 // It has no end within 107 bytes.
 const LONG_LINE: &[u8] =
-    b"PROXY TCP4 10.77.0.101 10.77.0.1 42748 7001 ..............................................................";
+    b"PROXY TCP4 10.77.0.101 10.77.0.1 42748 7001 ...............................................................";
 
 // Whether nothing is told of any shorter front of a header, and this of the whole, whatever is behind.
 fn is_told_at(bytes: &[u8], size: usize, seen: Seen) -> bool {
