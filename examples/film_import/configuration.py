@@ -9,7 +9,7 @@ import subprocess
 import sys
 import tempfile
 import tomllib
-from typing import Any, Dict, Iterator, List, NamedTuple
+from typing import Any, Callable, Dict, Iterator, List, NamedTuple, Union
 
 from command import STOPS, called, is_installed
 
@@ -20,6 +20,8 @@ NAME = re.compile(r"[a-z0-9_-]{1,64}")
 MOST_PRESENTATIONS = 256
 # IP, UDP and RTP, as the server counts them into a stream's rate.
 HEADERS = 40
+# The sender reports of a track whose units have several packets, in bits a second.
+REPORT_RATE = 576
 NEW_CONFIGURATION = """\
 [server]
 first_port = 5000
@@ -74,13 +76,86 @@ class Made(NamedTuple):
     def seconds(self) -> float:
         return self.units * self.unit_ms / 1000
 
-    def table(self, file: str) -> str:
+    @property
+    def tracks(self) -> int:
+        return 1
+
+    @property
+    def file(self) -> str:
+        return f"{self.name}.{'ts' if self.encoding == 'MP2T' else self.encoding.lower()}"
+
+    def table(self, named: Callable[[str], str]) -> str:
         lines = ["", "[[presentation]]", f'name = "{self.name}"', f"units = {self.units}", f"unit_ms = {self.unit_ms}"]
         lines += ["[[presentation.track]]", f'name = "{self.track}"', f'media = "{self.media}"', f"pt = {self.pt}"]
         lines += [f'encoding = "{self.encoding}"', f"clock = {self.clock}", f"octets = {self.octets}"]
-        lines += [f"ticks = {self.clock * self.unit_ms // 1000}", f"file = {json.dumps(file)}"]
+        lines += [f"ticks = {self.clock * self.unit_ms // 1000}", f"file = {json.dumps(named(self.file))}"]
         lines += [f"channels = {self.channels}"] if self.channels > 1 else []
         return "".join(f"{line}\n" for line in lines)
+
+
+class FilmTrack(NamedTuple):
+    """A track whose units are slots of packets."""
+
+    name: str
+    media: str
+    pt: int
+    encoding: str
+    clock: int
+    packets: int
+    octets: int
+    ticks: int
+    file: str
+    fmtp: str
+    channels: int
+
+    def rate(self, unit_ms: int) -> int:
+        return -(-(self.octets + HEADERS * self.packets) * 8000 // unit_ms) + REPORT_RATE
+
+    def table(self, named: Callable[[str], str]) -> List[str]:
+        lines = ["[[presentation.track]]", f'name = "{self.name}"', f'media = "{self.media}"', f"pt = {self.pt}"]
+        lines += [f'encoding = "{self.encoding}"', f"clock = {self.clock}", f"packets = {self.packets}"]
+        lines += [f"octets = {self.octets}", f"ticks = {self.ticks}", f"file = {json.dumps(named(self.file))}"]
+        lines += [f"fmtp = {json.dumps(self.fmtp)}"] if self.fmtp else []
+        return lines + ([f"channels = {self.channels}"] if self.channels > 1 else [])
+
+
+class MadeFilm(NamedTuple):
+    """A film as it is: a presentation of a picture and of each sound."""
+
+    name: str
+    unit_ms: int
+    units: int
+    starts: List[int]
+    parts: List[FilmTrack]
+
+    @property
+    def rate(self) -> int:
+        return sum(part.rate(self.unit_ms) for part in self.parts)
+
+    @property
+    def tracks(self) -> int:
+        return len(self.parts)
+
+    @property
+    def seconds(self) -> float:
+        return self.units * self.unit_ms / 1000
+
+    @property
+    def encoding(self) -> str:
+        return " and ".join(part.encoding for part in self.parts)
+
+    def table(self, named: Callable[[str], str]) -> str:
+        lines = ["", "[[presentation]]", f'name = "{self.name}"', f"units = {self.units}", f"unit_ms = {self.unit_ms}"]
+        lines += [f"starts = {self.starts}"] if self.starts else []
+        lines += [line for part in self.parts for line in part.table(named)]
+        return "".join(f"{line}\n" for line in lines)
+
+
+class MediaFile(NamedTuple):
+    """A file of media under the name that it has while it is made, and the one that it gets."""
+
+    unfinished: pathlib.Path
+    name: str
 
 
 class Configuration:
@@ -128,9 +203,9 @@ class Configuration:
         if len(self.names) >= MOST_PRESENTATIONS:
             raise Refused(f"{self.path} has {MOST_PRESENTATIONS} presentations, the most that there may be")
 
-    def add(self, made: Made, file: str, unfinished_media: pathlib.Path) -> None:
-        """Adds a presentation at the end, and gives its media the name; both files are whole at all times."""
-        text = self.text + ("" if self.text.endswith("\n") else "\n") + made.table(self.file_named(file))
+    def add(self, made: Union[Made, MadeFilm], files: List[MediaFile]) -> None:
+        """Adds a presentation at the end, and gives its media the names; all files are whole at all times."""
+        text = self.text + ("" if self.text.endswith("\n") else "\n") + made.table(self.file_named)
         number, name = tempfile.mkstemp(dir=self.path.parent, prefix=".", suffix=".toml")
         unfinished = pathlib.Path(name)
         try:
@@ -140,20 +215,29 @@ class Configuration:
             self.check(unfinished)
             os.chmod(unfinished, 0o644 if self.is_new else self.path.stat().st_mode & 0o777)
             with unstopped():
-                os.replace(unfinished_media, self.folder / file)
-                try:
-                    os.replace(unfinished, self.path)
-                except OSError:
-                    (self.folder / file).unlink()
-                    raise
+                self._give_names(files, unfinished)
         finally:
             unfinished.unlink(missing_ok=True)
         self.text, self.document, self.is_new = text, document, False
 
-    def players(self, made: Made) -> str:
+    def _give_names(self, files: List[MediaFile], unfinished: pathlib.Path) -> None:
+        """All of the files get their names, or none."""
+        named: List[pathlib.Path] = []
+        try:
+            for file in files:
+                os.replace(file.unfinished, self.folder / file.name)
+                named.append(self.folder / file.name)
+            os.replace(unfinished, self.path)
+        except OSError:
+            for path in named:
+                path.unlink()
+            raise
+
+    def players(self, made: Union[Made, MadeFilm]) -> str:
         """How many players of a presentation there may be at once, and why no more."""
         server = self.document["server"]
         carried = server["uplink"] // made.rate
         said = f"{made.rate / 1e6:.3f} Mbit/s with the headers; the uplink of {self.path} carries {carried:,} players"
-        less = [f"{key} = {server[key]}" for key in ("sessions", "pairs") if server[key] < carried]
+        each = {"sessions": 1, "pairs": made.tracks}
+        less = [f"{key} = {server[key]}" for key in each if server[key] // each[key] < carried]
         return said + (f", but it has {' and '.join(less)}" if less else "")

@@ -171,13 +171,13 @@ class Plan:
             raise Refused(f"{self.source.path} becomes {needed / 1e6:,.1f} MB, and {folder} has room for {free / 1e6:,.1f}")
 
 
-def ffmpeg(plan: Plan, words: List[str], out: pathlib.Path, gives_up_at: str = "") -> str:
-    """Runs ffmpeg, with its progress, and returns what it complained of; at one complaint it may end at once."""
+def ffmpeg(source: Source, told: str, words: List[str], gives_up_at: str = "") -> str:
+    """Runs ffmpeg over a source, with its progress under the name that is told, and returns what it complained of; at
+    one complaint it may end at once."""
     command = ["ffmpeg", "-hide_banner", "-nostdin", "-v", "warning", "-nostats", "-progress", "pipe:1"]
     # A name may look like an option, or like a URI.
-    source, made = plan.source, out.absolute()
-    command += ["-i", f"file:{source.path.resolve()}", "-sn", "-dn", "-map_metadata", "-1", *words, "-y", f"file:{made}"]
-    progress = Progress(str(plan), source.seconds)
+    command += ["-i", f"file:{source.path.resolve()}", "-sn", "-dn", "-map_metadata", "-1", *words]
+    progress = Progress(told, source.seconds)
     with tempfile.TemporaryFile("w+", errors="replace") as complaints:
         pipes = {"stdin": subprocess.DEVNULL, "stdout": subprocess.PIPE, "stderr": complaints, "text": True}
         with subprocess.Popen(command, **pipes) as running:
@@ -201,6 +201,11 @@ def ffmpeg(plan: Plan, words: List[str], out: pathlib.Path, gives_up_at: str = "
         why = lines[-1] if lines else f"status {running.returncode}"
         raise Refused(f"ffmpeg makes nothing of {source.path}: {why}")
     return said
+
+
+def ffmpeg_into(out: pathlib.Path, plan: Plan, words: List[str], gives_up_at: str = "") -> str:
+    """The same, into a file."""
+    return ffmpeg(plan.source, str(plan), [*words, "-y", f"file:{out.absolute()}"], gives_up_at)
 
 
 def written_to(complaints: IO[str]) -> str:
@@ -248,7 +253,7 @@ def unit_of(source: Source, megabits: Optional[float]) -> int:
 def fits_as_it_is(plan: Plan, out: pathlib.Path) -> bool:
     """Whether a film was made with its pictures as they are. If not, it says why they have to be encoded."""
     try:
-        if TOO_LATE not in ffmpeg(plan, film_words(plan.source, plan.unit_ms, True), out, gives_up_at=TOO_LATE):
+        if TOO_LATE not in ffmpeg_into(out, plan, film_words(plan.source, plan.unit_ms, True), TOO_LATE):
             return True
         why = f"don't fit into {mbit(plan.unit_ms)} Mbit/s as they are"
         enough = int(FASTEST / plan.source.rate / PEAK) if plan.source.rate else 0
@@ -262,7 +267,7 @@ def fits_as_it_is(plan: Plan, out: pathlib.Path) -> bool:
 def make_film(plan: Plan, out: pathlib.Path) -> Made:
     source, unit_ms = plan.source, plan.unit_ms
     plan.keeps = plan.keeps and fits_as_it_is(plan, out)
-    said = "" if plan.keeps else ffmpeg(plan, film_words(source, unit_ms, False), out)
+    said = "" if plan.keeps else ffmpeg_into(out, plan, film_words(source, unit_ms, False))
     length = out.stat().st_size
     if TOO_LATE in said:
         # So much it takes, or a tenth more than it was given.
@@ -280,7 +285,7 @@ def make_film(plan: Plan, out: pathlib.Path) -> Made:
 def make_sound(plan: Plan, out: pathlib.Path) -> Made:
     sound = SOUNDS[plan.kind]
     words = ["-map", "0:a:0", "-vn", "-f", sound.ffmpeg, "-ar", str(sound.clock), "-ac", str(sound.channels)]
-    ffmpeg(plan, words, out)
+    ffmpeg_into(out, plan, words)
     length = out.stat().st_size
     if not length:
         raise Refused(f"ffmpeg made no sound of {plan.source.path}")

@@ -30,6 +30,10 @@ class Track(NamedTuple):
     clock: int
     channels: int = 1
 
+    @property
+    def name(self) -> str:
+        return self.uri.rstrip("/").rpartition("/")[2]
+
 
 def read_description(text: str, base: str) -> List[Track]:
     """The tracks of a description (SDP); their URIs are taken at its base."""
@@ -127,9 +131,10 @@ class Player:
         if isinstance(ports, (UdpPair, UdpPort)):
             self.connection.datagrams[ports.rtp] = stream.reception.take
         if isinstance(ports, UdpPair):
-            self.connection.datagrams[ports.rtcp] = lambda datagram, at: None
+            self.connection.datagrams[ports.rtcp] = stream.reception.take
         if not ports:
             self.connection.channels[stream.channel] = stream.reception.take
+            self.connection.channels[stream.channel + 1] = stream.reception.take
         return stream
 
     def _channel_of(self, answer: Message) -> Optional[int]:
@@ -144,7 +149,17 @@ class Player:
         if start is not None or stop is not None:
             wanted = [("Range", f"npt={start or 0:.3f}-" + (f"{stop:.3f}" if stop is not None else ""))]
         self.connection.requests.clear()
-        answer = self.ask("PLAY", None, *wanted)
+        for stream in self.streams:
+            stream.reception.waits()
+        try:
+            answer = self.ask("PLAY", None, *wanted)
+            self._begin(answer)
+        finally:
+            for stream in self.streams:
+                stream.reception.goes_on()
+        return answer
+
+    def _begin(self, answer: Message) -> None:
         self.is_playing = True
         played = RANGE.search(answer.header("Range") or "")
         if played:
@@ -153,7 +168,6 @@ class Player:
             for stream in self.streams:
                 if stream.reception.ssrc == int(ssrc, 16):
                     stream.reception.starts(int(sequence), int(timestamp))
-        return answer
 
     @property
     def notice(self) -> Optional[Message]:

@@ -6,7 +6,11 @@ from typing import Callable, List, NamedTuple, Optional
 HEADER = 12
 SEQUENCE = 1 << 16
 TIMESTAMP = 1 << 32
+# A packet of a play has a number so little above its first.
+NEAR = 1024
 FIRST_BYTE = 0x80
+# RTCP's kinds of packets; a sender report (RFC 3550 section 6.4.1), and where it has its stream and its packets.
+CONTROL, SENDER_REPORT = range(200, 205), 200
 
 
 class Packet(NamedTuple):
@@ -18,6 +22,7 @@ class Packet(NamedTuple):
     ssrc: int
     payload: bytes
     at: float
+    marker: bool = False
 
 
 def read_packet(datagram: bytes, at: float) -> Optional[Packet]:
@@ -25,7 +30,8 @@ def read_packet(datagram: bytes, at: float) -> Optional[Packet]:
     if len(datagram) < HEADER or datagram[0] != FIRST_BYTE:
         return None
     number = lambda start, end: int.from_bytes(datagram[start:end], "big")
-    return Packet(datagram[1] & 0x7F, number(2, 4), number(4, 8), number(8, 12), bytes(datagram[HEADER:]), at)
+    told = datagram[1] & 0x7F, number(2, 4), number(4, 8), number(8, 12), bytes(datagram[HEADER:])
+    return Packet(*told, at, datagram[1] >= 0x80)
 
 
 class Lateness(NamedTuple):
@@ -40,7 +46,7 @@ class Reception:
     """The packets of one stream, in the order in which they came.
 
     Places count from the first packet that the server told of (RTP-Info), so they don't wrap round. With a taker each
-    payload goes to it with its place, and no packet is kept: a film would fill the memory.
+    packet goes to it with its place, and none is kept: a film would fill the memory.
     """
 
     def __init__(self, ssrc: int, clock: int) -> None:
@@ -48,14 +54,19 @@ class Reception:
         self.clock = clock
         self.packets: List[Packet] = []
         self.places = array.array("q")
-        self.taker: Optional[Callable[[int, bytes], None]] = None
+        self.taker: Optional[Callable[[int, Packet], None]] = None
         # The second at which each packet came, less its time in the play.
         self._early = array.array("d")
         self.strangers = 0
         self.first_sequence: Optional[int] = None
         self.first_timestamp = 0
         self.end: Optional[int] = None
+        # How many packets its last report counts. A stream with reports has units of several packets, and of these no
+        # place but the last packet's tells where a play ends.
+        self.reported: Optional[int] = None
         self._last = 0
+        # What comes while a PLAY has no answer yet: where it begins only that says.
+        self._waiting: Optional[List[Packet]] = None
 
     def place_of(self, sequence: int) -> int:
         """How many packets a sequence number lies behind the first, taken nearest to the last one that came."""
@@ -63,28 +74,62 @@ class Reception:
         offset = (sequence - self.first_sequence - self._last + SEQUENCE // 2) % SEQUENCE - SEQUENCE // 2
         return self._last + offset
 
+    def waits(self) -> None:
+        """A PLAY is asked for: what comes is judged once it is answered."""
+        self._waiting = self._waiting or []
+
     def starts(self, sequence: int, timestamp: int) -> None:
-        """What RTP-Info says of the first packet. Later plays go on from the first one's numbers."""
+        """What RTP-Info says of the first packet. Later plays go on from the first one's numbers, or jump there."""
+        waiting, self._waiting = self._waiting or [], None
+        is_new = lambda packet: (packet.sequence - sequence) % SEQUENCE < NEAR
+        begins = next((at for at, packet in enumerate(waiting) if is_new(packet)), len(waiting))
         if self.first_sequence is None:
             self.first_sequence, self.first_timestamp = sequence, timestamp
+        for packet in waiting[:begins]:
+            self._put(packet)
+        if self.reported is not None:
+            self.first_sequence = (sequence - self._last - 1) % SEQUENCE
+        for packet in waiting[begins:]:
+            self._put(packet)
+
+    def goes_on(self) -> None:
+        """The PLAY wasn't granted, or told nothing of this stream."""
+        waiting, self._waiting = self._waiting or [], None
+        for packet in waiting:
+            self._put(packet)
 
     def ends(self, sequence: int) -> None:
         """What the server says of the packet that would come next."""
-        self.end = self.place_of(sequence)
+        if self.reported is None:
+            self.end = self.place_of(sequence)
+
+    def hear(self, control: bytes) -> None:
+        """Takes an RTCP packet."""
+        if len(control) >= 28 and control[1] == SENDER_REPORT and int.from_bytes(control[4:8], "big") == self.ssrc:
+            self.reported = int.from_bytes(control[20:24], "big")
 
     def take(self, datagram: bytes, at: float) -> None:
+        if len(datagram) > 1 and datagram[1] in CONTROL:
+            self.hear(datagram)
+            return
         packet = read_packet(datagram, at)
         if packet is None or packet.ssrc != self.ssrc:
             self.strangers += 1
-            return
+        elif self._waiting is not None:
+            self._waiting.append(packet)
+        else:
+            self._put(packet)
+
+    def _put(self, packet: Packet) -> None:
         # A packet may overtake the answer to PLAY.
-        self.starts(packet.sequence, packet.timestamp)
+        if self.first_sequence is None:
+            self.first_sequence, self.first_timestamp = packet.sequence, packet.timestamp
         place = self.place_of(packet.sequence)
         self._last = max(place, self._last)
         self.places.append(place)
         self._early.append(self._early_of(packet))
         if self.taker:
-            self.taker(place, packet.payload)
+            self.taker(place, packet)
         else:
             self.packets.append(packet)
 

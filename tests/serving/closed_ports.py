@@ -6,8 +6,9 @@ from typing import List, Tuple
 from checks import Checks
 from rtsp_client.connection import Connection
 
+from .events import Telling, is_told
 from .runner import serving_test
-from .server import HERE, Server
+from .server import HERE
 
 # After so many seconds in which the port refused all packets none is sent, and so soon after a renewal they come again.
 REFUSED_FOR, AGAIN_WITHIN = 5.0, 3.0
@@ -53,8 +54,8 @@ def packets_within(port: int, seconds: float, enough: int) -> int:
 
 @serving_test(limit=40, is_timed=True)
 def a_port_that_stays_closed(checks: Checks) -> None:
-    """After 5 s in which a port refused all packets none is sent to it, until its session is renewed."""
-    with Server(checks, timeout=30, renewal_step=100) as server:
+    """After 5 s in which a port refused all packets none is sent to it, until its session is renewed; it is told, once."""
+    with Telling(checks, timeout=30, renewal_step=100) as server:
         talk, port, soon = server.connect(), closed_port(), closed_port()
         session, statuses = plays_to(talk, server.uri, port)
         checks.same("SETUP and PLAY", [200, 200], statuses)
@@ -68,5 +69,8 @@ def a_port_that_stays_closed(checks: Checks) -> None:
         renewed = talk.ask("GET_PARAMETER", server.uri, [("Session", session)])
         checks.same("the renewal", 200, renewed.status)
         checks.same("packets to the port, once the session is renewed", 5, packets_within(port, AGAIN_WITHIN, 5))
+        told = rb"warning a port of the player of session \d+ refuses all packets: none is sent there for a minute"
+        is_told(checks, server, "of the port", told)
+        checks.same("how often", 1, server.told.count(told))
         for connection in talk, beside:
             connection.close()

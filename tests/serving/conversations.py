@@ -178,16 +178,20 @@ class StoredServer(Server):
         self.text = text.replace(f"first_port = {STORED_FIRST_PORT}", f"first_port = {self.first_port}")
 
     def write_media(self) -> None:
-        """A file of silence for each track, of the length of its presentation."""
-        units = 0
-        octets = 0
-        for key, value in re.findall(r'(?m)^(units|octets|file) = "?([^"\n]*)"?', self.text):
+        """A file of silence for each track, of the length of its presentation; slots are empty."""
+        units = octets = heads = 0
+        for key, value in re.findall(r'(?m)^(units|packets|packing|octets|file) = "?([^"\n]*)"?', self.text):
             if key == "units":
                 units = int(value)
             elif key == "octets":
                 octets = int(value)
+            elif key == "packets":
+                heads = 8 * int(value)
+            elif key == "packing":
+                heads = 0 if value == "equal" else heads
             else:
-                (self.path / value).write_bytes(b"\xff" * (units * octets))
+                (self.path / value).write_bytes((b"\0" if heads else b"\xff") * (units * (octets + heads)))
+                heads = 0
 
 
 def converse(checks: Checks, path: pathlib.Path, in_bytes: bool) -> None:

@@ -3,8 +3,10 @@ import socket
 import time
 
 from checks import Checks
+from rtsp_client.messages import END, written
 from rtsp_client.player import Way
 
+from .floods import at_99, seconds_to
 from .plays import set_up_all
 from .runner import serving_test
 from .server import Presentation, Server, is_alive, is_free, lease, leases
@@ -86,3 +88,52 @@ def closed_connections_leave_no_descriptor(checks: Checks) -> None:
             talk.ask("TEARDOWN", server.uri, [("Session", player.session or "")])
             player.close()
         talk.close()
+
+
+# Sessions that end at once: of so many connections, so many of each; or after so many seconds.
+CONNECTIONS, EACH, ENDS_AFTER = 10, 100, 10
+OVER_TCP = ("Transport", "RTP/AVP/TCP;unicast;interleaved=0-1")
+# For so many seconds somebody is asked about who renews, and so long an answer may take, at 99 of 100.
+ASKS_FOR, SOON = 2.0, 0.1
+
+
+def with_sessions(server: Server) -> socket.socket:
+    """A connection with many sessions of its own."""
+    talk = server.socket()
+    talk.sendall(written(f"SETUP {server.uri}/a RTSP/2.0", [("CSeq", "1"), OVER_TCP]) * EACH)
+    came = b""
+    while came.count(END) < EACH:
+        came += talk.recv(1 << 16)
+    server.checks.same("sessions of a connection", EACH, came.count(b"RTSP/2.0 200"))
+    return talk
+
+
+@serving_test(limit=60, is_alone=True)
+def others_beside_an_end_of_many_sessions(checks: Checks) -> None:
+    """A thousand sessions end at once, with their connections or by their time: who renews is answered soon."""
+    settings = {"sessions": CONNECTIONS * EACH + 1, "uplink": 10**10, "timeout": ENDS_AFTER, "renewal_step": STEP}
+    for is_by_time in False, True:
+        with Server(checks, ONE_TRACK, **settings) as server:
+            talk = server.connect()
+            kept = lease(talk, f"{server.uri}/a").session
+            began = time.monotonic()
+            talks = [with_sessions(server) for _ in range(CONNECTIONS)]
+            if is_by_time:
+                time.sleep(max(began + ENDS_AFTER / 2 - time.monotonic(), 0.0))
+                is_alive(talk, server.uri, kept)
+                time.sleep(max(began + ENDS_AFTER - 0.5 - time.monotonic(), 0.0))
+            else:
+                for it in talks:
+                    it.close()
+            waits = []
+            until = time.monotonic() + ASKS_FOR + (SWEPT_WITHIN if is_by_time else 0.0)
+            while time.monotonic() < until:
+                waits.append(seconds_to(lambda: checks.that("it lives", is_alive(talk, server.uri, kept))))
+                time.sleep(0.005)
+            where = "by their time" if is_by_time else "with their connections"
+            checks.that(f"{where}: a renewal is answered soon", at_99(waits) <= SOON, at_99(waits))
+            again = server.socket() if is_by_time else with_sessions(server)
+            again.close()
+            talk.close()
+            for it in talks:
+                it.close()

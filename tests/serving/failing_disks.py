@@ -24,7 +24,6 @@ ERRORS = errno.ENOSPC, errno.EDQUOT, errno.EIO, errno.EROFS, errno.EFBIG
 STUCK = b"warning the journal's file takes no more; entries wait"
 AGAIN = b"info the journal is written again"
 LOST = b"warning entries of the journal are in no file; a new one begins"
-STOP_WAITS = b"warning the stop waits for a write to the journal's file"
 # So long a test waits at most for what has to happen within a period.
 PATIENCE = 5.0
 # Where nothing can be written this many entries fit.
@@ -344,17 +343,3 @@ def two_servers_over_a_folder(checks: Checks) -> None:
             checked(checks, one, "two servers")
             stops(checks, other)
         stops(checks, one)
-
-
-@serving_test(limit=40)
-def a_stop_while_the_disk_blocks(checks: Checks) -> None:
-    """It waits for the write that is under way, a line says so after its time and a second, and then all is written."""
-    with on_a_disk(checks) as (server, disk):
-        talk = server.connect()
-        session = set_up(talk, server)
-        time.sleep(LATE)
-        disk.meet("write", 1, 1, late=6000)
-        talk.ask("PLAY", server.uri, [("Session", session)])
-        until(lambda: disk.asked("write") > 0)
-        checks.same("what it tells", [STOP_WAITS], stops(checks, server, 3.0 + 6.0))
-        ends_empty(checks, server, "after a disk that blocked")

@@ -13,9 +13,10 @@ from checks import Checks
 from rtsp_client.messages import written
 
 from .clean_stops import ends_cleanly
+from . import floods
 from .floods import at_99
 from .runner import serving_test
-from .server import HERE, Presentation, Server
+from .server import HERE, Presentation, Server, is_alive
 
 # Players' addresses, and how many connections ask from each.
 ADDRESSES = [f"127.0.0.{last}" for last in range(11, 21)]
@@ -154,6 +155,58 @@ def others_beside_a_flood_of_sessions(checks: Checks) -> None:
                 time.sleep(0.005)
             checks.that("others are answered soon", at_99(others) <= SLACK * OTHERS_MS, at_99(others))
             checks.that("newcomers are answered soon", at_99(newcomers) <= SLACK * NEWCOMERS_MS, at_99(newcomers))
+
+
+# Connections of an address that may be open at once, and processes that connect without end.
+CONNECTIONS, CONNECTING = 10, 8
+# How long a session lives that nobody renews, in seconds, how often some are renewed, and for how long.
+TIMEOUT, RENEWED_EACH, RENEWED_FOR = 4, 1.5, 10.0
+
+
+def connects(port: int, _uri: str, address: str) -> None:
+    """Connects without end."""
+    while True:
+        with contextlib.suppress(OSError):
+            socket.create_connection((HERE, port), timeout=30, source_address=(address, 0)).close()
+
+
+@serving_test(limit=40, is_alone=True)
+def newcomers_beside_connects_without_end(checks: Checks) -> None:
+    """Beside an address that connects without end, and has a share of the connections, a newcomer is answered soon."""
+    with Server(checks, connections_per_address=CONNECTIONS) as server:
+        with floods.flooded(server, CONNECTING, ADDRESSES[0], connects):
+            newcomers = []
+            until = time.monotonic() + ASKS_FOR
+            while time.monotonic() < until:
+                newcomers.append(asked_anew(server))
+                time.sleep(0.005)
+        checks.that("newcomers are answered soon", at_99(newcomers) <= SLACK * NEWCOMERS_MS, at_99(newcomers))
+
+
+@serving_test(limit=60, is_alone=True)
+def renewals_beside_a_flooded_lane(checks: Checks) -> None:
+    """Who renews in time loses no session, though hundreds of connections of the same lane ask without end."""
+    with Server(checks, ONE_TRACK, workers=1, timeout=TIMEOUT, uplink=10**10) as server:
+        with flooded(server, [HERE] * 400, OPTIONS):
+            talks = [server.connect() for _ in ADDRESSES]
+            answers = [it.ask("SETUP", f"{server.uri}/a", [OVER_TCP]) for it in talks]
+            sessions = [(it.header("Session") or "").partition(";")[0] for it in answers]
+            until, lost = time.monotonic() + RENEWED_FOR, 0
+            while time.monotonic() < until:
+                lost += sum(not is_alive(talk, server.uri, it) for talk, it in zip(talks, sessions))
+                time.sleep(RENEWED_EACH)
+            for talk in talks:
+                talk.close()
+        checks.same("renewals that found no session", 0, lost)
+
+
+@serving_test(limit=60, is_timed=True)
+def stops_beside_a_flood_of_sessions(checks: Checks) -> None:
+    """Connections that begin and end sessions without end hold the end up for no more than 3 s."""
+    with Server(checks, ONE_TRACK, holds_signals=True, workers=1, sessions=4000, uplink=10**10) as server:
+        with flooded(server, [HERE] * 400, begins_and_ends(server.uri)):
+            server.process.send_signal(signal.SIGTERM)
+            ends_cleanly(checks, server)
 
 
 @serving_test(limit=60, is_timed=True)

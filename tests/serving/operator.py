@@ -32,6 +32,7 @@ COUNTS = {
     "Packets lost": "packets_lost",
     "Connections let in": "connections_accepted",
     "Connections closed at once": "connections_refused",
+    "Headers refused": "headers_refused",
     "Media not read": "media_failures",
     "Sessions expired": "sessions_expired",
     "Journal shortened": "journal_shortenings",

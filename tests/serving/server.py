@@ -5,6 +5,7 @@ import random
 import re
 import select
 import socket
+import struct
 import subprocess
 import tempfile
 import time
@@ -34,11 +35,27 @@ class Track(NamedTuple):
     encoding: str = "PCMU"
     octets: int = 160
     ticks: int = 160
+    # With `packets`, how many a unit has at most, and how they stand in the file.
+    packets: Optional[int] = None
+    packing: str = "slots"
+
+    @property
+    def unit_octets(self) -> int:
+        """What a unit takes in the file."""
+        is_slots = self.packets is not None and self.packing == "slots"
+        return self.octets + (8 * self.packets if is_slots else 0)
 
     def unit(self, number: int) -> bytes:
-        """The octets of a unit of the file, no two alike."""
+        """The octets of a unit of the file, no two alike; in a slot its packets have one length."""
         mark = self.name.encode()[:1] + number.to_bytes(4, "big")
-        return (mark * (self.octets // len(mark) + 1))[: self.octets]
+        octets = (mark * (self.octets // len(mark) + 1))[: self.octets]
+        if self.unit_octets == self.octets:
+            return octets
+        size, slot = self.octets // self.packets, b""
+        for place in range(self.packets):
+            head = struct.pack(">HHI", size, 0, place * self.ticks // self.packets)
+            slot += head + octets[size * place : size * (place + 1)]
+        return slot.ljust(self.unit_octets, b"\0")
 
 
 class Presentation(NamedTuple):
@@ -48,10 +65,12 @@ class Presentation(NamedTuple):
     units: int = 500
     unit_ms: int = 20
     tracks: Tuple[Track, ...] = (Track("a"), Track("b", 8, "PCMA"))
+    starts: Tuple[int, ...] = ()
 
     def rate(self, track: Track) -> int:
         """Bits a second of the uplink."""
-        return -(-(track.octets + 40) * 8000 // self.unit_ms)
+        rate = -(-(track.octets + 40 * (track.packets or 1)) * 8000 // self.unit_ms)
+        return rate + (576 if track.packets else 0)
 
     @property
     def whole_rate(self) -> int:
@@ -67,10 +86,12 @@ def configuration(presentation: Presentation, first_port: int, **server: Any) ->
     lines = ["[server]", f"first_port = {first_port}", *(f"{key} = {value}" for key, value in settings.items())]
     lines += ["[[presentation]]", f'name = "{presentation.name}"']
     lines += [f"units = {presentation.units}", f"unit_ms = {presentation.unit_ms}"]
+    lines += [f"starts = {[*presentation.starts]}"] if presentation.starts else []
     for track in presentation.tracks:
         lines += ["[[presentation.track]]", f'name = "{track.name}"', 'media = "audio"', f"pt = {track.pt}"]
         lines += [f'encoding = "{track.encoding}"', "clock = 8000", f"octets = {track.octets}"]
         lines += [f"ticks = {track.ticks}", f'file = "{track.name}.raw"']
+        lines += [f"packets = {track.packets}", f'packing = "{track.packing}"'] if track.packets else []
     return "".join(f"{line}\n" for line in lines)
 
 

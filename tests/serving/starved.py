@@ -21,10 +21,10 @@ ENOUGH, SOON = 5, 5.0
 ROUNDS = 3
 
 
-def without_threads(checks: Checks, first: int, last: int) -> Tuple[int, Tuple[bool, bool, int, bytes]]:
+def without_threads(checks: Checks, first: int, last: int, **more: object) -> Tuple[int, Tuple[bool, bool, int, bytes]]:
     """How many threads a server asked for where those from the first to the last were refused, and how it ended:
     whether it said that it listens, and served a connection, its status, and what it wrote on standard error."""
-    server = Server(checks, words=("--connections", "1"), workers=LANES)
+    server = Server(checks, words=("--connections", "1"), workers=LANES, **more)
     faults = Faults(server.path)
     server.environment = faults.environment
     faults.refuse("thread", first, last, errno.EAGAIN)
@@ -58,6 +58,8 @@ def every_thread_refused_in_turn(checks: Checks) -> None:
             checks.that(f"{where}: it was asked for", asked >= number, asked)
     whole = without_threads(checks, others + LANES + 1, FOR_EVER)
     checks.same("threads that are made, and how it serves with all", (others + LANES, serves), whole)
+    _, came = without_threads(checks, 1, 1, journal_files='"."')
+    checks.same("without that which writes the journal", ends, came)
 
 
 def is_sent_if_answered(checks: Checks, server: Server, faults: Faults, number: int) -> bool:

@@ -1,6 +1,6 @@
 -- The only seat of a lock, whose journal has its own entries alone.
-use Rattle.std.proofs.Common.{◌≡◌, ℕ, Bool, true, false, cond, List, [], ◌∷◌, ◌++◌, refl, sym, ◌∙◌, subst, Result, Err}
-use Rattle.std.specs.Prelude.{Some, filter}
+use Rattle.std.proofs.Common.{◌≡◌, ℕ, List, ◌++◌, refl, sym, ◌∙◌, subst, Result, Err}
+use Rattle.std.specs.Prelude.{Some}
 use Rattle.rtsp_record.specs.declared.changes.Entry.{Entry}
 use Rattle.rtsp_record.specs.declared.changes.Record.{Record}
 use Rattle.rtsp_book.specs.declared.asks.Ask.{Ask}
@@ -11,27 +11,17 @@ use Rattle.rtsp_book.specs.Kept.{entries_by}
 use Rattle.rtsp_lock.specs.declared.view.View.{View}
 use Rattle.rtsp_lock.specs.Entries.{OnlyOf, Has}
 use Rattle.rtsp_lock.specs.Calls.{Acted}
-use Rattle.rtsp_lock.proofs.Entries.{only_by}
+use Rattle.rtsp_lock.specs.Numbers.{is_use_of, admission_of}
+use Rattle.rtsp_lock.proofs.Entries.{only_by, only_passing, only_then}
 use Rattle.rtsp_admit.specs.Binder.{Calls}
-use Rattle.rtsp_admit.specs.Refused.{is_use_of}
-use Rattle.rtsp_admit.specs.Numbers.{admission_of, OwnsAll, OwnsAllLasts, AdmissionsKeepAll, RefusalsLeaveNothingAlone}
+use Rattle.rtsp_admit.specs.Numbers.{OwnsAll, OwnsAllLasts, AdmissionsKeepAll, RefusalsLeaveNothingAlone}
 use Rattle.rtsp_admit.proofs.Drawing.{acts_use_drawn, looks_use_drawn}
 use Rattle.rtsp_admit.proofs.Keeping.{admissions_keep}
 use Rattle.rtsp_admit.proofs.Unwinding.{leaves_nothing_unused}
 
-only_then : (actor : ℕ) (i j : List Entry) → OnlyOf actor i → OnlyOf actor j → OnlyOf actor (i ++ j)
-only_then actor [] j own more = more
-only_then actor (e ∷ i) j own more = (own.0, only_then actor i j own.1 more)
-
-only_passing : (actor : ℕ) (p : Entry → Bool) (j : List Entry) → OnlyOf actor j → OnlyOf actor (filter p j)
-only_passing actor p [] own = tt
-only_passing actor p (e ∷ j) own =
-    let rest = only_passing actor p j own.1 in
-    elim (p e) as (λ t. OnlyOf actor (cond t (e ∷ filter p j) (filter p j))) [ true ↦ (own.0, rest) | false ↦ rest ]
-
 pub owns_all_lasts : OwnsAllLasts
 owns_all_lasts = record {
-  first = λ w. record { alone = refl; own = tt; drawn = λ n some. absurd (some refl) };
+  first = λ drawn w. record { alone = refl; own = tt; drawn = λ n some. absurd (some refl) };
   looked = λ v u o looked. record {
     alone = looked.alone.still ∙ o.alone;
     own = subst (OnlyOf u.actor) (sym (looked.seen ∙ looked.alone.found o.alone)) (subst (λ n. OnlyOf n v.seen) (sym looked.stays.actor) o.own);

@@ -24,7 +24,7 @@ use Rattle.rtsp_admit.specs.declared.udp_ports.UdpPorts.TheVariants as udp
 use Rattle.rtsp_admit.specs.Binder.{Calls}
 use Rattle.rtsp_admit.specs.Steps.{chain_left, open_step, rate_step, ports_from, ports_step, chan_step, return_step, commit_step}
 use Rattle.rtsp_admit.specs.Runs.{State, with_view, Opened, NotOpened, Held, Rated, PortsReturned, PortsRefused, Tried, PortsGranted, NoPortsGranted, Addressed, NotAddressed, Fails, Admits}
-use Rattle.rtsp_admit.specs.Numbers.{admission_of}
+use Rattle.rtsp_lock.specs.Numbers.{admission_of}
 
 -- each step that names the admission, or none, keeps this of its seat
 abbrev pub EachKeeps : Ask → (View → Type 0) → Type 0
@@ -33,7 +33,7 @@ EachKeeps ask P =
     → ((x : ℕ) → admission_of step ≡ Some x → x ≡ ask.admission) → Acted v u step answer → P v → P u
 
 -- a step for ports names the admission
-names_ports : (ask : Ask) (kind : UdpPorts) (from : ℕ) → admission_of (ports_step ask kind from) ≡ Some ask.admission
+pub names_ports : (ask : Ask) (kind : UdpPorts) (from : ℕ) → admission_of (ports_step ask kind from) ≡ Some ask.admission
 names_ports ask udp.Pair from = refl
 names_ports ask udp.Port from = refl
 

@@ -1,5 +1,5 @@
 -- What a seat's own entries leave under an admission, where ended sessions may be forgotten with what the seat did in them.
-use Rattle.std.proofs.Common.{◌≡◌, ◌≢◌, ◌==◌, ℕ, suc, ◌+◌, ◌-◌, ◌≤◌, ◌<◌, Bool, true, false, cond, List, [], ◌∷◌, ◌++◌, length, drop, refl, sym, ◌∙◌, ap, subst, arith, inl, inr, ⊎_elim, append-nil, append_assoc, length-append, eq-eqb, ne_eqb}
+use Rattle.std.proofs.Common.{◌≡◌, ◌≢◌, ◌==◌, ℕ, suc, ◌+◌, ◌-◌, ◌≤◌, ◌<◌, Bool, true, false, cond, List, [], ◌∷◌, ◌++◌, length, drop, refl, sym, ◌∙◌, ap, subst, arith, ⊎_elim, append-nil, append_assoc, length-append, eq-eqb, ne_eqb}
 use Rattle.std.specs.Prelude.{Option, None, filter}
 use Rattle.std.specs.List.{AllByRecursion}
 use Rattle.std.specs.FinMap.{get, empty}
@@ -21,7 +21,7 @@ use Rattle.rtsp_book.proofs.Keeping.{records-append}
 use Rattle.rtsp_book.proofs.Runs.{row_after-append}
 use Rattle.rtsp_lock.specs.Entries.{entries_of, OnlyOf, Part, LeftOf}
 use Rattle.rtsp_lock.proofs.Entries.{filters, own_all}
-use Rattle.rtsp_admit.specs.Refused.{is_use_of, uses}
+use Rattle.rtsp_lock.specs.Numbers.{is_use_of, uses}
 use Rattle.rtsp_admit.proofs.Rows.{Within, Left, count, quiet_row, within_more, no_add_of}
 
 -- Entries left out of a list.
@@ -49,18 +49,6 @@ part_length i (e ∷ j) p =
     (λ (q : Part i j). let le = part_length i j q in omega (arith, le))
     (λ (q : (rest : List Entry) × (i ≡ e ∷ rest) × Part rest j). let le = part_length q.0 j q.2 in let same : length i ≡ suc (length q.0) = ap length q.1 in omega (arith, le, same))
     p
-
--- the same of those that pass a test
-pub part_passing : (p : Entry → Bool) (i j : List Entry) → Part i j → Part (filter p i) (filter p j)
-part_passing p i [] q = ap (filter p) q
-part_passing p i (e ∷ j) q =
-    ⊎_elim
-    (λ (t : Part i j). let rest = part_passing p i j t in elim (p e) as (λ b. Part (filter p i) (cond b (e ∷ filter p j) (filter p j))) [ true ↦ inl rest | false ↦ rest ])
-    (λ (t : (rest : List Entry) × (i ≡ e ∷ rest) × Part rest j).
-    let rest = part_passing p t.0 j t.2 in
-    subst (λ (l : List Entry). Part (filter p l) (cond (p e) (e ∷ filter p j) (filter p j))) (sym t.1)
-    (elim (p e) as (λ b. Part (cond b (e ∷ filter p t.0) (filter p t.0)) (cond b (e ∷ filter p j) (filter p j))) [ true ↦ inr (filter p t.0, refl, rest) | false ↦ rest ]))
-    q
 
 -- a list whose last passing entry is this one, cut at it
 record Split (p : Entry → Bool) (j xs : List Entry) (e : Entry) : Type 0 where

@@ -3,9 +3,9 @@ pub mod Leading
 pub mod Going
 pub mod Choosing
 pub mod Breaking
+pub mod Keeping
 pub mod Unwinding
 pub mod Having
-pub mod Keeping
 pub mod Drawing
 pub mod Counting
 pub mod Sharing

@@ -22,7 +22,7 @@ use Rattle.rtsp_record.proofs.Sound.{under_opened, same_nat}
 use Rattle.rtsp_record.proofs.Strands.{row_after}
 use Rattle.rtsp_book.proofs.Runs.{row_after-append}
 use Rattle.rtsp_undo.proofs.Journals.{book_more}
-use Rattle.rtsp_admit.specs.Refused.{is_use_of, uses}
+use Rattle.rtsp_lock.specs.Numbers.{is_use_of, uses}
 
 -- at most these two things, a rate and an address, and no stream
 pub record Upto (x y : Option Thing) (d : Admission) : Type 0 where

@@ -1,6 +1,7 @@
 -- What a refused admission leaves.
-use Rattle.std.proofs.Common.{◌≡◌, ◌≢◌, ◌⊎◌, ℕ, ◌≤◌, Bool, true, false, ◌&&◌, not, cond, List, [], ◌∷◌, ◌++◌, length, drop, refl, sym, ◌∙◌, ap, subst, arith, append_assoc, append-nil, inl, inr, ⊎_elim, Result, Ok, Err, ◌==◌}
-use Rattle.std.specs.Prelude.{Option, Some, None, is_none, option_map}
+use Rattle.std.proofs.Common.{◌≡◌, ◌≢◌, ◌⊎◌, ℕ, ◌≤◌, Bool, true, false, ◌&&◌, not, cond, List, [], ◌∷◌, ◌++◌, length, drop, refl, sym, ◌∙◌, ap, subst, arith, append_assoc, append-nil, inl, inr, ⊎_elim, Result, Ok, Err, ◌==◌, true≢false}
+use Rattle.std.specs.Prelude.{Option, Some, None, is_none, option_map, filter}
+use Rattle.std.specs.List.{AllByRecursion}
 use Rattle.std.proofs.lemmas.Bool.{and_parts, cases_eq}
 use Rattle.std.proofs.lemmas.List.Elements.{filter-append}
 use Rattle.std.proofs.Math.Seq.{drop-append_seam}
@@ -14,8 +15,9 @@ use Rattle.rtsp_record.specs.Tables.{Table, set}
 use Rattle.rtsp_record.specs.Books.{Session, Book, bare, kept, under, book_of}
 use Rattle.rtsp_record.specs.Rules.{as_rate, IsLegal}
 use Rattle.rtsp_record.specs.Sums.{one_if}
-use Rattle.rtsp_record.specs.Journals.{thinned}
+use Rattle.rtsp_record.specs.Journals.{thinned, is_add_of, HasNoAdd}
 use Rattle.rtsp_record.specs.Sound.{SoundRow}
+use Rattle.rtsp_book.specs.declared.asks.Admitted.{Admitted}
 use Rattle.rtsp_book.specs.declared.asks.Ask.{Ask}
 use Rattle.rtsp_book.specs.declared.refusals.Refusal.{Refusal}
 use Rattle.rtsp_book.specs.declared.steps.Chain.{Chain}
@@ -41,12 +43,14 @@ use Rattle.rtsp_admit.specs.declared.failure.Failure.TheVariants as failure
 use Rattle.rtsp_admit.specs.Binder.{Calls}
 use Rattle.rtsp_admit.specs.Steps.{chain_left}
 use Rattle.rtsp_admit.specs.Runs.{State, Admits}
-use Rattle.rtsp_lock.specs.Entries.{OnlyOf, Part, LeftOf, entries_of}
-use Rattle.rtsp_lock.proofs.Entries.{own_all, filters}
-use Rattle.rtsp_admit.specs.Refused.{is_use_of, uses, is_open_of, openings, added, NothingLeft, SessionGone, UsedAlone, RefusalsLeaveNothing}
-use Rattle.rtsp_admit.specs.Numbers.{RefusalsLeaveNothingUnused}
+use Rattle.rtsp_lock.specs.Entries.{OnlyOf, Part, LeftOf, Has, entries_of}
+use Rattle.rtsp_lock.specs.Numbers.{is_use_of, uses, streams_under}
+use Rattle.rtsp_lock.proofs.Entries.{own_all, only_part, filters, part_passing}
+use Rattle.rtsp_admit.specs.Refused.{is_open_of, openings, added, NothingLeft, SessionGone, UsedAlone, RefusalsLeaveNothing}
+use Rattle.rtsp_admit.specs.Numbers.{RefusalsLeaveNothingUnused, RefusalsLeaveNothingDrawn}
 use Rattle.rtsp_admit.proofs.Rows.{Upto, Within, Left, count, left_quiet, both_back, IsFirst, IsSecond}
-use Rattle.rtsp_admit.proofs.Leading.{leads_none, left_of, part_passing}
+use Rattle.rtsp_admit.proofs.Leading.{IsOwn, leads_none, left_of, all_filter}
+use Rattle.rtsp_admit.proofs.Keeping.{admissions_keep}
 use Rattle.rtsp_admit.proofs.Going.{opens, opens_append, made_is}
 use Rattle.rtsp_admit.proofs.Breaking.{Keeps, keeps_fails, second_is}
 
@@ -190,10 +194,43 @@ no_entries : (j : List Entry) → length j ≤ 0 → j ≡ []
 no_entries [] h = refl
 no_entries (e ∷ j) h = absurd (omega arith)
 
+-- The Adds under a number.
+
+add_is_use : (a : ℕ) (r : Record) → is_add_of a r ≡ true → is_use_of a r ≡ true
+add_is_use a (Add d) h = h
+add_is_use a r h = absurd cc
+
+-- of those that pass one test those that pass another, which no other does
+within_filter : (p q : Entry → Bool) → ((e : Entry) → p e ≡ true → q e ≡ true) → (j : List Entry) → filter p (filter q j) ≡ filter p j
+within_filter p q implies [] = refl
+within_filter p q implies (e ∷ j) =
+    let rest = within_filter p q implies j in
+    elim (q e) as (λ t. q e ≡ t → filter p (cond t (e ∷ filter q j) (filter q j)) ≡ cond (p e) (e ∷ filter p j) (filter p j)) [
+      | true ↦ λ _. ap (λ (l : List Entry). cond (p e) (e ∷ l) l) rest
+      | false ↦ λ off. elim (p e) as (λ t. p e ≡ t → filter p (filter q j) ≡ cond t (e ∷ filter p j) (filter p j)) [ true ↦ λ on. absurd (true≢false (sym (implies e on) ∙ off)) | false ↦ λ _. rest ] refl
+    ] refl
+
+streams_in_uses : (a : ℕ) (j : List Entry) → streams_under a (uses a j) ≡ streams_under a j
+streams_in_uses a j = within_filter (λ (e : Entry). is_add_of a e.change) (λ (e : Entry). is_use_of a e.change) (λ e on. add_is_use a e.change on) j
+
+-- a seat's own entries that add no stream have none
+own_streams : (by s a : ℕ) (j : List Entry) → AllByRecursion (IsOwn by s a) j → streams_under a j ≡ []
+own_streams by s a [] own = refl
+own_streams by s a (e ∷ j) own = ap (λ (t : Bool). cond t (e ∷ streams_under a j) (streams_under a j)) own.0.no_add ∙ own_streams by s a j own.1
+
+-- where there is none, no stream is added
+no_adds_in : (a : ℕ) (j : List Entry) → streams_under a j ≡ [] → HasNoAdd a j
+no_adds_in a [] none = tt
+no_adds_in a (e ∷ j) none =
+    elim (is_add_of a e.change) as (λ t. is_add_of a e.change ≡ t → cond t (e ∷ streams_under a j) (streams_under a j) ≡ [] → HasNoAdd a (e ∷ j)) [
+      | true ↦ λ _ l. absurd cc
+      | false ↦ λ off l. (off, no_adds_in a j l)
+    ] refl none
+
 module _ {B : Type 0} (calls : Calls B) (ask : Ask) where
-  session_gone : (w : Whole) (t : Bool) (v u : View) → IsLegal w u.seen → opens ask.session (added v u) ≤ one_if t → (t ≡ true → get (book_of u.seen) ask.session ≡ None) → openings ask.session (added v u) ≢ [] → SessionGone ask.session u.seen
-  session_gone w true v u legal few gone opened = let none = gone refl in record { gone = none; book = less_gone_law w ask.session u.seen legal none }
-  session_gone w false v u legal few gone opened = absurd (opened (no_entries (openings ask.session (added v u)) few))
+  session_gone : (w : Whole) (t : Bool) (v u : View) (j : List Entry) → IsLegal w j → opens ask.session (added v u) ≤ one_if t → (t ≡ true → get (book_of j) ask.session ≡ None) → openings ask.session (added v u) ≢ [] → SessionGone ask.session j
+  session_gone w true v u j legal few gone opened = let none = gone refl in record { gone = none; book = less_gone_law w ask.session j legal none }
+  session_gone w false v u j legal few gone opened = absurd (opened (no_entries (openings ask.session (added v u)) few))
 
   -- what a refused admission added before its Unwind and by it
   record Ended (cause : Failure) (v u : View) (journal more last : List Entry) : Type 0 where
@@ -239,25 +276,34 @@ module _ {B : Type 0} (calls : Calls B) (ask : Ask) where
   gone_after (failure.Open refusal) answer v u h second l = unwound (chain_left ask (failure.Open refusal)) answer v u h tt second l
   gone_after cause answer v u h second l = unwound (chain_left ask cause) answer v u h tt second l
 
-  pub leaves_nothing : RefusalsLeaveNothing calls ask
-  leaves_nothing refusal s t run alone =
+  -- what stands after a refused admission whose number no other call used
+  gone_alone : (refusal : Refusal) (s t : State B) (run : Admits calls ask (Err refusal) s t) → UsedAlone ask.admission s.view t.view → Gone ask.session ask.admission (chain_left ask run.cause).opened t.view.seen
+  gone_alone refusal s t run alone =
       let cause = run.cause in
       let v = s.view in
       let w = run.broken.view in
       let u = t.view in
       let a = ask.admission in
       let keeps = keeps_fails calls ask cause s run.broken run.fails in
-      let quiet = chain_quiet cause run.answer w u run.unwinds in
-      let end = ended refusal s t run keeps quiet in
+      let end = ended refusal s t run keeps (chain_quiet cause run.answer w u run.unwinds) in
       let journal = run.unwinds.journal in
       let part : Part (uses a journal) (uses a keeps.more) = subst (λ (l : List Entry). Part l (uses a keeps.more)) end.seen (subst (Part (uses a u.seen)) end.same alone) in
       let found : LeftOf (v.mine ++ keeps.more) (entries_of v.actor journal) = subst (λ (n : ℕ). LeftOf (v.mine ++ keeps.more) (entries_of n journal)) keeps.actor (subst (λ (m : List Entry). LeftOf m (entries_of w.actor journal)) keeps.mine run.unwinds.found.mine) in
       let left = left_of v.actor ask.session a keeps.more journal keeps.own part (chain_left ask cause).first (chain_left ask cause).second v.mine found (keeps.leads [] (leads_none v.actor a)) in
-      let gone = gone_after cause run.answer w u run.unwinds (second_is calls ask cause s run.broken run.fails) left in
+      gone_after cause run.answer w u run.unwinds (second_is calls ask cause s run.broken run.fails) left
+
+  -- at most one Open was added
+  few_opened : (refusal : Refusal) (s t : State B) (run : Admits calls ask (Err refusal) s t) → opens ask.session (added s.view t.view) ≤ one_if (chain_left ask run.cause).opened
+  few_opened refusal s t run = (ended refusal s t run (keeps_fails calls ask run.cause s run.broken run.fails) (chain_quiet run.cause run.answer run.broken.view t.view run.unwinds)).few
+
+  pub leaves_nothing : RefusalsLeaveNothing calls ask
+  leaves_nothing refusal s t run alone =
+      let u = t.view in
+      let gone = gone_alone refusal s t run alone in
       let legal = run.unwinds.stays.stands.legal in
       record {
-        admission = nothing_left u.whole ask.session a u.seen legal gone.left;
-        session = session_gone u.whole (chain_left ask cause).opened v u legal end.few gone.gone;
+        admission = nothing_left u.whole ask.session ask.admission u.seen legal gone.left;
+        session = session_gone u.whole (chain_left ask run.cause).opened s.view u u.seen legal (few_opened refusal s t run) gone.gone;
       }
 
   -- each Hold and Add under an unused number is the admission's own, where nobody else has one
@@ -277,3 +323,55 @@ module _ {B : Type 0} (calls : Calls B) (ask : Ask) where
 
   pub leaves_nothing_unused : RefusalsLeaveNothingUnused calls ask
   leaves_nothing_unused refusal s t run unused others = leaves_nothing refusal s t run (uses_alone refusal s t run unused.unused others)
+
+  -- over the steps of an admission its seat knows as before which numbers its lock's seats use, and has drawn what it had
+  knows_still : (result : Result Admitted Refusal) (s t : State B) → Admits calls ask result s t → s.view.numbers_drawn ≡ true → Has s.view.drawn ask.admission → (t.view.numbers_drawn ≡ true) × Has t.view.drawn ask.admission
+  knows_still result s t run on drawn =
+      admissions_keep calls ask (λ (x : View). (x.numbers_drawn ≡ true) × Has x.drawn ask.admission) (λ v u step answer of acted own. (acted.stays.same_numbers ∙ own.0, subst (λ (d : List ℕ). Has d ask.admission) (sym acted.drawn) own.1)) result s t run (on, drawn)
+
+  -- the uses of an unused number in a history are what these calls added, where none is another's
+  uses_added : (refusal : Refusal) (s t : State B) (run : Admits calls ask (Err refusal) s t) → uses ask.admission s.view.mine ≡ [] → OnlyOf t.view.actor (uses ask.admission t.view.history)
+      → uses ask.admission t.view.history ≡ uses ask.admission (keeps_fails calls ask run.cause s run.broken run.fails).more
+  uses_added refusal s t run before own =
+      let v = s.view in
+      let u = t.view in
+      let a = ask.admission in
+      let p : Entry → Bool = λ e. is_use_of a e.change in
+      let keeps = keeps_fails calls ask run.cause s run.broken run.fails in
+      let last = entries_by run.broken.view.actor (written run.answer) in
+      let end = ended refusal s t run keeps (chain_quiet run.cause run.answer run.broken.view u run.unwinds) in
+      let mine : uses a u.history ≡ uses a u.mine = sym (own_all u.actor (uses a u.history) own) ∙ (filters (λ (e : Entry). e.actor == u.actor) p u.history ∙ ap (uses a) (sym run.unwinds.stays.follows.mine)) in
+      let added_is : uses a u.mine ≡ uses a (added v u) =
+      ap (uses a) end.mine ∙ (filter-append p v.mine (keeps.more ++ last) ∙ (ap (λ (l : List Entry). l ++ uses a (keeps.more ++ last)) before ∙ ap (uses a) (sym end.is))) in
+      mine ∙ (added_is ∙ end.same)
+
+  -- no stream was ever added under an unused number whose admission was refused
+  no_streams : (refusal : Refusal) (s t : State B) (run : Admits calls ask (Err refusal) s t) → uses ask.admission s.view.mine ≡ [] → OnlyOf t.view.actor (uses ask.admission t.view.history) → streams_under ask.admission t.view.history ≡ []
+  no_streams refusal s t run before own =
+      let a = ask.admission in
+      let keeps = keeps_fails calls ask run.cause s run.broken run.fails in
+      sym (streams_in_uses a t.view.history)
+      ∙ (ap (streams_under a) (uses_added refusal s t run before own) ∙ own_streams s.view.actor ask.session a (uses a keeps.more) (all_filter (IsOwn s.view.actor ask.session a) (λ (e : Entry). is_use_of a e.change) keeps.more keeps.own))
+
+  pub leaves_nothing_drawn : RefusalsLeaveNothingDrawn calls ask
+  leaves_nothing_drawn refusal s t run on unused =
+      let u = t.view in
+      let a = ask.admission in
+      let knows = knows_still (Err refusal) s t run on unused.drawn in
+      let used = run.unwinds.stays.used in
+      let follows = run.unwinds.stays.follows.is in
+      let own : OnlyOf u.actor (uses a u.history) = used.own knows.0 a knows.1 in
+      let streams = no_streams refusal s t run unused.unused own in
+      let others : OnlyOf u.actor (uses a u.seen) = only_part u.actor (uses a u.seen) (uses a u.history) (used.backed a streams) own in
+      let alone = uses_alone refusal s t run unused.unused others in
+      let gone = gone_alone refusal s t run alone in
+      let same : book_of u.seen ≡ book_of u.history = sym follows.book in
+      record {
+        journal = leaves_nothing refusal s t run alone;
+        history = nothing_left u.whole ask.session a u.history follows.legal (record {
+          others = λ q apart. subst (λ (b : Book). Within a None None (get b q)) same (gone.left.others q apart);
+          own = subst (λ (b : Book). Within a None None (get b ask.session)) same gone.left.own;
+          no_add = no_adds_in a u.history streams;
+        });
+        session = session_gone u.whole (chain_left ask run.cause).opened s.view u u.history follows.legal (few_opened refusal s t run) (λ opened. ap (λ (b : Book). get b ask.session) (sym same) ∙ gone.gone opened);
+      }

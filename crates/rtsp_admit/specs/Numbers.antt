@@ -1,7 +1,5 @@
 -- The numbers under which a seat holds and adds. One that it drew itself is used by no other seat that keeps to its own.
-use Rattle.std.specs.Prelude.{◌≡◌, ◌≢◌, ℕ, true, List, [], Contains, Option, Some, None, Result, Err}
-use mathlib.Core.Option.{some}
-use lib.ListN.{get_elem?}
+use Rattle.std.specs.Prelude.{◌≡◌, ◌≢◌, ℕ, Bool, true, List, [], Contains, Result, Err}
 use Rattle.rtsp_record.specs.declared.changes.Entry.{Entry}
 use Rattle.rtsp_record.specs.declared.changes.Record.{Record}
 use Rattle.rtsp_record.specs.declared.holdings.Whole.{Whole}
@@ -9,32 +7,15 @@ use Rattle.rtsp_book.specs.declared.asks.Admitted.{Admitted}
 use Rattle.rtsp_book.specs.declared.asks.Ask.{Ask}
 use Rattle.rtsp_book.specs.declared.refusals.Refusal.{Refusal}
 use Rattle.rtsp_book.specs.declared.steps.Step.{Step}
-use Rattle.rtsp_book.specs.declared.steps.Step.TheVariants.{HoldRate, HoldPair, HoldPort, HoldChan, Commit}
 use Rattle.rtsp_lock.specs.declared.view.View.{View}
 use Rattle.rtsp_lock.specs.Entries.{Has, OnlyOf}
+use Rattle.rtsp_lock.specs.Numbers.{uses, UsesDrawn, NamesDrawn}
 use Rattle.rtsp_lock.specs.Calls.{Acted, Looked, Drew}
 use Rattle.rtsp_lock.specs.Rule.{first_view}
 use Rattle.rtsp_lock.specs.Laws.{TwoSeats}
 use Rattle.rtsp_admit.specs.Binder.{Calls}
-use Rattle.rtsp_admit.specs.Refused.{uses, LeftNothing}
+use Rattle.rtsp_admit.specs.Refused.{LeftNothing, LeftNothingEver}
 use Rattle.rtsp_admit.specs.Runs.{State, Admits}
-
--- each number under which the seat's own entries hold or add is one that it drew
-abbrev pub UsesDrawn : View → Type 0
-UsesDrawn v = (n : ℕ) → uses n v.mine ≢ [] → Has v.drawn n
-
--- the admission under which a step holds or adds
-abbrev pub admission_of : Step → Option ℕ
-admission_of (HoldRate s a bits) = Some a
-admission_of (HoldPair s a from) = Some a
-admission_of (HoldPort s a from) = Some a
-admission_of (HoldChan h) = Some h.admission
-admission_of (Commit c) = Some c.admission
-admission_of step = None
-
--- a step names a number that the seat drew, or none
-abbrev pub NamesDrawn : View → Step → Type 0
-NamesDrawn v step = (a : ℕ) → admission_of step ≡ Some a → Has v.drawn a
 
 -- it stays so over a step that names such a number
 abbrev pub ActsUseDrawn : Type 0
@@ -63,6 +44,10 @@ KeepsDrawn ask v u = Has v.drawn ask.admission → UsesDrawn v → UsesDrawn u
 abbrev pub LeavesNothingUnused : Ask → View → View → Type 0
 LeavesNothingUnused ask v u = IsUnused v ask.admission → OnlyOf u.actor (uses ask.admission u.seen) → LeftNothing ask v u
 
+-- so it does with no premise on others, where all seats of the lock use numbers that they drew: nothing is left in the journal, nor in the history
+abbrev pub LeavesNothingDrawn : Ask → View → View → Type 0
+LeavesNothingDrawn ask v u = v.numbers_drawn ≡ true → IsUnused v ask.admission → LeftNothingEver ask v u
+
 -- the only seat of its lock, in whose journal all entries are its own, each Hold and Add under a number that it drew
 pub record OwnsAll (v : View) : Type 0 where
   pub alone : v.alone ≡ true
@@ -71,7 +56,7 @@ pub record OwnsAll (v : View) : Type 0 where
 
 -- the seat that opens a lock is so, and stays so over looks, draws among them, and over steps that name a number that it drew, or none
 pub record OwnsAllLasts : Type 0 where
-  pub first : (w : Whole) → OwnsAll (first_view w)
+  pub first : (drawn : Bool) (w : Whole) → OwnsAll (first_view drawn w)
   pub looked : (v u : View) → OwnsAll v → Looked v u → OwnsAll u
   pub acted : (v u : View) (step : Step) (answer : Result (List Record) Refusal) → OwnsAll v → NamesDrawn v step → Acted v u step answer → OwnsAll u
 
@@ -98,20 +83,20 @@ OthersUseDrawn w u n = (e : Entry) → Contains (uses n u.seen) e → e.actor �
 abbrev pub DrawnUsedAlone : Type 0
 DrawnUsedAlone = (w : Whole) (u : View) (n : ℕ) → Has u.drawn n → OthersUseDrawn w u n → OnlyOf u.actor (uses n u.seen)
 
--- all seats of a lock hold and add under no numbers but those that they drew
-abbrev pub AllUseDrawn : List View → Type 0
-AllUseDrawn views = (k : ℕ) (v : View) → get_elem? views k ≡ some v → UsesDrawn v
-
--- then each Hold and Add in their history under a number is of the seat that drew it
+-- where all seats of a lock use numbers that they drew, each Hold and Add in their history under a number is of the seat that drew it
 abbrev pub HistoryUsedAlone : Type 0
 HistoryUsedAlone =
     (w : Whole) (v u : View) (seats : TwoSeats w v u) (n : ℕ)
-    → AllUseDrawn seats.state.views → Has v.drawn n → OnlyOf v.actor (uses n seats.keeps.history)
+    → v.numbers_drawn ≡ true → Has v.drawn n → OnlyOf v.actor (uses n seats.keeps.history)
 
 module _ {B : Type 0} (calls : Calls B) (ask : Ask) where
   -- so it is with each refused admission
   abbrev pub RefusalsLeaveNothingUnused : Type 0
   RefusalsLeaveNothingUnused = (refusal : Refusal) (s t : State B) → Admits calls ask (Err refusal) s t → LeavesNothingUnused ask s.view t.view
+
+  -- so it is where all seats use numbers that they drew
+  abbrev pub RefusalsLeaveNothingDrawn : Type 0
+  RefusalsLeaveNothingDrawn = (refusal : Refusal) (s t : State B) → Admits calls ask (Err refusal) s t → LeavesNothingDrawn ask s.view t.view
 
   -- so it is with each admission
   abbrev pub AdmissionsKeepDrawn : Type 0

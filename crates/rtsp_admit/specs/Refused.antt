@@ -3,25 +3,16 @@ use Rattle.std.specs.Prelude.{◌≡◌, ◌≢◌, ◌==◌, ℕ, Bool, false, 
 use Rattle.std.specs.FinMap.{get}
 use Rattle.rtsp_record.specs.declared.changes.Entry.{Entry}
 use Rattle.rtsp_record.specs.declared.changes.Record.{Record}
-use Rattle.rtsp_record.specs.declared.changes.Record.TheVariants.{Open, Hold, Add}
+use Rattle.rtsp_record.specs.declared.changes.Record.TheVariants.{Open}
 use Rattle.rtsp_record.specs.Books.{Session, Book, bare, under, book_of}
 use Rattle.rtsp_record.specs.Journals.{less_session, less_admission}
 use Rattle.rtsp_book.specs.declared.asks.Ask.{Ask}
 use Rattle.rtsp_book.specs.declared.refusals.Refusal.{Refusal}
 use Rattle.rtsp_lock.specs.declared.view.View.{View}
 use Rattle.rtsp_lock.specs.Entries.{Part}
+use Rattle.rtsp_lock.specs.Numbers.{uses}
 use Rattle.rtsp_admit.specs.Binder.{Calls}
 use Rattle.rtsp_admit.specs.Runs.{State, Admits}
-
--- a Hold or Add under the admission
-abbrev pub is_use_of : ℕ → Record → Bool
-is_use_of a (Hold h) = h.admission == a
-is_use_of a (Add d) = d.admission == a
-is_use_of a change = false
-
--- the Holds and Adds under an admission, in order
-abbrev pub uses : ℕ → List Entry → List Entry
-uses a j = filter (λ e. is_use_of a e.change) j
 
 -- an Open of the session
 abbrev pub is_open_of : ℕ → Record → Bool
@@ -58,6 +49,12 @@ pub record SessionGone (s : ℕ) (j : List Entry) : Type 0 where
 pub record LeftNothing (ask : Ask) (v u : View) : Type 0 where
   pub admission : NothingLeft ask.admission u.seen
   pub session : openings ask.session (added v u) ≢ [] → SessionGone ask.session u.seen
+
+-- nothing is left in the journal, nor in the history, which has every entry that was ever made
+pub record LeftNothingEver (ask : Ask) (v u : View) : Type 0 where
+  pub journal : LeftNothing ask v u
+  pub history : NothingLeft ask.admission u.history
+  pub session : openings ask.session (added v u) ≢ [] → SessionGone ask.session u.history
 
 -- so it is where no other call used the admission's number
 abbrev pub LeavesNothing : Ask → View → View → Type 0

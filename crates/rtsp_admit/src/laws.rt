@@ -4,7 +4,7 @@ ghost use Rattle.rtsp_admit.specs.Additions.{AdmissionsGrow};
 ghost use Rattle.rtsp_admit.specs.Refused.{RefusalsLeaveNothing};
 ghost use Rattle.rtsp_admit.specs.Addresses.{RefusalsKeepAddresses, AdmissionsGainAddress};
 ghost use Rattle.rtsp_admit.specs.Faults.{AdmissionsCountFaults};
-ghost use Rattle.rtsp_admit.specs.Numbers.{ActsUseDrawn, LooksUseDrawn, DrawsGiveUnused, DrawnUsedAlone, HistoryUsedAlone, AdmissionsKeepDrawn, RefusalsLeaveNothingUnused};
+ghost use Rattle.rtsp_admit.specs.Numbers.{ActsUseDrawn, LooksUseDrawn, DrawsGiveUnused, DrawnUsedAlone, HistoryUsedAlone, AdmissionsKeepDrawn, RefusalsLeaveNothingUnused, RefusalsLeaveNothingDrawn};
 ghost use Rattle.rtsp_admit.specs.Numbers.{OwnsAllLasts, AdmissionsKeepAll, RefusalsLeaveNothingAlone};
 
 use crate::binder::Binder;
@@ -23,6 +23,13 @@ pub fn law_refused<B: Binder>(ask: &Ask)
 /// `law_drawn_used_alone` shows that nobody else has.
 pub fn law_refused_unused<B: Binder>(ask: &Ask)
     ensures { RefusalsLeaveNothingUnused B.calls ask.now }
+{}
+
+/// Of a lock that was opened for `DrawnNumbers` a refused admission under a number that its seat drew
+/// and had not used leaves nothing, in the journal and in the history, whatever others do between its
+/// steps.
+pub fn law_refused_drawn<B: Binder>(ask: &Ask)
+    ensures { RefusalsLeaveNothingDrawn B.calls ask.now }
 {}
 
 /// After an admission that is refused a binder has the ports that it had before.
@@ -65,8 +72,8 @@ pub fn law_drawn_used_alone()
     ensures { DrawnUsedAlone }
 {}
 
-/// Where all seats of a lock hold and add under numbers that they drew, each Hold and Add in their
-/// history is of the seat that drew its number, for ever. A checkpoint's entries aren't in it.
+/// Of a lock that was opened for `DrawnNumbers` each Hold and Add in the history is of the seat that
+/// drew its number, for ever. A checkpoint's entries aren't in it.
 pub fn law_history_used_alone()
     ensures { HistoryUsedAlone }
 {}

@@ -28,5 +28,5 @@ pub use laws::{
     law_acts_use_drawn, law_admitted_address, law_admitted_grows, law_admitted_keeps_all,
     law_admitted_keeps_drawn, law_drawn_is_unused, law_drawn_used_alone, law_faults_counted,
     law_history_used_alone, law_looks_use_drawn, law_owns_all, law_refused, law_refused_addresses,
-    law_refused_alone, law_refused_unused,
+    law_refused_alone, law_refused_drawn, law_refused_unused,
 };

@@ -3,6 +3,7 @@
 ghost use Rattle.std.specs.Prelude.{◌≡◌, IfOk, IfErr, Err};
 ghost use Rattle.rtsp_record.specs.Rules.{IsAddress};
 ghost use Rattle.rtsp_lock.specs.Calls.{seat_view, IsSeatOf, SameSeat, Acted};
+ghost use Rattle.rtsp_lock.specs.Numbers.{MayUse};
 ghost use Rattle.rtsp_admit.specs.Steps.{ports_from, ports_step, return_step, first_port_in};
 ghost use Rattle.rtsp_admit.specs.Runs.{state_of, Held, Attempted, PortsGranted, NoPortsGranted};
 
@@ -10,7 +11,7 @@ use crate::binder::{BindFault, Binder};
 use crate::failure::{Attempt, NoAddress};
 use crate::udp_ports::UdpPorts;
 use rtsp_book::{Ask, Receipt, Refusal, Step};
-use rtsp_lock::{BookLock, BookSeat};
+use rtsp_lock::{BookLock, BookSeat, Numbers};
 use rtsp_record::{Holding, Record, Thing};
 use std::sync::Wait;
 
@@ -43,16 +44,18 @@ fn first_port_in(made: &[Record]) -> Option<u16>
 }
 
 // Holds the least free ports not below `from`.
-fn hold_ports<R: Wait>(
+fn hold_ports<R: Wait, N: Numbers>(
     rt: &R,
     seat: &mut BookSeat,
-    lock: &BookLock,
+    lock: &BookLock<N>,
     ask: &Ask,
     kind: UdpPorts,
     from: u32,
     made: &mut Receipt,
 ) -> Result<u16, Refusal>
-    requires { IsSeatOf seat.old lock.now }
+    requires own { IsSeatOf seat.old lock.now }
+    requires number { MayUse N.drawn (seat_view seat.old) ask.now.admission }
+    ensures drawn { (seat_view seat.new).drawn ≡ (seat_view seat.old).drawn }
     ensures same { SameSeat seat.old seat.new }
     ensures ok { IfOk result (λ p. Held ask.now (ports_step ask.now kind from) (ports_from kind p) (seat_view seat.old) (seat_view seat.new)) }
     ensures err { IfErr result (λ refusal. Acted (seat_view seat.old) (seat_view seat.new) (ports_step ask.now kind from) (Err refusal)) }
@@ -67,17 +70,19 @@ fn hold_ports<R: Wait>(
 }
 
 // One try: the ports are held and bound, or given back where they can't be bound.
-fn try_ports<R: Wait, B: Binder>(
+fn try_ports<R: Wait, N: Numbers, B: Binder>(
     rt: &R,
     seat: &mut BookSeat,
-    lock: &BookLock,
+    lock: &BookLock<N>,
     binder: &mut B,
     ask: &Ask,
     kind: UdpPorts,
     from: u32,
     made: &mut Receipt,
 ) -> Attempt
-    requires { IsSeatOf seat.old lock.now }
+    requires own { IsSeatOf seat.old lock.now }
+    requires number { MayUse N.drawn (seat_view seat.old) ask.now.admission }
+    ensures drawn { (seat_view seat.new).drawn ≡ (seat_view seat.old).drawn }
     ensures same { SameSeat seat.old seat.new }
     ensures tried { Attempted B.calls ask.now kind from result (state_of seat.old binder.old) (state_of seat.new binder.new) }
 {
@@ -104,16 +109,18 @@ fn try_ports<R: Wait, B: Binder>(
 }
 
 // Holds and binds the least free ports that can be bound. Each is tried once, so it ends.
-pub(crate) fn grant_ports<R: Wait, B: Binder>(
+pub(crate) fn grant_ports<R: Wait, N: Numbers, B: Binder>(
     rt: &R,
     seat: &mut BookSeat,
-    lock: &BookLock,
+    lock: &BookLock<N>,
     binder: &mut B,
     ask: &Ask,
     kind: UdpPorts,
     made: &mut Receipt,
 ) -> Result<Thing, NoAddress>
-    requires { IsSeatOf seat.old lock.now }
+    requires own { IsSeatOf seat.old lock.now }
+    requires number { MayUse N.drawn (seat_view seat.old) ask.now.admission }
+    ensures drawn { (seat_view seat.new).drawn ≡ (seat_view seat.old).drawn }
     ensures same { SameSeat seat.old seat.new }
     ensures ok { IfOk result (λ x. PortsGranted B.calls ask.now kind x (state_of seat.old binder.old) (state_of seat.new binder.new)) }
     ensures address { IfOk result IsAddress }

@@ -5,24 +5,26 @@ ghost use Rattle.rtsp_record.specs.declared.holdings.Thing.TheVariants.{Rate};
 ghost use Rattle.rtsp_record.specs.Rules.{IsAddress};
 ghost use Rattle.rtsp_record.specs.Choices.{IsWish};
 ghost use Rattle.rtsp_lock.specs.Calls.{seat_view, IsSeatOf, SameSeat, Acted};
+ghost use Rattle.rtsp_lock.specs.Numbers.{MayUse};
 ghost use Rattle.rtsp_admit.specs.Steps.{rate_step, chan_step, commit_step, thing_in};
 ghost use Rattle.rtsp_admit.specs.Runs.{Opened, NotOpened, Held};
 
 use rtsp_book::{Ask, ChannelHold, Commit, Life, Receipt, Refusal, Step};
-use rtsp_lock::{BookLock, BookSeat};
+use rtsp_lock::{BookLock, BookSeat, Numbers};
 use rtsp_record::{Holding, Id, Record, Thing};
 use std::sync::Wait;
 
 // Opens the session, where it is a new one.
-pub(crate) fn open<R: Wait>(
+pub(crate) fn open<R: Wait, N: Numbers>(
     rt: &R,
     seat: &mut BookSeat,
-    lock: &BookLock,
+    lock: &BookLock<N>,
     ask: &Ask,
     made: &mut Receipt,
 ) -> Result<(), Refusal>
     requires { IsSeatOf seat.old lock.now }
     ensures same { SameSeat seat.old seat.new }
+    ensures drawn { (seat_view seat.new).drawn ≡ (seat_view seat.old).drawn }
     ensures ok { OnOk result (Opened ask.now ask.now.opening (seat_view seat.old) (seat_view seat.new)) }
     ensures err { IfErr result (λ refusal. NotOpened ask.now ask.now.opening refusal (seat_view seat.old) (seat_view seat.new)) }
 {
@@ -49,15 +51,17 @@ fn rate_step(ask: &Ask) -> Step
 }
 
 // Holds the rate.
-pub(crate) fn hold_rate<R: Wait>(
+pub(crate) fn hold_rate<R: Wait, N: Numbers>(
     rt: &R,
     seat: &mut BookSeat,
-    lock: &BookLock,
+    lock: &BookLock<N>,
     ask: &Ask,
     made: &mut Receipt,
 ) -> Result<(), Refusal>
-    requires { IsSeatOf seat.old lock.now }
+    requires own { IsSeatOf seat.old lock.now }
+    requires number { MayUse N.drawn (seat_view seat.old) ask.now.admission }
     ensures same { SameSeat seat.old seat.new }
+    ensures drawn { (seat_view seat.new).drawn ≡ (seat_view seat.old).drawn }
     ensures ok { OnOk result (Held ask.now (rate_step ask.now) (Rate ask.now.rate) (seat_view seat.old) (seat_view seat.new)) }
     ensures err { IfErr result (λ refusal. Acted (seat_view seat.old) (seat_view seat.new) (rate_step ask.now) (Err refusal)) }
 {
@@ -87,10 +91,10 @@ fn thing_in(made: &[Record]) -> Option<Thing>
 }
 
 // Holds channels of a connection.
-pub(crate) fn hold_channels<R: Wait>(
+pub(crate) fn hold_channels<R: Wait, N: Numbers>(
     rt: &R,
     seat: &mut BookSeat,
-    lock: &BookLock,
+    lock: &BookLock<N>,
     ask: &Ask,
     conn: u64,
     wish: Option<u8>,
@@ -98,7 +102,9 @@ pub(crate) fn hold_channels<R: Wait>(
 ) -> Result<Thing, Refusal>
     requires own { IsSeatOf seat.old lock.now }
     requires wish { IsWish wish }
+    requires number { MayUse N.drawn (seat_view seat.old) ask.now.admission }
     ensures same { SameSeat seat.old seat.new }
+    ensures drawn { (seat_view seat.new).drawn ≡ (seat_view seat.old).drawn }
     ensures ok { IfOk result (λ x. Held ask.now (chan_step ask.now conn wish) x (seat_view seat.old) (seat_view seat.new)) }
     ensures address { IfOk result IsAddress }
     ensures err { IfErr result (λ refusal. Acted (seat_view seat.old) (seat_view seat.new) (chan_step ask.now conn wish) (Err refusal)) }

@@ -36,6 +36,13 @@ pub enum Exit {
         others: u64,
         limit: u64,
     },
+    /// A disk held up a write to the journal's file of this number, which was left behind when the server
+    /// stopped: so many entries that it was handed may not be there.
+    #[error("rtspd: a disk holds up journal-{file:06}.txt, which was left behind: {entries} entries that it was handed may not be there, and none that came later is")]
+    JournalLeft {
+        file: u64,
+        entries: u64,
+    },
     /// A file, a socket or a standard stream couldn't be read or written.
     #[error("rtspd: read or write failed")]
     DeviceFailed,
@@ -57,7 +64,7 @@ impl Exit {
             Exit::BadCommandLine | Exit::BadConfiguration => 1,
             Exit::NotARecord(_) => 2,
             Exit::NotAllowed(_) | Exit::JournalTooLong => 3,
-            Exit::FewDescriptors { .. } | Exit::DeviceFailed => 4,
+            Exit::FewDescriptors { .. } | Exit::JournalLeft { .. } | Exit::DeviceFailed => 4,
             Exit::BadMessage => 5,
             Exit::OutOfMemory => 6,
         }

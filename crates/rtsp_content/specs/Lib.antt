@@ -2,12 +2,17 @@ pub mod Fault
 pub mod Form
 pub mod Keys
 pub mod Tables
+pub mod Balancers
 pub mod Server
 pub mod MediaPath
 pub mod Distinct
+pub mod PackingLimits
+pub mod Packing
 pub mod TrackValue
 pub mod TrackView
 pub mod Track
+pub mod StartsValue
+pub mod Starts
 pub mod PresentationValue
 pub mod PresentationView
 pub mod Presentation

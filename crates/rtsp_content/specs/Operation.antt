@@ -7,6 +7,7 @@ use Rattle.rtsp_content.specs.Fault.{Read}
 use Rattle.rtsp_text.specs.Results.{◌>>=◌}
 use Rattle.rtsp_content.specs.Keys.{table_in, flag_at, optional_text_at}
 use Rattle.rtsp_content.specs.MediaPath.{media_folder}
+use Rattle.rtsp_content.specs.Balancers.{balancers_of}
 use Rattle.rtsp_content.specs.JournalFiles.{files_of}
 use Rattle.rtsp_content.specs.OperationValue.{OperationValue}
 
@@ -18,7 +19,8 @@ operation_of path ms = do
   journal ← files_of (media_folder path folder) server
   access_log ← flag_at (codes "access_log") server
   status ← optional_text_at (codes "status") Address server
-  Ok (record { journal = journal; access_log = access_log; status = status })
+  proxy ← balancers_of server
+  Ok (record { journal = journal; access_log = access_log; status = status; proxy = proxy })
 
 -- the same of a text, by what TOML makes of it
 abbrev pub operation_of_document : List ℕ → Option Members → Read OperationValue

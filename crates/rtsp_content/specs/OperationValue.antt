@@ -6,3 +6,4 @@ pub record OperationValue : Type 0 where
   pub journal : Option JournalFilesValue
   pub access_log : Bool
   pub status : Option (List ℕ)
+  pub proxy : List ℕ

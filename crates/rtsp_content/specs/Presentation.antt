@@ -10,6 +10,7 @@ use Rattle.rtsp_content.specs.declared.limits.TheConstants.{MAX_UNITS, MAX_UNIT_
 use Rattle.rtsp_content.specs.Keys.{number_at, text_at, list_in, of_type}
 use Rattle.rtsp_content.specs.TrackValue.{TrackValue}
 use Rattle.rtsp_content.specs.Tables.{each_from}
+use Rattle.rtsp_content.specs.Starts.{starts_of}
 use Rattle.rtsp_content.specs.Track.{as_track}
 use Rattle.rtsp_content.specs.PresentationValue.{PresentationValue}
 
@@ -28,9 +29,10 @@ presentation_of folder before ms = do
   fresh ← must (not (has_presentation name before)) Duplicate
   units ← number_at (codes "units") 1 MAX_UNITS ms
   unit_ms ← number_at (codes "unit_ms") 1 MAX_UNIT_MS ms
+  starts ← starts_of units ms
   items ← list_in MAX_TRACKS (get_member (codes "track") ms)
   tracks ← tracks_from folder [] items
-  Ok (record { name = name; units = units; unit_ms = unit_ms; tracks = tracks })
+  Ok (record { name = name; units = units; unit_ms = unit_ms; starts = starts; tracks = tracks })
 
 -- the same of a value, which has to be a table
 abbrev pub as_presentation : Option (List ℕ) → List PresentationValue → Data → Read PresentationValue

@@ -4,4 +4,4 @@ use Rattle.rtsp_content.specs.declared.presentation.Presentation.TheInside.{Insi
 use Rattle.rtsp_content.specs.PresentationValue.{PresentationValue}
 
 abbrev pub presentation_value : Inside → PresentationValue
-presentation_value p = record { name = string_bytes p.name; units = p.units; unit_ms = p.unit_ms; tracks = p.tracks.items }
+presentation_value p = record { name = string_bytes p.name; units = p.units; unit_ms = p.unit_ms; starts = p.starts; tracks = p.tracks.items }

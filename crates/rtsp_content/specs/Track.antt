@@ -8,8 +8,10 @@ use Rattle.rtsp_content.specs.declared.track.Media.{Media}
 use Rattle.rtsp_content.specs.declared.track.Media.TheVariants.{Audio, Video}
 use Rattle.rtsp_content.specs.Fault.{Read, must}
 use Rattle.rtsp_text.specs.Results.{◌>>=◌}
-use Rattle.rtsp_content.specs.declared.limits.TheConstants.{MAX_PAYLOAD_TYPE, MAX_CLOCK, MAX_OCTETS, MAX_TICKS, MAX_CHANNELS}
+use Rattle.rtsp_content.specs.declared.limits.TheConstants.{MAX_PAYLOAD_TYPE, MAX_CLOCK, MAX_TICKS, MAX_CHANNELS}
 use Rattle.rtsp_content.specs.Keys.{number_at, optional_number_at, text_at, optional_text_at, of_type}
+use Rattle.rtsp_content.specs.PackingLimits.{most_octets, is_shared}
+use Rattle.rtsp_content.specs.Packing.{packing_of}
 use Rattle.rtsp_content.specs.MediaPath.{media_path}
 use Rattle.rtsp_content.specs.TrackValue.{TrackValue}
 
@@ -41,7 +43,9 @@ track_of folder before ms = do
   payload_type ← number_at (codes "pt") 0 MAX_PAYLOAD_TYPE ms
   encoding ← text_at (codes "encoding") Encoding ms
   clock ← number_at (codes "clock") 1 MAX_CLOCK ms
-  octets ← number_at (codes "octets") 1 MAX_OCTETS ms
+  packing ← packing_of ms
+  octets ← number_at (codes "octets") 1 (most_octets packing) ms
+  shared ← must (is_shared packing octets) BadValue
   ticks ← number_at (codes "ticks") 1 MAX_TICKS ms
   file ← text_at (codes "file") Path ms
   format_parameters ← optional_text_at (codes "fmtp") FormatParameters ms
@@ -52,6 +56,7 @@ track_of folder before ms = do
     payload_type = payload_type;
     encoding = encoding;
     clock = clock;
+    packing = packing;
     octets = octets;
     ticks = ticks;
     file = media_path folder file;

@@ -1,7 +1,9 @@
 -- A track as contracts see it.
 use Rattle.std.specs.Prelude.{◌≡◌, ℕ, ◌≤◌, true, List, map, Option, IfSome}
 use Rattle.rtsp_content.specs.declared.track.Media.{Media}
-use Rattle.rtsp_content.specs.declared.limits.TheConstants.{MAX_PAYLOAD_TYPE, MAX_CLOCK, MAX_OCTETS, MAX_TICKS, MAX_CHANNELS}
+use Rattle.rtsp_content.specs.declared.limits.TheConstants.{MAX_PAYLOAD_TYPE, MAX_CLOCK, MAX_TICKS, MAX_CHANNELS}
+use Rattle.rtsp_content.specs.declared.packing.Packing.{Packing}
+use Rattle.rtsp_content.specs.PackingLimits.{IsPackedWithin}
 use Rattle.rtsp_content.specs.Form.{is_name, is_encoding, is_format_parameters}
 
 pub record TrackValue : Type 0 where
@@ -10,6 +12,7 @@ pub record TrackValue : Type 0 where
   pub payload_type : ℕ
   pub encoding : List ℕ
   pub clock : ℕ
+  pub packing : Packing
   pub octets : ℕ
   pub ticks : ℕ
   pub file : List ℕ
@@ -27,8 +30,7 @@ pub record IsTrackWithin (track : TrackValue) : Type 0 where
   pub encoding : is_encoding track.encoding ≡ true
   pub clock_least : 1 ≤ track.clock
   pub clock_most : track.clock ≤ MAX_CLOCK
-  pub octets_least : 1 ≤ track.octets
-  pub octets_most : track.octets ≤ MAX_OCTETS
+  pub packed : IsPackedWithin track.packing track.octets
   pub ticks_least : 1 ≤ track.ticks
   pub ticks_most : track.ticks ≤ MAX_TICKS
   pub format_parameters : IfSome track.format_parameters (λ text. is_format_parameters text ≡ true)

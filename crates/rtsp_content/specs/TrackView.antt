@@ -10,6 +10,7 @@ track_value t = record {
   payload_type = t.payload_type;
   encoding = string_bytes t.encoding;
   clock = t.clock;
+  packing = t.packing;
   octets = t.octets;
   ticks = t.ticks;
   file = string_bytes t.file;

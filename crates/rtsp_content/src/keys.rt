@@ -123,7 +123,8 @@ pub fn value_at<'a>(table: &'a Table, key: &str) -> Option<&'a Value>
     table.get(key)
 }
 
-fn number(value: &Value, least: u64, most: u64) -> Result<u64, TableFault>
+/// The number, from `least` to `most`.
+pub(crate) fn number(value: &Value, least: u64, most: u64) -> Result<u64, TableFault>
     ensures value { result ≡ as_number least most (view value.now) }
     ensures range { IfOk result (λ n. (least ≤ n) × (n ≤ most)) }
 {
@@ -287,7 +288,8 @@ fn few(items: &Array, most: usize) -> Result<&Array, TableFault>
     }
 }
 
-fn list(value: &Value, most: usize) -> Result<&Array, TableFault>
+/// The items of a value, of which there are 1 to `most`.
+pub(crate) fn list(value: &Value, most: usize) -> Result<&Array, TableFault>
     ensures value { GivesBy OutOfMemory (λ v. array_view v.now) result
         (list_in most (Some (view value.now))) }
     ensures count { IfOk result (λ v. AreFew most (array_view v.now)) }

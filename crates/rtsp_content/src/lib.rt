@@ -3,6 +3,7 @@
 
 #![tactic(auto)]
 
+mod balancers;
 mod example;
 mod fault;
 mod found;
@@ -11,10 +12,12 @@ mod keys;
 mod limits;
 mod media_path;
 mod operation;
+mod packing;
 mod presentation;
 mod reading;
 mod sdp;
 mod server;
+mod starts;
 mod table;
 mod track;
 
@@ -22,9 +25,13 @@ pub use example::EXAMPLE;
 pub use fault::TableFault;
 pub use found::Found;
 pub use journal_files::{JournalFiles, WhenFull};
-pub use limits::{MAX_CONNECTIONS, MAX_TRACKS};
+pub use limits::{
+    MAX_CONNECTIONS, MAX_OCTETS, MAX_PACKETS, MAX_TRACKS, MAX_UNIT_OCTETS, SLOT_HEAD,
+};
 pub use operation::Operation;
+pub use packing::Packing;
 pub use presentation::Presentation;
 pub use server::{Players, Server};
+pub use starts::Starts;
 pub use table::Table;
 pub use track::{Media, Track};

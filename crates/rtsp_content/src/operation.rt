@@ -7,6 +7,7 @@ ghost use Rattle.rtsp_text.specs.Results.{Gives};
 ghost use Rattle.rtsp_content.specs.declared.fault.TableFault.TheVariants.{OutOfMemory};
 ghost use Rattle.rtsp_content.specs.Operation.{operation_of, operation_of_document};
 
+use crate::balancers::read_balancers;
 use crate::fault::TableFault;
 use crate::journal_files::{JournalFiles, read_files};
 use crate::keys::{Form, flag_at, optional_text_at, table_at};
@@ -21,6 +22,7 @@ pub struct Operation {
     journal: Option<JournalFiles>,
     access_log: bool,
     status: Option<String>,
+    proxy: Vec<u32>,
 }
 
 impl Model for Operation {
@@ -42,10 +44,12 @@ fn read_operation(alloc: Global, table: &Table, path: &str) -> Result<Operation,
     let journal = read_files(server, folder)?;
     let access_log = flag_at(server, "access_log")?;
     let status = optional_text_at(alloc, server, "status", Form::Address)?;
+    let proxy = read_balancers(alloc, server)?;
     Ok(Operation {
         journal,
         access_log,
         status,
+        proxy,
     })
 }
 
@@ -89,5 +93,12 @@ impl Operation {
         ensures { option_map (λ s. s.now) result ≡ self.now.status }
     {
         self.status.as_deref()
+    }
+
+    /// The IPv4 addresses of which connections begin with a header.
+    pub fn proxy(&self) -> &[u32]
+        ensures { result.now ≡ self.now.proxy }
+    {
+        self.proxy.as_slice()
     }
 }

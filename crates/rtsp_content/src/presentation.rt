@@ -6,18 +6,23 @@ ghost use Rattle.rtsp_content.specs.TrackValue.{track_names};
 ghost use Rattle.rtsp_content.specs.Form.{is_name};
 ghost use Rattle.rtsp_content.specs.declared.limits.TheConstants.{MAX_UNITS, MAX_TRACKS};
 ghost use Rattle.rtsp_content.specs.Sdp.{sdp_of};
+ghost use Rattle.rtsp_content.specs.StartsValue.{start_at, longest_gap, IsLastStart};
 ghost use Rattle.rtsp_content.specs.Rate.{rate_of, IsRate};
 
+use crate::starts::Starts;
 use crate::track::Track;
 use rtsp_npt::UnitLength;
 use std::marker::Model;
 
-/// Tracks that are played together, in units of one length: each track has one packet a unit.
+/// Tracks that are played together, in units of one length.
 #[derive(Drop)]
 pub struct Presentation {
     pub(crate) name: String,
     pub(crate) units: u32,
     pub(crate) unit_ms: UnitLength,
+    pub(crate) starts: Starts,
+    // The most units from one start to the next.
+    pub(crate) gap: u32,
     pub(crate) tracks: Vec<Track>,
     // Its description, made once.
     pub(crate) sdp: Vec<u8>,
@@ -26,6 +31,7 @@ pub struct Presentation {
 impl Model for Presentation {
     ghost use Rattle.std.specs.Prelude.{◌≡◌};
     ghost use Rattle.rtsp_content.specs.Sdp.{sdp_of};
+    ghost use Rattle.rtsp_content.specs.StartsValue.{longest_gap};
     ghost use Rattle.rtsp_content.specs.PresentationValue.{PresentationValue, IsPresentationWithin};
 
     ghost Value = { PresentationValue };
@@ -35,6 +41,7 @@ impl Model for Presentation {
     ghost view = { presentation_value };
 
     ghost invariant = { λ p. IsPresentationWithin (presentation_value p)
+        × (p.gap ≡ longest_gap p.starts p.units)
         × (p.sdp.items ≡ sdp_of (presentation_value p)) };
 }
 
@@ -70,6 +77,22 @@ impl Presentation {
         u64::from(self.units) * u64::from(self.unit_ms.ms())
     }
 
+    /// The unit at which a play begins that is asked to begin at this one: the last start up to it.
+    pub fn start_at(&self, asked: u32) -> u32
+        ensures value { result ≡ start_at self.now.starts asked }
+        ensures last { IsLastStart self.now.starts asked result }
+    {
+        self.starts.at(asked)
+    }
+
+    /// The most units from one start to the next, or from the last to the end: 1 where a play may
+    /// begin at each unit.
+    pub fn longest_gap(&self) -> u32
+        ensures { result ≡ longest_gap self.now.starts self.now.units }
+    {
+        self.gap
+    }
+
     /// The tracks in the order of the configuration.
     pub fn tracks(&self) -> &[Track]
         ensures value { result.now ≡ self.now.tracks }
@@ -94,12 +117,14 @@ impl Presentation {
         self.sdp.as_slice()
     }
 
-    /// The bits per second of a stream of one of its tracks: a packet for each unit, with 40 bytes
-    /// of headers.
+    /// The bits per second of a stream of one of its tracks: the packets of each unit, with 40 bytes
+    /// of headers each, and a sender report each second where a unit has several.
     pub fn rate(&self, track: &Track) -> u64
-        ensures value { result ≡ rate_of self.now.unit_ms track.now.octets }
-        ensures least { IsRate self.now.unit_ms track.now.octets result }
+        ensures value { result ≡ rate_of self.now.unit_ms track.now.octets track.now.packing }
+        ensures least { IsRate self.now.unit_ms track.now.octets track.now.packing result }
     {
-        ((u64::from(track.octets()) + 40) * 8000).div_ceil(u64::from(self.unit_ms.ms()))
+        let packing = track.packing();
+        let bytes = u64::from(track.octets()) + u64::from(packing.packet_count()) * 40;
+        (bytes * 8000).div_ceil(u64::from(self.unit_ms.ms())) + packing.report_rate()
     }
 }

@@ -21,12 +21,13 @@ use crate::keys::{
     Form, list_at, number_at, optional_number_at, optional_text_at, text_at, value_at,
 };
 use crate::limits::{
-    MAX_CHANNELS, MAX_CLOCK, MAX_OCTETS, MAX_PAYLOAD_TYPE, MAX_TICKS, MAX_TRACKS, MAX_UNIT_MS,
-    MAX_UNITS,
+    MAX_CHANNELS, MAX_CLOCK, MAX_PAYLOAD_TYPE, MAX_TICKS, MAX_TRACKS, MAX_UNIT_MS, MAX_UNITS,
 };
 use crate::media_path::media_path;
+use crate::packing::packing_at;
 use crate::presentation::Presentation;
 use crate::sdp::sdp_of;
+use crate::starts::starts_at;
 use crate::track::{Media, Track};
 use rtsp_npt::UnitLength;
 use std::alloc::Global;
@@ -146,7 +147,9 @@ impl Stated for Track {
         let payload_type = number_at(table, "pt", 0, MAX_PAYLOAD_TYPE)?;
         let encoding = text_at(alloc, table, "encoding", Form::Encoding)?;
         let clock = number_at(table, "clock", 1, MAX_CLOCK)?;
-        let octets = number_at(table, "octets", 1, MAX_OCTETS)?;
+        let packing = packing_at(table)?;
+        let octets = number_at(table, "octets", 1, packing.most_octets())?;
+        must(packing.is_shared(octets), TableFault::BadValue)?;
         let ticks = number_at(table, "ticks", 1, MAX_TICKS)?;
         let file = text_at(alloc, table, "file", Form::Path)?;
         let format_parameters = optional_text_at(alloc, table, "fmtp", Form::FormatParameters)?;
@@ -158,7 +161,8 @@ impl Stated for Track {
             payload_type: payload_type as u8,
             encoding,
             clock: clock as u32,
-            octets: octets as u16,
+            packing,
+            octets: octets as u32,
             ticks: ticks as u32,
             file,
             format_parameters,
@@ -193,6 +197,7 @@ impl Stated for Presentation {
         )?;
         let units = number_at(table, "units", 1, MAX_UNITS)? as u32;
         let unit_ms = UnitLength::new(number_at(table, "unit_ms", 1, MAX_UNIT_MS)? as u32);
+        let starts = starts_at(alloc, table, units)?;
         let tracks: Vec<Track> = read_each(alloc, list_at(table, "track", MAX_TRACKS)?, folder)?;
         let length_ms = u64::from(units) * u64::from(unit_ms.ms());
         let sdp = sdp_of(alloc, name.as_str(), length_ms, &tracks)?;
@@ -200,6 +205,8 @@ impl Stated for Presentation {
             name,
             units,
             unit_ms,
+            gap: starts.longest_gap(units),
+            starts,
             tracks,
             sdp,
         })

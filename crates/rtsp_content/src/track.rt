@@ -1,10 +1,12 @@
 //! One media stream of a presentation.
 
 ghost use Rattle.std.specs.Prelude.{◌≡◌, ◌≤◌, ◌<◌, true, IfSome, option_map};
+ghost use Rattle.rtsp_content.specs.PackingLimits.{most_octets, unit_len, IsPackedWithin};
 ghost use Rattle.rtsp_content.specs.Form.{is_name, is_encoding, is_format_parameters};
-ghost use Rattle.rtsp_content.specs.declared.limits.TheConstants.{MAX_PAYLOAD_TYPE, MAX_CLOCK, MAX_OCTETS, MAX_TICKS, MAX_CHANNELS};
+ghost use Rattle.rtsp_content.specs.declared.limits.TheConstants.{MAX_PAYLOAD_TYPE, MAX_CLOCK, MAX_TICKS, MAX_CHANNELS};
 ghost use Rattle.rtsp_content.specs.Track.{media_text};
 
+use crate::packing::Packing;
 use std::marker::Model;
 
 /// What kind of media a track has.
@@ -26,8 +28,8 @@ impl Media {
     }
 }
 
-/// One media stream of a presentation: a raw file of units of one size, each sent as one RTP
-/// packet.
+/// One media stream of a presentation: a raw file of units of one size, each of one RTP packet or
+/// of several.
 #[derive(Drop)]
 pub struct Track {
     pub(crate) name: String,
@@ -35,7 +37,8 @@ pub struct Track {
     pub(crate) payload_type: u8,
     pub(crate) encoding: String,
     pub(crate) clock: u32,
-    pub(crate) octets: u16,
+    pub(crate) packing: Packing,
+    pub(crate) octets: u32,
     pub(crate) ticks: u32,
     pub(crate) file: String,
     pub(crate) format_parameters: Option<String>,
@@ -102,13 +105,28 @@ impl Track {
         self.clock
     }
 
-    /// How many bytes of media a unit has.
-    pub fn octets(&self) -> u16
+    /// How the packets of a unit stand in the file.
+    pub fn packing(&self) -> Packing
+        ensures value { result ≡ self.now.packing }
+        ensures within { IsPackedWithin result self.now.octets }
+    {
+        self.packing
+    }
+
+    /// How many bytes of media a unit has; at most so many where it is a slot.
+    pub fn octets(&self) -> u32
         ensures value { result ≡ self.now.octets }
         ensures least { 1 ≤ result }
-        ensures most { result ≤ MAX_OCTETS }
+        ensures most { result ≤ most_octets self.now.packing }
     {
         self.octets
+    }
+
+    /// How many bytes a unit takes in the file.
+    pub fn unit_len(&self) -> u32
+        ensures { result ≡ unit_len self.now.packing self.now.octets }
+    {
+        self.packing.unit_len(self.octets)
     }
 
     /// How many clock ticks a unit lasts.

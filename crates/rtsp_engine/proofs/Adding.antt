@@ -37,7 +37,7 @@ use Rattle.rtsp_engine.specs.declared.conducting.SetUp.{SetUp}
 use Rattle.rtsp_engine.specs.declared.conducting.SetUp.TheVariants.{NoShare, NoWord, NoNumber, Tried}
 use Rattle.rtsp_engine.specs.declared.desk.Asker.{Asker}
 use Rattle.rtsp_engine.specs.declared.desk.Desk.{Desk}
-use Rattle.rtsp_engine.specs.declared.drawing.Numbers.{Numbers}
+use Rattle.rtsp_engine.specs.declared.drawing.AdmissionNumbers.{AdmissionNumbers}
 use Rattle.rtsp_engine.specs.declared.drawing.Spent.{Spent}
 use Rattle.rtsp_engine.specs.declared.drawing.Spent.TheVariants as spent
 use Rattle.rtsp_engine.specs.declared.serving.ServeEnd.{ServeEnd}
@@ -61,7 +61,7 @@ grown_touch conn name None found again v u run = grown_none v u run.1
 grown_touch conn name (Some touch) found again v u run =
     still v run.between u run.made (grown_acted v run.between touch (Ok run.made) run.acted) (grown_looks_again conn name run.made found again run.between u run.looks)
 
-grown_numbers : (session : SetupSession) (id : ℕ) (n : Numbers) (v u : View) → DrawsNumbers session id n v u → Grown v u []
+grown_numbers : (session : SetupSession) (id : ℕ) (n : AdmissionNumbers) (v u : View) → DrawsNumbers session id n v u → Grown v u []
 grown_numbers (New expires startup) id n v u run = grown_then v run.between u [] [] (grown_looked v run.between run.session.looked) (grown_looked run.between u run.admission.looked)
 grown_numbers (Living key) id n v u run = grown_looked v u run.1.looked
 
@@ -140,42 +140,42 @@ module _ {B W C P S : Type 0} (d : Devices B W C P S) where
     grown_lost (items.Response response) s t run = same_view s t run
     grown_lost (items.Frame frame) s t run = same_view s t run
 
-  module _ {R : Type 0} where
-    same_desk : (s t : Desk R B W C P S) → t ≡ s → GrowsBy d s t []
-    same_desk s t same = subst (λ (x : Desk R B W C P S). GrowsBy d s x []) (sym same) (grown_self (state s).view)
+  module _ {R N : Type 0} where
+    same_desk : (s t : Desk R B W C P S N) → t ≡ s → GrowsBy d s t []
+    same_desk s t same = subst (λ (x : Desk R B W C P S N). GrowsBy d s x []) (sym same) (grown_self (state s).view)
 
-    then : (s m t : Desk R B W C P S) (rs ss : List Record) → GrowsBy d s m rs → GrowsBy d m t ss → GrowsBy d s t (rs ++ ss)
+    then : (s m t : Desk R B W C P S N) (rs ss : List Record) → GrowsBy d s m rs → GrowsBy d m t ss → GrowsBy d s t (rs ++ ss)
     then s m t rs ss g h = grown_then (state s).view (state m).view (state t).view rs ss g h
 
-    grown_served : (served : List Item) (bytes : List ℕ) (s : Desk R B W C P S) (output : List ℕ) (t : Desk R B W C P S) (run : Served (AnswersAt d) (GivesUpAt d) served bytes s output t)
+    grown_served : (served : List Item) (bytes : List ℕ) (s : Desk R B W C P S N) (output : List ℕ) (t : Desk R B W C P S N) (run : Served (AnswersAt d) (GivesUpAt d) served bytes s output t)
         → GrowsBy d s t (served_records d served bytes s output t run)
     grown_served [] bytes s output t run = same_desk s t run.2
     grown_served (item ∷ earlier) bytes s output t run =
         then s run.mid t (served_records d earlier run.front s run.first run.mid run.before) (item_records d (service run.mid) item run.last (state run.mid) (state t) run.answer.0)
         (grown_served earlier run.front s run.first run.mid run.before) (grown_item (service run.mid) item run.last (state run.mid) (state t) run.answer.0)
 
-    grown_answered : (bytes rest : List ℕ) (s t : Output (Desk R B W C P S)) (run : Takes d bytes rest s t) → GrowsBy d s.answerer t.answerer (answered_records d bytes rest s t run)
+    grown_answered : (bytes rest : List ℕ) (s t : Output (Desk R B W C P S N)) (run : Takes d bytes rest s t) → GrowsBy d s.answerer t.answerer (answered_records d bytes rest s t run)
     grown_answered bytes rest s t run = grown_served run.items run.done s.answerer run.output t.answerer run.served
 
-    grown_fault : (rest : List ℕ) (fault : MessageFault) (s t : Desk R B W C P S) (run : Faulted (AnswersAt d) (GivesUpAt d) rest fault s t) → GrowsBy d s t (fault_records d rest fault s t run)
+    grown_fault : (rest : List ℕ) (fault : MessageFault) (s t : Desk R B W C P S N) (run : Faulted (AnswersAt d) (GivesUpAt d) rest fault s t) → GrowsBy d s t (fault_records d rest fault s t run)
     grown_fault rest fault s t (inl has) = same_desk s t has.1
     grown_fault rest fault s t (inr (is, inl same)) = same_desk s t same
     grown_fault rest fault s t (inr (is, inr lost)) = grown_lost (service s) lost.item (state s) (state t) lost.left.0
 
-    grown_faulted : (bytes : List ℕ) (fault : MessageFault) (s t : Output (Desk R B W C P S)) (run : Faults d bytes fault s t) → GrowsBy d s.answerer t.answerer (faulted_records d bytes fault s t run)
+    grown_faulted : (bytes : List ℕ) (fault : MessageFault) (s t : Output (Desk R B W C P S N)) (run : Faults d bytes fault s t) → GrowsBy d s.answerer t.answerer (faulted_records d bytes fault s t run)
     grown_faulted bytes fault s t run =
         then s.answerer run.mid t.answerer (answered_records d bytes run.rest s (answered_by run.mid t) run.answered) (fault_records d run.rest fault run.mid t.answerer run.faulted)
         (grown_answered bytes run.rest s (answered_by run.mid t) run.answered) (grown_fault run.rest fault run.mid t.answerer run.faulted)
 
-    grown_gathered : (bytes text : List ℕ) (s t : Desk R B W C P S) (run : Gathered (AnswersAt d) (GivesUpAt d) bytes text s t) → GrowsBy d s t (gathered_records d bytes text s t run)
+    grown_gathered : (bytes text : List ℕ) (s t : Desk R B W C P S N) (run : Gathered (AnswersAt d) (GivesUpAt d) bytes text s t) → GrowsBy d s t (gathered_records d bytes text s t run)
     grown_gathered bytes text s t (inl run) = grown_answered bytes run.0 (record { text = Some []; answerer = s }) (record { text = Some text; answerer = t }) run.1
     grown_gathered bytes text s t (inr run) = grown_faulted bytes run.0 (record { text = Some []; answerer = s }) (record { text = Some text; answerer = t }) run.1
 
-    grown_cut : (bytes : List ℕ) (s t : Output (Desk R B W C P S)) (run : BreaksOff (AnswersAt d) (GivesUpAt d) bytes s t) → GrowsBy d s.answerer t.answerer (cut_records d bytes s t run)
+    grown_cut : (bytes : List ℕ) (s t : Output (Desk R B W C P S N)) (run : BreaksOff (AnswersAt d) (GivesUpAt d) bytes s t) → GrowsBy d s.answerer t.answerer (cut_records d bytes s t run)
     grown_cut bytes s t (inl run) = grown_gathered bytes run.text s.answerer t.answerer run.gathered
     grown_cut bytes s t (inr run) = grown_faulted bytes run.fault s (with_text run.between t) run.faulted
 
-    grown_end : (start : List ℕ) (end : ServeEnd) (s t : Line (Desk R B W C P S)) (run : EndsFrom (AnswersAt d) (GivesUpAt d) start end s t)
+    grown_end : (start : List ℕ) (end : ServeEnd) (s t : Line (Desk R B W C P S N)) (run : EndsFrom (AnswersAt d) (GivesUpAt d) start end s t)
         → GrowsBy d s.output.answerer t.output.answerer (end_records d start end s t run)
     grown_end start Closed s t run = grown_answered (start ++ run.progress.bytes) run.rest s.output t.output run.progress.answered
     grown_end start ReadFault s t run = grown_answered (start ++ run.progress.bytes) run.rest s.output t.output run.progress.answered
@@ -189,5 +189,5 @@ module _ {B W C P S : Type 0} (d : Devices B W C P S) where
         (fault_records d run.rest fault run.between.answerer t.output.answerer run.faulted)
         (grown_answered (start ++ run.progress.bytes) run.rest s.output run.between run.progress.answered) (grown_fault run.rest fault run.between.answerer t.output.answerer run.faulted)
 
-    pub served_grows : ServedGrows d R
+    pub served_grows : ServedGrows d R N
     served_grows = record { answered = grown_answered; faulted = grown_faulted; ended = grown_end }

@@ -16,7 +16,7 @@ use Rattle.rtsp_lock.specs.declared.view.View.{View}
 use Rattle.rtsp_lock.specs.Entries.{Has}
 use Rattle.rtsp_lock.specs.Calls.{Acted, Looked}
 use Rattle.rtsp_admit.specs.Binder.{Calls}
-use Rattle.rtsp_admit.specs.Numbers.{admission_of}
+use Rattle.rtsp_lock.specs.Numbers.{admission_of}
 use Rattle.rtsp_admit.specs.Runs.{Admits}
 use Rattle.rtsp_admit.specs.Runs as runs
 use Rattle.rtsp_admit.proofs.Drawing.{has_last}
@@ -38,7 +38,7 @@ use Rattle.rtsp_state.specs.Screen.{screen}
 use Rattle.rtsp_state.specs.SetupPlan.{ask_of}
 use Rattle.rtsp_state.specs.StateTable.{decide}
 use Rattle.rtsp_state.proofs.ShownLemmas.{shows_session}
-use Rattle.rtsp_engine.specs.Conducting.{drawn_with, SetsUp, Conducts}
+use Rattle.rtsp_engine.specs.Conducting.{NamesNoNumber, drawn_with, SetsUp, Conducts}
 use Rattle.rtsp_engine.specs.Conversing.{Finds, Ends, RespondsFound, RespondsScreened, LacksFound, LacksScreened, Answers, GivesUp}
 use Rattle.rtsp_engine.specs.Desk.{Service, State}
 use Rattle.rtsp_traits.specs.Devices.{Devices}
@@ -47,7 +47,7 @@ use Rattle.rtsp_engine.specs.Renewing.{Looks, LooksAgain, RenewsBy, Renews, rene
 use Rattle.rtsp_engine.specs.declared.conducting.SetUp.{SetUp}
 use Rattle.rtsp_engine.specs.declared.conducting.SetUp.TheVariants.{NoShare, NoWord, NoNumber, Tried}
 use Rattle.rtsp_engine.specs.declared.desk.Asker.{Asker}
-use Rattle.rtsp_engine.specs.declared.drawing.Numbers.{Numbers}
+use Rattle.rtsp_engine.specs.declared.drawing.AdmissionNumbers.{AdmissionNumbers}
 use Rattle.rtsp_engine.specs.declared.drawing.Spent.{Spent}
 use Rattle.rtsp_engine.specs.declared.drawing.Spent.TheVariants as spent
 
@@ -79,6 +79,17 @@ planned : (table : TableValue) (request : ParsedValue) (view : Option Living) (p
 planned table request view peer moment plan is =
     names_none_in view plan.step (shows_session.steps_in (record { table = table; request = request; view = view; peer = peer; moment = moment }) plan is)
 
+-- and so the plan that is decided
+pub plan_names : (table : TableValue) (request : ParsedValue) (view : Option Living) (peer moment : ℕ) (plan : Plan) → plan ≡ decide table request view peer moment → NamesNoNumber plan
+plan_names table request view peer moment (plans.Answer reply) is = tt
+plan_names table request view peer moment (plans.Step plan) is = planned table request view peer moment plan (sym is)
+plan_names table request view peer moment (plans.Admit plan) is = tt
+
+-- numbers that were drawn for an admission have its own among them
+pub draws_number : (session : SetupSession) (id : ℕ) (n : AdmissionNumbers) (v u : View) → DrawsNumbers session id n v u → Has u.drawn n.admission
+draws_number (New expires startup) id n v u run = subst (λ d. Has d n.admission) (sym run.admission.drew.drawn) (has_last run.between.drawn n.admission)
+draws_number (Lives key) id n v u run = subst (λ d. Has d n.admission) (sym run.1.drew.drawn) (has_last v.drawn n.admission)
+
 -- a renewal is a Touch
 touch_is : (view : ℕ × Session) (until : Option ℕ) (t : Step) → renewing view until ≡ Some t → admission_of t ≡ None
 touch_is view (Some until) t is = ap admission_of (sym (same_Some (step.Touch view.0 until) t is))
@@ -109,7 +120,7 @@ module _ {B W C P S : Type 0} (d : Devices B W C P S) (N : View → Type 0) (eac
       keeps_looks_again conn name run.made found again run.between u run.looks (each.acted v run.between touch (Ok run.made) (none touch refl) run.acted own)
 
   -- numbers are drawn, the admission's among them
-  pub keeps_numbers : (session : SetupSession) (id : ℕ) (n : Numbers) (v u : View) → DrawsNumbers session id n v u → N v → N u × Has u.drawn n.admission
+  pub keeps_numbers : (session : SetupSession) (id : ℕ) (n : AdmissionNumbers) (v u : View) → DrawsNumbers session id n v u → N v → N u × Has u.drawn n.admission
   keeps_numbers (New expires startup) id n v u run own = (
     each.looked run.between u run.admission.looked (each.looked v run.between run.session.looked own),
     subst (λ d. Has d n.admission) (sym run.admission.drew.drawn) (has_last run.between.drawn n.admission),

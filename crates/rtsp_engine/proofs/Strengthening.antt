@@ -2,8 +2,12 @@
 use Rattle.std.proofs.Common.{ℕ, List, [], ◌∷◌, ◌++◌, sym, subst, inl, inr}
 use Rattle.rtsp_grammar.specs.declared.fault.MessageFault.{MessageFault}
 use Rattle.rtsp_grammar.specs.declared.message.Item.{Item}
-use Rattle.rtsp_engine.specs.Served.{Output, Line, Served, Answered, Progress, Faulted, FaultedAfter, Gathered, BreaksOff, LastBreaksOff, Rests, EndsFrom}
+use Rattle.rtsp_engine.specs.Served.{Output, Line, Served, Answered, Progress, Faulted, FaultedAfter, Gathered, BreaksOff, LastBreaksOff, Tells, Rests, EndsFrom}
+use Rattle.rtsp_engine.specs.Serving.{Serving}
+use Rattle.rtsp_engine.specs.Visiting.{Goes, Visits}
 use Rattle.rtsp_engine.specs.declared.serving.ServeEnd.{ServeEnd}
+use Rattle.rtsp_engine.specs.declared.visiting.VisitEnd.{VisitEnd}
+use Rattle.rtsp_engine.specs.declared.visiting.VisitEnd.TheVariants as visit
 use Rattle.rtsp_engine.specs.declared.serving.ServeEnd.TheVariants.{Closed, ReadFault, WriteFault, Fault, TurnsSpent}
 
 module _ {S : Type 0} (R M : S → Item → List ℕ → S → Type 0) (L : S → Item → S → Type 0) (P : S → Type 0)
@@ -54,15 +58,37 @@ module _ {S : Type 0} (R M : S → Item → List ℕ → S → Type 0) (L : S �
       let r = progress_more start h.rest s t p h.progress in
       (record { rest = h.rest; progress = r.0; undecided = h.undecided }, r.1)
 
+  breaks_off_more : (start : List ℕ) (s t : Line S) → P s.output.answerer → LastBreaksOff R L start s t → LastBreaksOff M L start s t × P t.output.answerer
+  breaks_off_more start s t p h =
+      let before = progress_more start h.held s h.between p h.before in
+      let breaks = breaks_more (h.held ++ h.piece) h.between.output t.output before.1 h.breaks in
+      (record { held = h.held; between = h.between; before = before.0; piece = h.piece; read = h.read; breaks = breaks.0 }, breaks.1)
+
+  tells_more : (start : List ℕ) (fault : MessageFault) (s t : Line S) → P s.output.answerer → Tells R L start fault s t → Tells M L start fault s t × P t.output.answerer
+  tells_more start fault s t p h =
+      let progress = progress_more start h.rest s _ p h.progress in
+      let faulted = faulted_more h.rest fault h.between.answerer t.output.answerer progress.1 h.faulted in
+      (record { rest = h.rest; between = h.between; progress = progress.0; faulted = faulted.0; told = h.told }, faulted.1)
+
   pub ends_more : (end : ServeEnd) (start : List ℕ) (s t : Line S) → P s.output.answerer → EndsFrom R L start end s t → EndsFrom M L start end s t × P t.output.answerer
   ends_more Closed start s t p h = rests_more start s t p h
   ends_more ReadFault start s t p h = rests_more start s t p h
   ends_more TurnsSpent start s t p h = rests_more start s t p h
-  ends_more WriteFault start s t p h =
-      let before = progress_more start h.held s h.between p h.before in
-      let breaks = breaks_more (h.held ++ h.piece) h.between.output t.output before.1 h.breaks in
-      (record { held = h.held; between = h.between; before = before.0; piece = h.piece; read = h.read; breaks = breaks.0 }, breaks.1)
-  ends_more (Fault fault) start s t p h =
-      let progress = progress_more start h.rest s _ p h.progress in
-      let faulted = faulted_more h.rest fault h.between.answerer t.output.answerer progress.1 h.faulted in
-      (record { rest = h.rest; between = h.between; progress = progress.0; faulted = faulted.0; told = h.told }, faulted.1)
+  ends_more WriteFault start s t p h = breaks_off_more start s t p h
+  ends_more (Fault fault) start s t p h = tells_more start fault s t p h
+
+-- the same of a visit, of which is known what is served
+module _ (R M : Serving → Item → List ℕ → Serving → Type 0) (L : Serving → Item → Serving → Type 0) (P : Serving → Type 0)
+    (answers : (s t : Serving) (item : Item) (bytes : List ℕ) → P s → R s item bytes t → M s item bytes t × P t) (gives_up : (s t : Serving) (item : Item) → P s → L s item t → P t) where
+  goes_more : (start rest : List ℕ) (s t : Line Serving) → P s.output.answerer → Goes R L start rest s t → Goes M L start rest s t × P t.output.answerer
+  goes_more start rest s t p h =
+      let r = progress_more R M L P answers gives_up start rest s t p h.progress in
+      (record { progress = r.0; undecided = h.undecided }, r.1)
+
+  pub visits_more : (end : VisitEnd) (start rest : List ℕ) (s t : Line Serving) → P s.output.answerer → Visits R L start rest end s t → Visits M L start rest end s t × P t.output.answerer
+  visits_more visit.More start rest s t p h = goes_more start rest s t p h
+  visits_more visit.Waits start rest s t p h = goes_more start rest s t p h
+  visits_more visit.Closed start rest s t p h = goes_more start rest s t p h
+  visits_more visit.ReadFault start rest s t p h = goes_more start rest s t p h
+  visits_more visit.WriteFault start rest s t p h = breaks_off_more R M L P answers gives_up start s t p h
+  visits_more (visit.Fault fault) start rest s t p h = tells_more R M L P answers gives_up start fault s t p h

@@ -97,39 +97,39 @@ module _ {B W C P S : Type 0} (d : Devices B W C P S) where
     lost_records (items.Response response) s t run = []
     lost_records (items.Frame frame) s t run = []
 
-  module _ {R : Type 0} where
+  module _ {R N : Type 0} where
     -- of the items of a connection
-    abbrev pub served_records : (served : List Item) (bytes : List ℕ) (s : Desk R B W C P S) (output : List ℕ) (t : Desk R B W C P S)
+    abbrev pub served_records : (served : List Item) (bytes : List ℕ) (s : Desk R B W C P S N) (output : List ℕ) (t : Desk R B W C P S N)
         → Served (AnswersAt d) (GivesUpAt d) served bytes s output t → List Record
     served_records [] bytes s output t run = []
     served_records (item ∷ earlier) bytes s output t run =
         served_records earlier run.front s run.first run.mid run.before ++ item_records (service run.mid) item run.last (state run.mid) (state t) run.answer.0
 
-    abbrev pub answered_records : (bytes rest : List ℕ) (s t : Output (Desk R B W C P S)) → Answered (AnswersAt d) (GivesUpAt d) bytes rest s t → List Record
+    abbrev pub answered_records : (bytes rest : List ℕ) (s t : Output (Desk R B W C P S N)) → Answered (AnswersAt d) (GivesUpAt d) bytes rest s t → List Record
     answered_records bytes rest s t run = served_records run.items run.done s.answerer run.output t.answerer run.served
 
     -- of what was left where memory ran out
-    abbrev pub fault_records : (rest : List ℕ) (fault : MessageFault) (s t : Desk R B W C P S) → Faulted (AnswersAt d) (GivesUpAt d) rest fault s t → List Record
+    abbrev pub fault_records : (rest : List ℕ) (fault : MessageFault) (s t : Desk R B W C P S N) → Faulted (AnswersAt d) (GivesUpAt d) rest fault s t → List Record
     fault_records rest fault s t (inl has) = []
     fault_records rest fault s t (inr (is, inl same)) = []
     fault_records rest fault s t (inr (is, inr lost)) = lost_records (service s) lost.item (state s) (state t) lost.left.0
 
-    abbrev pub faulted_records : (bytes : List ℕ) (fault : MessageFault) (s t : Output (Desk R B W C P S)) → FaultedAfter (AnswersAt d) (GivesUpAt d) bytes fault s t → List Record
+    abbrev pub faulted_records : (bytes : List ℕ) (fault : MessageFault) (s t : Output (Desk R B W C P S N)) → FaultedAfter (AnswersAt d) (GivesUpAt d) bytes fault s t → List Record
     faulted_records bytes fault s t run =
         answered_records bytes run.rest s (answered_by run.mid t) run.answered ++ fault_records run.rest fault run.mid t.answerer run.faulted
 
     -- of answers that are gathered in one text
-    abbrev pub gathered_records : (bytes text : List ℕ) (s t : Desk R B W C P S) → Gathered (AnswersAt d) (GivesUpAt d) bytes text s t → List Record
+    abbrev pub gathered_records : (bytes text : List ℕ) (s t : Desk R B W C P S N) → Gathered (AnswersAt d) (GivesUpAt d) bytes text s t → List Record
     gathered_records bytes text s t (inl run) = answered_records bytes run.0 (record { text = Some []; answerer = s }) (record { text = Some text; answerer = t }) run.1
     gathered_records bytes text s t (inr run) = faulted_records bytes run.0 (record { text = Some []; answerer = s }) (record { text = Some text; answerer = t }) run.1
 
     -- of items whose answers could be written in part only
-    abbrev pub cut_records : (bytes : List ℕ) (s t : Output (Desk R B W C P S)) → BreaksOff (AnswersAt d) (GivesUpAt d) bytes s t → List Record
+    abbrev pub cut_records : (bytes : List ℕ) (s t : Output (Desk R B W C P S N)) → BreaksOff (AnswersAt d) (GivesUpAt d) bytes s t → List Record
     cut_records bytes s t (inl run) = gathered_records bytes run.text s.answerer t.answerer run.gathered
     cut_records bytes s t (inr run) = faulted_records bytes run.fault s (with_text run.between t) run.faulted
 
     -- of a connection that has ended
-    abbrev pub end_records : (start : List ℕ) (end : ServeEnd) (s t : Line (Desk R B W C P S)) → EndsFrom (AnswersAt d) (GivesUpAt d) start end s t → List Record
+    abbrev pub end_records : (start : List ℕ) (end : ServeEnd) (s t : Line (Desk R B W C P S N)) → EndsFrom (AnswersAt d) (GivesUpAt d) start end s t → List Record
     end_records start Closed s t run = answered_records (start ++ run.progress.bytes) run.rest s.output t.output run.progress.answered
     end_records start ReadFault s t run = answered_records (start ++ run.progress.bytes) run.rest s.output t.output run.progress.answered
     end_records start TurnsSpent s t run = answered_records (start ++ run.progress.bytes) run.rest s.output t.output run.progress.answered
@@ -139,17 +139,17 @@ module _ {B W C P S : Type 0} (d : Devices B W C P S) where
         answered_records (start ++ run.progress.bytes) run.rest s.output run.between run.progress.answered ++ fault_records run.rest fault run.between.answerer t.output.answerer run.faulted
 
     -- what the seat has seen comes after what it had seen, and its entries have grown by these records and nothing else
-    abbrev pub GrowsBy : Desk R B W C P S → Desk R B W C P S → List Record → Type 0
+    abbrev pub GrowsBy : Desk R B W C P S N → Desk R B W C P S N → List Record → Type 0
     GrowsBy s t made = Grown (seat_view s.seat.now) (seat_view t.seat.now) made
 
-module _ {B W C P S : Type 0} (d : Devices B W C P S) (R : Type 0) where
+module _ {B W C P S : Type 0} (d : Devices B W C P S) (R N : Type 0) where
   -- so it is over what is answered of a connection, and over a whole one, by the records of the replies to its requests
   pub record ServedGrows : Type 0 where
-    pub answered : (bytes rest : List ℕ) (s t : Output (Desk R B W C P S)) (run : Takes d bytes rest s t) → GrowsBy d s.answerer t.answerer (answered_records d bytes rest s t run)
-    pub faulted : (bytes : List ℕ) (fault : MessageFault) (s t : Output (Desk R B W C P S)) (run : Faults d bytes fault s t) → GrowsBy d s.answerer t.answerer (faulted_records d bytes fault s t run)
-    pub ended : (start : List ℕ) (end : ServeEnd) (s t : Line (Desk R B W C P S)) (run : EndsFrom (AnswersAt d) (GivesUpAt d) start end s t)
+    pub answered : (bytes rest : List ℕ) (s t : Output (Desk R B W C P S N)) (run : Takes d bytes rest s t) → GrowsBy d s.answerer t.answerer (answered_records d bytes rest s t run)
+    pub faulted : (bytes : List ℕ) (fault : MessageFault) (s t : Output (Desk R B W C P S N)) (run : Faults d bytes fault s t) → GrowsBy d s.answerer t.answerer (faulted_records d bytes fault s t run)
+    pub ended : (start : List ℕ) (end : ServeEnd) (s t : Line (Desk R B W C P S N)) (run : EndsFrom (AnswersAt d) (GivesUpAt d) start end s t)
         → GrowsBy d s.output.answerer t.output.answerer (end_records d start end s t run)
 
   -- what the seat has seen comes after what it had seen, and its entries have grown by some records
-  abbrev pub Grows : Desk R B W C P S → Desk R B W C P S → Type 0
+  abbrev pub Grows : Desk R B W C P S N → Desk R B W C P S N → Type 0
   Grows s t = (made : List Record) × GrowsBy d s t made

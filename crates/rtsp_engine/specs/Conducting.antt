@@ -10,6 +10,7 @@ use Rattle.rtsp_book.specs.declared.steps.Step.{Step}
 use Rattle.rtsp_book.specs.declared.steps.Step.TheVariants as step
 use Rattle.rtsp_lock.specs.declared.view.View.{View}
 use Rattle.rtsp_lock.specs.Calls.{Acted}
+use Rattle.rtsp_lock.specs.Numbers.{admission_of}
 use Rattle.rtsp_admit.specs.Binder.{UnboundAll, freed_addresses}
 use Rattle.rtsp_admit.specs.Runs.{Admits}
 use Rattle.rtsp_state.specs.declared.fault.Fault.TheVariants as faults
@@ -30,13 +31,18 @@ use Rattle.rtsp_engine.specs.declared.conducting.SetUp.TheVariants.{NoShare, NoW
 use Rattle.rtsp_engine.specs.declared.desk.Asker.{Asker}
 use Rattle.rtsp_engine.specs.declared.drawing.GivenWords.{GivenWords}
 use Rattle.rtsp_engine.specs.declared.drawing.Lacking.{Lacking}
-use Rattle.rtsp_engine.specs.declared.drawing.Numbers.{Numbers}
+use Rattle.rtsp_engine.specs.declared.drawing.AdmissionNumbers.{AdmissionNumbers}
 use Rattle.rtsp_engine.specs.declared.drawing.Spent.{Spent}
 
 -- the session of a play that a step begins
 abbrev pub played : Step → Option ℕ
 played (step.Play play) = Some play.session
 played other = None
+
+-- the step of a plan names no number under which it would hold or add
+abbrev pub NamesNoNumber : Plan → Type 0
+NamesNoNumber (plans.Step plan) = admission_of plan.step ≡ None
+NamesNoNumber other = Unit {0}
 
 -- the ports that a step freed, each under its admission
 abbrev pub freed_by : Result (List Record) Refusal → List (ℕ × Thing)
@@ -49,7 +55,7 @@ moved_by (Ok made) = moved made
 moved_by (Err refusal) = None
 
 -- what is drawn for an admission
-abbrev pub drawn_with : ℕ → GivenWords → Numbers → Drawn
+abbrev pub drawn_with : ℕ → GivenWords → AdmissionNumbers → Drawn
 drawn_with conn given n = record {
   conn = conn;
   key = n.key;
@@ -94,7 +100,7 @@ module _ {B W C P S : Type 0} (d : Devices B W C P S) where
     pub shares : t.shares ≡ s.shares
 
   -- words are drawn, then numbers, and the admission is made with them
-  pub record Tries (conn : ℕ) (plan : SetupPlan) (n : Numbers) (made : Result Admitted Refusal) (s t : State B W C P S) : Type 0 where
+  pub record Tries (conn : ℕ) (plan : SetupPlan) (n : AdmissionNumbers) (made : Result Admitted Refusal) (s t : State B W C P S) : Type 0 where
     pub given : GivenWords
     pub words : GivesWords d.words (opens plan.session) given s.words t.words
     pub between : View

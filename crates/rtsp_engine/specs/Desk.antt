@@ -23,8 +23,8 @@ pub record Service : Type 0 where
 abbrev pub served : TableValue → Asker → Service
 served table asker = record { table = table; asker = asker }
 
-module _ {R B W C P S : Type 0} where
-  abbrev pub state : Desk R B W C P S → State B W C P S
+module _ {R B W C P S N : Type 0} where
+  abbrev pub state : Desk R B W C P S N → State B W C P S
   state desk = record {
     view = seat_view desk.seat.now;
     binder = desk.binder.now;
@@ -34,11 +34,11 @@ module _ {R B W C P S : Type 0} where
     shares = desk.shares.now;
   }
 
-  abbrev pub service : Desk R B W C P S → Service
+  abbrev pub service : Desk R B W C P S N → Service
   service desk = served desk.table.now desk.asker
 
   -- the same parts are lent, and the seat is the same seat
-  pub record SameParts (old new : Desk R B W C P S) : Type 0 where
+  pub record SameParts (old new : Desk R B W C P S N) : Type 0 where
     pub seat : new.seat.ghost_name ≡ old.seat.ghost_name
     pub binder : new.binder.ghost_name ≡ old.binder.ghost_name
     pub words : new.words.ghost_name ≡ old.words.ghost_name

@@ -8,7 +8,7 @@ use Rattle.rtsp_traits.specs.Devices.{WordCalls, Gave, Lacked}
 use Rattle.rtsp_engine.specs.declared.drawing.GivenWords.{GivenWords}
 use Rattle.rtsp_engine.specs.declared.drawing.Lacking.{Lacking}
 use Rattle.rtsp_engine.specs.declared.drawing.Lacking.TheVariants as lacking
-use Rattle.rtsp_engine.specs.declared.drawing.Numbers.{Numbers}
+use Rattle.rtsp_engine.specs.declared.drawing.AdmissionNumbers.{AdmissionNumbers}
 use Rattle.rtsp_engine.specs.declared.drawing.Spent.{Spent}
 use Rattle.rtsp_engine.specs.declared.drawing.Spent.TheVariants as spent
 
@@ -85,7 +85,7 @@ pub record DrawsNone (v u : View) : Type 0 where
   pub next : u.next ≡ 2 ^ 64 - 1
 
 -- the number of a session that is opened is drawn, whose id is given, and then the admission's
-pub record DrawsBoth (id : ℕ) (n : Numbers) (v u : View) : Type 0 where
+pub record DrawsBoth (id : ℕ) (n : AdmissionNumbers) (v u : View) : Type 0 where
   pub named : n.key.id ≡ id
   pub between : View
   pub session : Draws n.key.session v between
@@ -99,7 +99,7 @@ pub record LacksAdmission (v u : View) : Type 0 where
   pub lacks : DrawsNone between u
 
 -- the numbers of an admission: a living session keeps its own
-abbrev pub DrawsNumbers : SetupSession → ℕ → Numbers → View → View → Type 0
+abbrev pub DrawsNumbers : SetupSession → ℕ → AdmissionNumbers → View → View → Type 0
 DrawsNumbers (New expires startup) id n v u = DrawsBoth id n v u
 DrawsNumbers (Living key) id n v u = (n.key ≡ key) × Draws n.admission v u
 

@@ -22,7 +22,7 @@ abbrev pub serving_of : TableValue → Asker → BookSeat → Serving
 serving_of table asker seat = record { service = served table asker; view = seat_view seat }
 
 -- the same of a desk
-abbrev pub desk_serving : {R B W C P S : Type 0} → Desk R B W C P S → Serving
+abbrev pub desk_serving : {R B W C P S N : Type 0} → Desk R B W C P S N → Serving
 desk_serving desk = record { service = service desk; view = seat_view desk.seat.now }
 
 module _ {B W C P S : Type 0} (d : Devices B W C P S) where
@@ -43,3 +43,12 @@ module _ {B W C P S : Type 0} (d : Devices B W C P S) where
     pub sees : after.view ≡ new.view
     pub same : new.service ≡ old.service
     pub gives_up : GivesUp d old.service item before after
+
+  module _ (meant : Serving → Item → Item) where
+    -- what an item is taken to mean is answered with these bytes
+    abbrev pub AnswersMeant : Serving → Item → List ℕ → Serving → Type 0
+    AnswersMeant old item bytes new = AnswersFrom old (meant old item) bytes new
+
+    -- memory ran out over it
+    abbrev pub GivesUpMeant : Serving → Item → Serving → Type 0
+    GivesUpMeant old item new = GivesUpFrom old (meant old item) new

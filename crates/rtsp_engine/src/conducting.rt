@@ -1,25 +1,28 @@
 //! How a plan is conducted: its response gets room first; then the step is acted, or the admission
 //! is made; and what came of it is written, which takes no memory.
 
-ghost use Rattle.std.specs.Prelude.{◌≡◌, ◌≤◌, ◌++◌, OnOk, OnErr};
+ghost use Rattle.std.specs.Prelude.{◌≡◌, ◌≤◌, ◌++◌, OnOk, OnErr, None};
 ghost use Rattle.rtsp_grammar.specs.Writing.{response_text};
 ghost use Rattle.rtsp_book.specs.Receipts.{filled};
 ghost use Rattle.rtsp_book.specs.Replies.{IsAskable};
 ghost use Rattle.rtsp_lock.specs.Calls.{seat_view, IsSeatOf, SameSeat, Acted};
+ghost use Rattle.rtsp_lock.specs.Numbers.{admission_of, MayName};
 ghost use Rattle.rtsp_admit.specs.Binder.{UnboundAll};
 ghost use Rattle.rtsp_state.specs.Answer.{setup_answer};
 ghost use Rattle.rtsp_state.specs.Bounds.{setup_room};
 ghost use Rattle.rtsp_state.specs.Conduct.{IsConducted};
-ghost use Rattle.rtsp_engine.specs.Conducting.{played, freed_by, drawn_with, opened, setup_response, HasPlace, SetsUp, AsksShare};
+ghost use Rattle.rtsp_engine.specs.Conducting.{NamesNoNumber, played, freed_by, drawn_with, opened, setup_response, HasPlace, SetsUp, AsksShare};
 ghost use Rattle.rtsp_engine.specs.Desk.{state, SameParts};
 ghost use Rattle.rtsp_traits.specs.Devices.{devices, Noted, NotNoted, Settled};
 ghost use Rattle.rtsp_engine.specs.Writing.{WritesStep, WritesSetup, WritesOutcome, WantsOutcome};
 
 use crate::desk::Desk;
-use crate::drawing::{GivenWords, Lacking, Numbers, Spent, draw_numbers, draw_words, opens};
+use crate::drawing::{
+    AdmissionNumbers, GivenWords, Lacking, Spent, draw_numbers, draw_words, opens,
+};
 use rtsp_admit::{Binder, admit_into, unbind_freed};
 use rtsp_book::{Admitted, Receipt, Refusal, Step};
-use rtsp_lock::{BookLock, BookSeat};
+use rtsp_lock::{BookLock, BookSeat, Numbers};
 use rtsp_record::Phase;
 use rtsp_state::{Drawn, Plan, Reply, Room, SessionKey, SetupPlan, Status, StepPlan, moved};
 use rtsp_traits::{Clock, Plays, ShareSpent, Shares, Words};
@@ -34,7 +37,7 @@ pub(crate) enum SetUp {
     NoWord(Lacking),
     NoNumber(Spent),
     // What came of its admission.
-    Tried(Numbers, Result<Admitted, Refusal>),
+    Tried(AdmissionNumbers, Result<Admitted, Refusal>),
 }
 
 // The session of a play that a step begins.
@@ -74,16 +77,17 @@ fn settle<P: Plays>(plays: &mut P, step: &Step, begun: Option<Phase>)
 }
 
 // Acts a step, and unbinds the ports that it freed.
-fn act_step<R: Wait, B: Binder>(
+fn act_step<R: Wait, N: Numbers, B: Binder>(
     rt: &R,
     seat: &mut BookSeat,
-    lock: &BookLock,
+    lock: &BookLock<N>,
     binder: &mut B,
     step: &Step,
     made: &mut Receipt,
 ) -> Result<(), Refusal>
     requires own { IsSeatOf seat.old lock.now }
     requires askable { IsAskable step.now }
+    requires names { MayName N.drawn (seat_view seat.old) step.now }
     ensures same { SameSeat seat.old seat.new }
     ensures acted { Acted (seat_view seat.old) (seat_view seat.new) step.now (filled result made.new) }
     ensures unbound { UnboundAll B.calls (freed_by (filled result made.new)) binder.old binder.new }
@@ -99,14 +103,15 @@ fn act_step<R: Wait, B: Binder>(
 
 // Notes a play, acts the step, writes what came of it, and settles the play.
 #[inline(never)]
-fn conduct_step<R: Wait, B: Binder, W: Words, C: Clock, P: Plays, S: Shares>(
+fn conduct_step<R: Wait, B: Binder, W: Words, C: Clock, P: Plays, S: Shares, N: Numbers>(
     alloc: Global,
-    desk: &mut Desk<'_, R, B, W, C, P, S>,
+    desk: &mut Desk<'_, R, B, W, C, P, S, N>,
     uri: &[u8],
     plan: &StepPlan,
     room: &mut Room,
 ) -> Result<(), AllocError>
-    requires { IsAskable plan.now.step }
+    requires askable { IsAskable plan.now.step }
+    requires names { admission_of plan.now.step ≡ None }
     ensures same { SameParts desk.old desk.new }
     ensures ok { OnOk result (WritesStep (devices B.calls W.calls C.tells P.calls S.calls) uri.now plan.now desk.old room.old desk.new room.new) }
     ensures err { OnErr result (WantsOutcome (devices B.calls W.calls C.tells P.calls S.calls) desk.old desk.new) }
@@ -134,7 +139,7 @@ fn conduct_step<R: Wait, B: Binder, W: Words, C: Clock, P: Plays, S: Shares>(
     Ok(())
 }
 
-fn drawn_with(conn: u64, given: GivenWords, numbers: Numbers) -> Drawn
+fn drawn_with(conn: u64, given: GivenWords, numbers: AdmissionNumbers) -> Drawn
     ensures { result ≡ drawn_with conn given numbers }
 {
     Drawn {
@@ -148,8 +153,8 @@ fn drawn_with(conn: u64, given: GivenWords, numbers: Numbers) -> Drawn
 }
 
 // Draws words, then numbers, and makes the admission with them.
-fn admit_drawn<R: Wait, B: Binder, W: Words, C: Clock, P: Plays, S: Shares>(
-    desk: &mut Desk<'_, R, B, W, C, P, S>,
+fn admit_drawn<R: Wait, B: Binder, W: Words, C: Clock, P: Plays, S: Shares, N: Numbers>(
+    desk: &mut Desk<'_, R, B, W, C, P, S, N>,
     plan: &SetupPlan,
 ) -> SetUp
     ensures same { SameParts desk.old desk.new }
@@ -187,8 +192,8 @@ fn opened(outcome: SetUp) -> Option<u64>
 
 // Sets a track up. Where that is to open a session, a place for it is taken before any word or
 // number is drawn, and settled once it is known what came of it.
-fn set_up<R: Wait, B: Binder, W: Words, C: Clock, P: Plays, S: Shares>(
-    desk: &mut Desk<'_, R, B, W, C, P, S>,
+fn set_up<R: Wait, B: Binder, W: Words, C: Clock, P: Plays, S: Shares, N: Numbers>(
+    desk: &mut Desk<'_, R, B, W, C, P, S, N>,
     plan: &SetupPlan,
 ) -> SetUp
     ensures same { SameParts desk.old desk.new }
@@ -240,8 +245,8 @@ fn answer_setup(plan: &SetupPlan, outcome: SetUp, room: &mut Room)
 }
 
 #[inline(never)]
-fn conduct_setup<R: Wait, B: Binder, W: Words, C: Clock, P: Plays, S: Shares>(
-    desk: &mut Desk<'_, R, B, W, C, P, S>,
+fn conduct_setup<R: Wait, B: Binder, W: Words, C: Clock, P: Plays, S: Shares, N: Numbers>(
+    desk: &mut Desk<'_, R, B, W, C, P, S, N>,
     plan: &SetupPlan,
     room: &mut Room,
 ) -> Result<(), AllocError>
@@ -268,14 +273,15 @@ pub(crate) fn reply_with(reply: &Reply, room: &mut Room) -> Result<(), AllocErro
 
 /// Conducts the plan of a request. Memory is taken for its response, and to note a play, before
 /// anything else is done.
-pub(crate) fn conduct<R: Wait, B: Binder, W: Words, C: Clock, P: Plays, S: Shares>(
+pub(crate) fn conduct<R: Wait, B: Binder, W: Words, C: Clock, P: Plays, S: Shares, N: Numbers>(
     alloc: Global,
-    desk: &mut Desk<'_, R, B, W, C, P, S>,
+    desk: &mut Desk<'_, R, B, W, C, P, S, N>,
     uri: &[u8],
     plan: &Plan,
     room: &mut Room,
 ) -> Result<(), AllocError>
-    requires { IsConducted plan.now }
+    requires conducted { IsConducted plan.now }
+    requires names { NamesNoNumber plan.now }
     ensures same { SameParts desk.old desk.new }
     ensures ok { OnOk result (WritesOutcome (devices B.calls W.calls C.tells P.calls S.calls) uri.now plan.now desk.old room.old desk.new room.new) }
     ensures err { OnErr result (WantsOutcome (devices B.calls W.calls C.tells P.calls S.calls) desk.old desk.new) }

@@ -13,15 +13,16 @@ use crate::renewing::{look, renew};
 use rtsp_admit::Binder;
 use rtsp_book::SessionView;
 use rtsp_grammar::{Item, Request};
+use rtsp_lock::Numbers;
 use rtsp_state::{ParsedRequest, Room, Screen, decide, screen};
 use rtsp_traits::{Clock, Plays, Shares, Words};
 use std::alloc::{AllocError, Global};
 use std::sync::Wait;
 
 // Conducts a request with its session as it is after its renewal.
-fn respond_renewed<R: Wait, B: Binder, W: Words, C: Clock, P: Plays, S: Shares>(
+fn respond_renewed<R: Wait, B: Binder, W: Words, C: Clock, P: Plays, S: Shares, N: Numbers>(
     alloc: Global,
-    desk: &mut Desk<'_, R, B, W, C, P, S>,
+    desk: &mut Desk<'_, R, B, W, C, P, S, N>,
     uri: &[u8],
     request: ParsedRequest<'_>,
     moment: u64,
@@ -41,9 +42,9 @@ fn respond_renewed<R: Wait, B: Binder, W: Words, C: Clock, P: Plays, S: Shares>(
 }
 
 // Answers a request with the session that was found at this moment.
-fn respond_found<R: Wait, B: Binder, W: Words, C: Clock, P: Plays, S: Shares>(
+fn respond_found<R: Wait, B: Binder, W: Words, C: Clock, P: Plays, S: Shares, N: Numbers>(
     alloc: Global,
-    desk: &mut Desk<'_, R, B, W, C, P, S>,
+    desk: &mut Desk<'_, R, B, W, C, P, S, N>,
     uri: &[u8],
     request: ParsedRequest<'_>,
     moment: u64,
@@ -68,9 +69,9 @@ fn respond_found<R: Wait, B: Binder, W: Words, C: Clock, P: Plays, S: Shares>(
 // Answers a request that names a session, which may be none that lives. It stands apart, so that a
 // request that names none doesn't pay for a session's room on the stack.
 #[inline(never)]
-fn respond_named<R: Wait, B: Binder, W: Words, C: Clock, P: Plays, S: Shares>(
+fn respond_named<R: Wait, B: Binder, W: Words, C: Clock, P: Plays, S: Shares, N: Numbers>(
     alloc: Global,
-    desk: &mut Desk<'_, R, B, W, C, P, S>,
+    desk: &mut Desk<'_, R, B, W, C, P, S, N>,
     uri: &[u8],
     request: ParsedRequest<'_>,
     room: &mut Room,
@@ -89,9 +90,9 @@ fn respond_named<R: Wait, B: Binder, W: Words, C: Clock, P: Plays, S: Shares>(
 }
 
 // Answers a request that nothing refuses before its session is looked up.
-fn respond_parsed<R: Wait, B: Binder, W: Words, C: Clock, P: Plays, S: Shares>(
+fn respond_parsed<R: Wait, B: Binder, W: Words, C: Clock, P: Plays, S: Shares, N: Numbers>(
     alloc: Global,
-    desk: &mut Desk<'_, R, B, W, C, P, S>,
+    desk: &mut Desk<'_, R, B, W, C, P, S, N>,
     uri: &[u8],
     request: ParsedRequest<'_>,
     room: &mut Room,
@@ -113,9 +114,9 @@ fn respond_parsed<R: Wait, B: Binder, W: Words, C: Clock, P: Plays, S: Shares>(
 /// Answers a request: its response is written behind what is in the room. Where memory runs out,
 /// nothing has happened, or the session that the request names was renewed and nothing else was
 /// done.
-pub fn respond<R: Wait, B: Binder, W: Words, C: Clock, P: Plays, S: Shares>(
+pub fn respond<R: Wait, B: Binder, W: Words, C: Clock, P: Plays, S: Shares, N: Numbers>(
     alloc: Global,
-    desk: &mut Desk<'_, R, B, W, C, P, S>,
+    desk: &mut Desk<'_, R, B, W, C, P, S, N>,
     request: &Request,
     room: &mut Room,
 ) -> Result<(), AllocError>
@@ -132,8 +133,8 @@ pub fn respond<R: Wait, B: Binder, W: Words, C: Clock, P: Plays, S: Shares>(
     }
 }
 
-impl<R: Wait, B: Binder, W: Words, C: Clock, P: Plays, S: Shares> Answerer
-    for Desk<'_, R, B, W, C, P, S> {
+impl<R: Wait, B: Binder, W: Words, C: Clock, P: Plays, S: Shares, N: Numbers> Answerer
+    for Desk<'_, R, B, W, C, P, S, N> {
     ghost answers = { AnswersAt (devices B.calls W.calls C.tells P.calls S.calls) };
 
     ghost gives_up = { GivesUpAt (devices B.calls W.calls C.tells P.calls S.calls) };

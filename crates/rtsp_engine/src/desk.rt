@@ -4,7 +4,7 @@ ghost use Rattle.rtsp_lock.specs.Calls.{IsSeatOf};
 
 use rtsp_book::Receipt;
 use rtsp_content::Table;
-use rtsp_lock::{BookLock, BookSeat};
+use rtsp_lock::{AnyNumbers, BookLock, BookSeat, Numbers};
 
 /// Who asks: the connection's number, and the player's IPv4 address.
 #[derive(Clone, Copy)]
@@ -18,10 +18,10 @@ pub struct Asker {
 /// the sessions of each address, the content, and who asks. A receipt is 3.7 kB, so it goes from one
 /// request to the next, and is made for none.
 #[derive(Drop)]
-pub struct Desk<'a, R, B, W, C, P, S> {
+pub struct Desk<'a, R, B, W, C, P, S, N: Numbers = AnyNumbers> {
     pub rt: &'a R,
     pub seat: &'a mut BookSeat,
-    pub lock: &'a BookLock,
+    pub lock: &'a BookLock<N>,
     pub made: &'a mut Receipt,
     pub binder: &'a mut B,
     pub words: &'a mut W,

@@ -5,7 +5,7 @@ ghost use Rattle.rtsp_lock.specs.Calls.{seat_view, IsSeatOf, SameSeat};
 ghost use Rattle.rtsp_engine.specs.Drawing.{opens, GivesId, LacksId, GivesWords, LacksWord, Draws, DrawsNone, DrawsNumbers, LacksNumber};
 
 use rtsp_book::NumbersSpent;
-use rtsp_lock::{BookLock, BookSeat};
+use rtsp_lock::{BookLock, BookSeat, Numbers};
 use rtsp_state::{SessionKey, SetupSession};
 use rtsp_traits::{Words, WordsFault};
 use std::sync::Wait;
@@ -30,7 +30,7 @@ pub(crate) enum Lacking {
 
 // The numbers of an admission: its session's key, and its own.
 #[derive(Clone, Copy)]
-pub(crate) struct Numbers {
+pub(crate) struct AdmissionNumbers {
     pub(crate) key: SessionKey,
     pub(crate) admission: u64,
 }
@@ -82,7 +82,11 @@ pub(crate) fn draw_words<W: Words>(words: &mut W, opens: bool) -> Result<GivenWo
 }
 
 // One number.
-fn draw<R: Wait>(rt: &R, seat: &mut BookSeat, lock: &BookLock) -> Result<u64, NumbersSpent>
+fn draw<R: Wait, N: Numbers>(
+    rt: &R,
+    seat: &mut BookSeat,
+    lock: &BookLock<N>,
+) -> Result<u64, NumbersSpent>
     requires { IsSeatOf seat.old lock.now }
     ensures same { SameSeat seat.old seat.new }
     ensures ok { IfOk result (λ n. Draws n (seat_view seat.old) (seat_view seat.new)) }
@@ -92,13 +96,13 @@ fn draw<R: Wait>(rt: &R, seat: &mut BookSeat, lock: &BookLock) -> Result<u64, Nu
 }
 
 // The number of a session that is opened, then the admission's. A new session gets this id.
-pub(crate) fn draw_numbers<R: Wait>(
+pub(crate) fn draw_numbers<R: Wait, N: Numbers>(
     rt: &R,
     seat: &mut BookSeat,
-    lock: &BookLock,
+    lock: &BookLock<N>,
     session: SetupSession,
     id: u128,
-) -> Result<Numbers, Spent>
+) -> Result<AdmissionNumbers, Spent>
     requires { IsSeatOf seat.old lock.now }
     ensures same { SameSeat seat.old seat.new }
     ensures ok { IfOk result (λ n. DrawsNumbers session id n (seat_view seat.old) (seat_view seat.new)) }
@@ -107,7 +111,7 @@ pub(crate) fn draw_numbers<R: Wait>(
     match session {
         SetupSession::New { .. } => match draw(rt, seat, lock) {
             Ok(session) => match draw(rt, seat, lock) {
-                Ok(admission) => Ok(Numbers {
+                Ok(admission) => Ok(AdmissionNumbers {
                     key: SessionKey { session, id },
                     admission,
                 }),
@@ -116,7 +120,7 @@ pub(crate) fn draw_numbers<R: Wait>(
             Err(NumbersSpent) => Err(Spent::Session),
         },
         SetupSession::Living(key) => match draw(rt, seat, lock) {
-            Ok(admission) => Ok(Numbers { key, admission }),
+            Ok(admission) => Ok(AdmissionNumbers { key, admission }),
             Err(NumbersSpent) => Err(Spent::Admission),
         },
     }

@@ -33,7 +33,8 @@ pub use conversing::respond;
 pub use desk::{Asker, Desk};
 pub use fault_responses::fault_response;
 pub use laws::{
-    law_never_wants_place, law_served_cleanly, law_served_grows, law_served_keeps_numbers,
+    law_never_wants_place, law_served_cleanly, law_served_drawn, law_served_grows,
+    law_served_keeps_numbers, law_visited_drawn,
 };
 pub use piece_reader::PieceReader;
 pub use rtsp_admit::{BindFault, Binder, law_owns_all};

@@ -8,7 +8,7 @@ ghost use Rattle.rtsp_engine.specs.Renewing.{lock_name, Looks, RenewsTo, Renews,
 use crate::desk::Asker;
 use rtsp_book::{Receipt, SessionView, Startup, Step};
 use rtsp_content::Table;
-use rtsp_lock::{BookLock, BookSeat, Name as LockName};
+use rtsp_lock::{BookLock, BookSeat, Name as LockName, Numbers};
 use rtsp_state::{Name, ParsedRequest, Reply, renewal, renewal_refused};
 use std::sync::Wait;
 
@@ -23,10 +23,10 @@ fn lock_name(conn: u64, name: Name) -> LockName
 }
 
 // Puts the living session of a name into the place.
-pub(crate) fn look<R: Wait>(
+pub(crate) fn look<R: Wait, N: Numbers>(
     rt: &R,
     seat: &mut BookSeat,
-    lock: &BookLock,
+    lock: &BookLock<N>,
     conn: u64,
     name: Option<Name>,
     found: &mut Option<SessionView>,
@@ -42,10 +42,10 @@ pub(crate) fn look<R: Wait>(
 }
 
 // Renews the session that was found to this moment, and looks it up again where that was recorded.
-fn renew_until<R: Wait>(
+fn renew_until<R: Wait, N: Numbers>(
     rt: &R,
     seat: &mut BookSeat,
-    lock: &BookLock,
+    lock: &BookLock<N>,
     conn: u64,
     request: &ParsedRequest<'_>,
     until: u64,
@@ -80,10 +80,10 @@ fn renew_until<R: Wait>(
 
 // Renews the session that was found, where it is to be renewed. Afterwards `found` is as the session
 // then is. A refused renewal is answered at once.
-pub(crate) fn renew<R: Wait>(
+pub(crate) fn renew<R: Wait, N: Numbers>(
     rt: &R,
     seat: &mut BookSeat,
-    lock: &BookLock,
+    lock: &BookLock<N>,
     table: &Table,
     asker: Asker,
     request: &ParsedRequest<'_>,

@@ -17,6 +17,7 @@ use Rattle.rtsp_book.specs.Made.{ending_found, hanging_up}
 use Rattle.rtsp_sessions.proofs.FirstRows.{first_passes, none_passes}
 use Rattle.rtsp_lock.specs.declared.view.View.{View}
 use Rattle.rtsp_lock.specs.Calls.{Acted}
+use Rattle.rtsp_lock.specs.Numbers.{admission_of}
 use Rattle.rtsp_expiry.specs.Sweeps.{IsSweeping}
 use Rattle.rtsp_expiry.specs.Endings.{leaving, ended, NoneLeft}
 
@@ -62,6 +63,12 @@ pub askable : (s : Step) → IsSweeping s → IsAskable s
 askable (step.Expire now) is = tt
 askable (step.Hangup conn) is = tt
 askable other is = absurd is
+
+-- and name no number
+pub names_no_number : (s : Step) → IsSweeping s → admission_of s ≡ None
+names_no_number (step.Expire now) is = refl
+names_no_number (step.Hangup conn) is = refl
+names_no_number other is = absurd is
 
 -- a step of a sweep is refused where nothing is due, and only then
 pub only_nothing : (w : Whole) (j : List Entry) (s : Step) (refusal : Refusal) → IsSweeping s → Answers w j s (Err refusal) → refusal ≡ NothingDue

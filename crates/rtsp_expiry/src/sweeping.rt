@@ -10,7 +10,7 @@ ghost use Rattle.rtsp_expiry.specs.Endings.{EndsExpired, NoneExpired, EndsOn, No
 use crate::swept::Swept;
 use rtsp_admit::{Binder, unbind_freed};
 use rtsp_book::{Receipt, Step};
-use rtsp_lock::{BookLock, BookSeat};
+use rtsp_lock::{BookLock, BookSeat, Numbers};
 use rtsp_record::Record;
 use std::sync::Wait;
 
@@ -27,10 +27,10 @@ fn session_in(made: &[Record]) -> Option<u64>
 // Acts the step until nothing is due, or until it was accepted `limit` times, and unbinds the ports
 // that each step freed.
 #[tactic(auto, using(crate::proofs::Finding::askable))]
-fn act_all<R: Wait, B: Binder>(
+fn act_all<R: Wait, N: Numbers, B: Binder>(
     rt: &R,
     seat: &mut BookSeat,
-    lock: &BookLock,
+    lock: &BookLock<N>,
     binder: &mut B,
     step: &Step,
     limit: u32,
@@ -67,10 +67,10 @@ fn act_all<R: Wait, B: Binder>(
 /// Ends sessions whose expiry is at most `now`, in milliseconds, the least number first, and
 /// unbinds the ports that each frees. It ends at most `limit` sessions; then there may be more.
 /// Otherwise none that has expired is left in the journal last seen.
-pub fn sweep<R: Wait, B: Binder>(
+pub fn sweep<R: Wait, N: Numbers, B: Binder>(
     rt: &R,
     seat: &mut BookSeat,
-    lock: &BookLock,
+    lock: &BookLock<N>,
     binder: &mut B,
     now: u64,
     limit: u32,
@@ -88,10 +88,10 @@ pub fn sweep<R: Wait, B: Binder>(
 /// its startup numbers away from the others, the least session first, and unbinds the ports that
 /// each frees. It takes at most `limit` steps; then there may be more. Otherwise no session is on
 /// the connection in the journal last seen.
-pub fn hang_up<R: Wait, B: Binder>(
+pub fn hang_up<R: Wait, N: Numbers, B: Binder>(
     rt: &R,
     seat: &mut BookSeat,
-    lock: &BookLock,
+    lock: &BookLock<N>,
     binder: &mut B,
     conn: u64,
     limit: u32,

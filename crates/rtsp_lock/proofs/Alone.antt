@@ -1,5 +1,5 @@
 -- The only seat of a lock.
-use Rattle.std.proofs.Common.{◌≡◌, ℕ, zero, suc, true, List, [], ◌∷◌, ◌++◌, length, set, refl, ap, sym, ◌∙◌, arith, length-set, true≢false}
+use Rattle.std.proofs.Common.{◌≡◌, ℕ, zero, suc, Bool, true, List, [], ◌∷◌, ◌++◌, length, set, refl, ap, sym, ◌∙◌, arith, length-set, true≢false}
 use mathlib.Core.Option.{some, some-injective, some-ne-none}
 use lib.ListN.{get_elem?}
 use Rattle.rtsp_record.specs.declared.changes.Entry.{Entry}
@@ -17,9 +17,9 @@ one_place (z ∷ []) zero (suc k) x y one ex ey = absurd (some-ne-none y (sym ey
 one_place (z ∷ []) (suc i) k x y one ex ey = absurd (some-ne-none x (sym ex))
 one_place (z ∷ t ∷ zs) i k x y one ex ey = absurd (omega (arith, one))
 
-pub alone_first : (w : Whole) → EachAlone [] (first_view w ∷ [])
-alone_first w zero v e _ = record { one = refl; seen = λ _. ap (λ (x : View). x.seen) (sym (some-injective (first_view w) v e)) }
-alone_first w (suc k) v e _ = absurd (some-ne-none v (sym e))
+pub alone_first : (drawn : Bool) (w : Whole) → EachAlone [] (first_view drawn w ∷ [])
+alone_first drawn w zero v e _ = record { one = refl; seen = λ _. ap (λ (x : View). x.seen) (sym (some-injective (first_view drawn w) v e)) }
+alone_first drawn w (suc k) v e _ = absurd (some-ne-none v (sym e))
 
 -- a holder's view changes
 pub alone_set : (j : List Entry) (views : List View) (id : ℕ) (v u : View) → EachAlone j views → get_elem? views id ≡ some v → u.alone ≡ v.alone → u.holds ≡ true → EachAlone j (set views id u)

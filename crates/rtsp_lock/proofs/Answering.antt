@@ -1,6 +1,6 @@
 -- What a call promises, from what it found and what it put back.
 use mathlib.Core.List.{IsPrefix}
-use Rattle.std.proofs.Common.{◌≡◌, true, ℕ, ◌+◌, ◌-◌, ◌≤◌, ◌<◌, ⊎_elim, inl, inr, List, [], ◌∷◌, ◌++◌, length, drop, ap, sym, ◌∙◌, subst, arith, append-nil, le_refl, refl, Option, Result, Ok, Err, IfOk, OnErr}
+use Rattle.std.proofs.Common.{◌≡◌, Bool, true, ◌⊎◌, ℕ, ◌+◌, ◌-◌, ◌≤◌, ◌<◌, ⊎_elim, inl, inr, List, [], ◌∷◌, ◌++◌, length, drop, ap, sym, ◌∙◌, subst, arith, append-nil, le_refl, refl, Option, Result, Ok, Err, IfOk, OnErr}
 use Rattle.std.proofs.Math.Seq.{drop-append_seam}
 use Rattle.std.proofs.Math.ListN.{drop_of_length-le}
 use Rattle.atomic_table.specs.Table.{Me}
@@ -20,14 +20,18 @@ use Rattle.rtsp_book.specs.Kept.{History, history, entries_by, extended, shorten
 use Rattle.rtsp_book.proofs.LeavingOut.{either_way}
 use Rattle.rtsp_book.specs.Answers.{Answers, written, noted_by}
 use Rattle.rtsp_lock.specs.declared.view.View.{View}
-use Rattle.rtsp_lock.specs.Entries.{entries_of, OnlyOf, Later, LeftOf, IsHistoryOf}
+use Rattle.rtsp_lock.specs.Entries.{entries_of, OnlyOf, Later, LeftOf, IsHistoryOf, Has}
+use Rattle.rtsp_lock.specs.Numbers.{uses, is_use_of, UnderThese, MayName, IsBacked, UsedBy, IsUnusedFrom}
 use Rattle.rtsp_lock.specs.Rule.{Fits, Leaves, Abreast, first_view}
 use Rattle.rtsp_lock.specs.Steps.{Follows, holding, noting, settled, parent, child, numbers}
 use Rattle.rtsp_lock.specs.Calls.{Found, Stays, Acted, Looked, Drew, Made, Forgot}
-use Rattle.rtsp_lock.proofs.Entries.{prefix_self, later_self, left_own, left_ended, left_none, only_by}
+use Rattle.rtsp_lock.proofs.Entries.{prefix_self, later_self, left_own, left_ended, left_none, only_by, only_more, only_none, only_passing, has_append, has_numbers}
 use Rattle.rtsp_lock.proofs.Holder.{ended_shorter}
 use Rattle.rtsp_lock.proofs.Histories.{history_more, history_ended, history_same, own_more}
 use Rattle.rtsp_lock.proofs.Abreast.{abreast_more, abreast_same, abreast_later}
+use Rattle.rtsp_lock.proofs.Backing.{backed_more, backed_still, backed_ended}
+use Rattle.rtsp_lock.proofs.Using.{answered_under, under_none}
+use Rattle.rtsp_lock.proofs.Naming.{names_drawn}
 
 -- the view of a seat that is known
 pub view_is : {m m' : Me (Option History) View} → m ≡ m' → m.0 ≡ m'.0
@@ -66,6 +70,18 @@ pub record After (v v' : View) (s : List Entry) (k k' : History) (es : List Entr
   pub drawn : IsPrefix v.drawn v'.drawn
   pub alone : v'.alone ≡ v.alone
   pub cut : v'.cut ≡ v.cut
+  pub same_numbers : v'.numbers_drawn ≡ v.numbers_drawn
+  pub drew : (n : ℕ) → Has v'.drawn n → Has v.drawn n ⊎ (k.next ≤ n)
+
+-- what stands in the numbers from one on, behind others, is one of those or none below it
+drew_from : (drawn : List ℕ) (from next : ℕ) (now : List ℕ) → now ≡ drawn ++ numbers from (next - from) → (n : ℕ) → Has now n → Has drawn n ⊎ (from ≤ n)
+drew_from drawn from next now is n has =
+    ⊎_elim (λ (old : Has drawn n). inl old) (λ (new : Has (numbers from (next - from)) n). inr (has_numbers from (next - from) n new).0) (has_append drawn (numbers from (next - from)) n (subst (λ (l : List ℕ). Has l n) is has))
+
+-- no number stands in none
+drew_none : (drawn : List ℕ) (from below : ℕ) (now : List ℕ) → now ≡ drawn ++ numbers from (from - from) → (n : ℕ) → Has now n → Has drawn n ⊎ (below ≤ n)
+drew_none drawn from below now is n has =
+    ⊎_elim (λ (old : Has drawn n). inl old) (λ (new : Has (numbers from (from - from)) n). let b = has_numbers from (from - from) n new in absurd (omega (arith, b.0, b.1))) (has_append drawn (numbers from (from - from)) n (subst (λ (l : List ℕ). Has l n) is has))
 
 pub after : (v v' v1 v2 : View) (s : List Entry) (k k' : History) (es : List Entry) → v1 ≡ held_as v s k → v2 ≡ noted_as v1 k' → v' ≡ settled v2 → drop (length k.journal) k'.journal ≡ es
     → After v v' s k k' es × (v'.drawn ≡ v.drawn ++ numbers k.next (k'.next - k.next))
@@ -82,13 +98,15 @@ after v v' v1 v2 s k k' es held noted put more =
         drawn = (numbers k.next (k'.next - k.next), sym (ap (λ (x : View). x.drawn) e));
         alone = ap (λ (x : View). x.alone) e;
         cut = ap (λ (x : View). x.cut) e;
+        same_numbers = ap (λ (x : View). x.numbers_drawn) e;
+        drew = drew_from v.drawn k.next k'.next v'.drawn (ap (λ (x : View). x.drawn) e);
       },
       ap (λ (x : View). x.drawn) e,
     )
 
 -- the same, told of the seat as it was before
 pub after_alone : {v v' : View} {s : List Entry} {k k' : History} {es : List Entry} → After v v' s k k' es → After v (record v' { alone = v.alone; cut = v.cut }) s k k' es
-after_alone a = record { whole = a.whole; actor = a.actor; seen = a.seen; rounds = a.rounds; mine = a.mine; next = a.next; history = a.history; drawn = a.drawn; alone = refl; cut = refl }
+after_alone a = record { whole = a.whole; actor = a.actor; seen = a.seen; rounds = a.rounds; mine = a.mine; next = a.next; history = a.history; drawn = a.drawn; alone = refl; cut = refl; same_numbers = a.same_numbers; drew = a.drew }
 
 -- what stands behind what was found, where entries were added
 pub added_is : (j j' es : List Entry) → j' ≡ j ++ es → drop (length j) j' ≡ es
@@ -121,6 +139,8 @@ after_cut v v' v1 v2 v3 s k k' held noted cut put same =
       drawn = (numbers k'.next (k'.next - k'.next), sym (ap (λ (x : View). x.drawn) e));
       alone = refl;
       cut = refl;
+      same_numbers = ap (λ (x : View). x.numbers_drawn) e;
+      drew = drew_none v.drawn k'.next k.next v'.drawn (ap (λ (x : View). x.drawn) e);
     }
 
 -- what a seat has follows once its own entries stand behind the history
@@ -131,11 +151,31 @@ follows_now v v' s k k' es a follows told own = record {
   mine = a.mine ∙ (ap (λ (l : List Entry). l ++ es) follows.mine ∙ (own_more v.actor s es own ∙ (λ i. entries_of (sym a.actor i) (sym a.history i))));
 }
 
+-- what a seat found of uses, in the history of the journal found
+pub record Uses (v : View) (s : List Entry) (k : History) : Type 0 where
+  pub used : UsedBy v s k.journal
+  pub unused : IsUnusedFrom k.next v s
+
+-- none but the seat uses its numbers once its own entries stand behind the history
+used_now : (v v' : View) (s : List Entry) (k k' : History) (es : List Entry) → After v v' s k k' es → Uses v s k → OnlyOf v.actor es → IsBacked (s ++ es) k'.journal → UsedBy v' v'.history v'.seen
+used_now v v' s k k' es a u own backed = record {
+  own = λ on n has.
+      let was : v.numbers_drawn ≡ true = sym a.same_numbers ∙ on in
+      let before : OnlyOf v.actor (uses n s) =
+      ⊎_elim (λ (old : Has v.drawn n). u.used.own was n old) (λ (le : k.next ≤ n). only_none v.actor (uses n s) (u.unused was n le)) (a.drew n has) in
+      let all : OnlyOf v.actor (uses n (s ++ es)) =
+      only_more v.actor (λ (e : Entry). is_use_of n e.change) s es before (only_passing v.actor (λ (e : Entry). is_use_of n e.change) es own) in
+      subst (λ (l : List Entry). OnlyOf v'.actor (uses n l)) (sym a.history) (subst (λ (actor : ℕ). OnlyOf actor (uses n (s ++ es))) (sym a.actor) all);
+  backed = subst (IsBacked v'.history) (sym a.seen) (subst (λ (l : List Entry). IsBacked l k'.journal) (sym a.history) backed);
+}
+
 -- what stays of a seat
 pub stays : (v v' : View) (s : List Entry) (k k' : History) (es : List Entry) → After v v' s k k' es → Follows v s k.journal → IsHistoryOf v.whole (s ++ es) k'.journal → OnlyOf v.actor es → k'.whole ≡ v.whole → Lawful k' → Fits v.whole k.journal k.next k.rounds v → LeftOf (v.mine ++ es) (entries_of v.actor k'.journal) → k.next ≤ k'.next
     → Abreast v k'.rounds k'.journal (s ++ es)
+    → Uses v s k
+    → IsBacked (s ++ es) k'.journal
     → Stays v v'
-stays v v' s k k' es a follows told own whole lawful fits left up abreast =
+stays v v' s k k' es a follows told own whole lawful fits left up abreast used backed =
     let same : k'.whole ≡ v'.whole = whole ∙ sym a.whole in
     let l = lawful_in v'.whole k' same lawful in
     let le = fits.next in
@@ -155,6 +195,8 @@ stays v v' s k k' es a follows told own whole lawful fits left up abreast =
       follows = follows_now v v' s k k' es a follows told own;
       abreast = subst (λ (j : List Entry). Abreast v v'.seen_rounds j v'.history) (sym a.seen)
           (subst (λ (q : ℕ). Abreast v q k'.journal v'.history) (sym a.rounds) (subst (λ (l : List Entry). Abreast v k'.rounds k'.journal l) (sym a.history) abreast));
+      same_numbers = a.same_numbers;
+      used = used_now v v' s k k' es a used own backed;
     }
 
 -- what an act leaves, accepted or refused
@@ -180,6 +222,7 @@ pub record Turn (v v1 v2 v' : View) (s : List Entry) (k k' : History) : Type 0 w
   pub fits : Fits v.whole k.journal k.next k.rounds v
   pub alone : v.alone ≡ true → k.journal ≡ v.seen
   pub abreast : Abreast v k.rounds k.journal s
+  pub used : Uses v s k
 
 -- a turn in which a step was answered
 pub acts : {v v1 v2 v' : View} {s : List Entry} {k k' : History} (actor : ℕ) (step : Step) (answer : Result (List Record) Refusal) → Turn v v1 v2 v' s k k' → actor ≡ v.actor → Answers k.whole k.journal step answer → k' ≡ noted_by actor k answer → Acted v v' step answer
@@ -208,7 +251,8 @@ acts {v = v} {v1 = v1} {v2 = v2} {v' = v'} {s = s} {k = k} {k' = k'} actor step 
       drawn = a.1 ∙ (ap (λ (l : List ℕ). v.drawn ++ l) (numbers_none k.next k'.next same) ∙ append-nil v.drawn);
       alone = record { found = t.alone; still = a.0.alone };
       stays = stays v v' s k k' es a.0 t.follows told own of t.left t.fits left (omega (arith, same))
-          (subst (λ (j : List Entry). Abreast v k'.rounds j (s ++ es)) (sym more) (abreast_more v k.rounds k'.rounds k.journal s es (ap (λ (h : History). h.rounds) leaves) t.abreast));
+          (subst (λ (j : List Entry). Abreast v k'.rounds j (s ++ es)) (sym more) (abreast_more v k.rounds k'.rounds k.journal s es (ap (λ (h : History). h.rounds) leaves) t.abreast))
+          t.used (subst (IsBacked (s ++ es)) (sym more) (backed_more s k.journal es t.used.used.backed));
     }
 
 -- a book as it was, but that its next number may be greater
@@ -233,9 +277,10 @@ draw_leaves k k' (Err e) most ok err = record { journal = ap (λ (h : History). 
 -- a call that leaves the journal as it is
 pub looks : (v v' : View) (s : List Entry) (k k' : History) → After v v' s k k' [] → Follows v s k.journal → k.whole ≡ v.whole → Lawful k → Lawful k' → Fits v.whole k.journal k.next k.rounds v → (v.alone ≡ true → k.journal ≡ v.seen)
     → Abreast v k.rounds k.journal s
+    → Uses v s k
     → Kept_as k k'
     → Looked v v'
-looks v v' s k k' a follows whole lawful lawful' fits alone abreast leaves =
+looks v v' s k k' a follows whole lawful lawful' fits alone abreast used leaves =
     let same : v'.history ≡ s = a.history ∙ append-nil s in
     let told : IsHistoryOf v.whole (s ++ []) k'.journal = history_same v.whole s k'.journal (subst (λ (j : List Entry). IsHistoryOf v.whole s j) (sym leaves.journal) follows.is) in
     let left : LeftOf (v.mine ++ []) (entries_of v.actor k'.journal) =
@@ -247,7 +292,8 @@ looks v v' s k k' a follows whole lawful lawful' fits alone abreast leaves =
       follows = subst (λ (l : List Entry). Follows v l k.journal) (sym same) follows;
       mine = a.mine ∙ append-nil v.mine;
       alone = record { found = alone; still = a.alone };
-      stays = stays v v' s k k' [] a follows told tt (leaves.whole ∙ whole) lawful' fits left leaves.up (abreast_same v k.rounds k'.rounds k.journal k'.journal s leaves.rounds leaves.journal abreast);
+      stays = stays v v' s k k' [] a follows told tt (leaves.whole ∙ whole) lawful' fits left leaves.up (abreast_same v k.rounds k'.rounds k.journal k'.journal s leaves.rounds leaves.journal abreast)
+          used (backed_still s k'.journal (subst (IsBacked s) (sym leaves.journal) used.used.backed));
     }
 
 -- a turn in which ended sessions were forgotten
@@ -257,8 +303,8 @@ forgets {v = v} {v1 = v1} {v2 = v2} {v' = v'} {s = s} {k = k} {k' = k'} t is = �
     told_after : (j : List Entry) → k'.journal ≡ j → IsHistoryOf v.whole s j → IsHistoryOf v.whole (s ++ []) k'.journal
     told_after j is told = history_same v.whole s k'.journal (subst (λ (l : List Entry). IsHistoryOf v.whole s l) (sym is) told)
 
-    leave : (of : k'.whole ≡ k.whole) (next : k'.next ≡ k.next) (none : drop (length k.journal) k'.journal ≡ []) (left : LeftOf v.mine (entries_of v.actor k'.journal)) (told : IsHistoryOf v.whole (s ++ []) k'.journal) (abreast : Abreast v k'.rounds k'.journal (s ++ [])) → Forgot v v'
-    leave of next none left told abreast =
+    leave : (of : k'.whole ≡ k.whole) (next : k'.next ≡ k.next) (none : drop (length k.journal) k'.journal ≡ []) (left : LeftOf v.mine (entries_of v.actor k'.journal)) (told : IsHistoryOf v.whole (s ++ []) k'.journal) (abreast : Abreast v k'.rounds k'.journal (s ++ [])) (backed : IsBacked s k'.journal) → Forgot v v'
+    leave of next none left told abreast backed =
         let a = after v v' v1 v2 s k k' [] t.held t.noted t.put none in
         let whole : k'.whole ≡ v.whole = of ∙ t.whole in
         let found : history v'.whole v'.seen v'.next v'.seen_rounds ≡ k' = λ i. history ((a.0.whole ∙ sym whole) i) (a.0.seen i) (a.0.next i) (a.0.rounds i) in
@@ -272,7 +318,7 @@ forgets {v = v} {v1 = v1} {v2 = v2} {v' = v'} {s = s} {k = k} {k' = k'} t is = �
           mine = a.0.mine ∙ append-nil v.mine;
           drawn = a.1 ∙ (ap (λ (l : List ℕ). v.drawn ++ l) (numbers_none k.next k'.next next) ∙ append-nil v.drawn);
           alone = record { found = t.alone; still = a.0.alone };
-          stays = stays v v' s k k' [] a.0 t.follows told tt whole t.left t.fits (subst (λ (m : List Entry). LeftOf m (entries_of v.actor k'.journal)) (sym (append-nil v.mine)) left) (omega (arith, next)) abreast;
+          stays = stays v v' s k k' [] a.0 t.follows told tt whole t.left t.fits (subst (λ (m : List Entry). LeftOf m (entries_of v.actor k'.journal)) (sym (append-nil v.mine)) left) (omega (arith, next)) abreast t.used (backed_still s k'.journal backed);
         }
 
     same : k' ≡ k → Forgot v v'
@@ -280,12 +326,14 @@ forgets {v = v} {v1 = v1} {v2 = v2} {v' = v'} {s = s} {k = k} {k' = k'} t is = �
         let journal : k'.journal ≡ k.journal = ap (λ (h : History). h.journal) e in
         leave (ap (λ (h : History). h.whole) e) (ap (λ (h : History). h.next) e) (same_is k.journal k'.journal journal) (subst (λ (j : List Entry). LeftOf v.mine (entries_of v.actor j)) (sym journal) t.fits.mine) (told_after k.journal journal t.follows.is)
         (abreast_same v k.rounds k'.rounds k.journal k'.journal s (ap (λ (h : History). h.rounds) e) journal t.abreast)
+        (subst (IsBacked s) (sym journal) t.used.used.backed)
 
     shorter : k' ≡ shortened k → Forgot v v'
     shorter e =
         let journal : k'.journal ≡ less_ended k.journal = ap (λ (h : History). h.journal) e in
         leave (ap (λ (h : History). h.whole) e) (ap (λ (h : History). h.next) e) (ended_is k.journal k'.journal journal) (subst (λ (j : List Entry). LeftOf v.mine (entries_of v.actor j)) (sym journal) (left_ended v.actor v.mine k.journal t.fits.mine)) (told_after (less_ended k.journal) journal (history_ended v.whole s k.journal t.follows.is (lawful_in v.whole k t.whole t.lawful).0))
         (abreast_later v k.rounds k'.rounds k'.journal (s ++ []) t.fits.later.rounds (ap (λ (h : History). h.rounds) e))
+        (subst (IsBacked s) (sym journal) (backed_ended s k.journal t.used.used.backed))
 
 pub draws : (v v' v1 v2 : View) (s : List Entry) (k k' : History) (drawn : Result ℕ NumbersSpent) (most : ℕ) → v1 ≡ held_as v s k → v2 ≡ noted_as v1 k' → v' ≡ settled v2 → Fits v.whole k.journal k.next k.rounds v → k'.journal ≡ k.journal
     → IfOk drawn (λ n. (n ≡ k.next) × (n < most) × (k' ≡ record k { next = n + 1 })) → IfOk drawn (λ n. Drew v v' n)
@@ -343,6 +391,7 @@ makes v v' v1 v2 v3 u s k k' n most held noted cut put made whole lawful fits fr
       cut = ap (λ (x : View). x.cut) p ∙ ap (λ (a : ℕ). v.cut ++ a ∷ []) (sym is);
       uncut = ap (λ (x : View). x.cut) f;
       alone = (ap (λ (x : View). x.alone) p, ap (λ (x : View). x.alone) f);
+      same_numbers = ap (λ (x : View). x.numbers_drawn) f;
       stands = subst (λ (j : List Entry). Found u j u.seen_rounds) (sym seen) (record {
         legal = l.0;
         limit = l.1;
@@ -359,7 +408,7 @@ forget_leaves v v1 s k k' held is =
     ⊎_elim
     (λ (e : forgotten k ≡ k).
     let same : k' ≡ k = is ∙ e in
-    inl (record { more = []; left = ap (λ (h : History). h.journal) same ∙ sym found ∙ sym (append-nil v1.found); own = tt; rounds = ap (λ (h : History). h.rounds) same ∙ sym rounds }))
+    inl (record { more = []; left = ap (λ (h : History). h.journal) same ∙ sym found ∙ sym (append-nil v1.found); own = tt; used = λ _. under_none v1.drawn [] refl; rounds = ap (λ (h : History). h.rounds) same ∙ sym rounds }))
     (λ (e : forgotten k ≡ shortened k).
     let shorter : k' ≡ shortened k = is ∙ e in
     inr (inl (record { left = ap (λ (h : History). h.journal) shorter ∙ ap less_ended (sym found); rounds = ap (λ (h : History). h.rounds) shorter ∙ ap (λ (n : ℕ). n + 1) (sym rounds) })))
@@ -382,7 +431,24 @@ same_leaves v v1 s k k' held same =
       more = [];
       left = same.journal ∙ (sym (ap (λ (x : View). x.found) held) ∙ sym (append-nil v1.found));
       own = tt;
+      used = λ _. under_none v1.drawn [] refl;
       rounds = same.rounds ∙ sym (ap (λ (x : View). x.found_rounds) held);
+    })
+
+-- a seat that answered a step which it may name notes what it left
+pub act_notes : (drawn : Bool) (v v1 : View) (s : List Entry) (k k' : History) (actor : ℕ) (step : Step) (answer : Result (List Record) Refusal) → v1 ≡ held_as v s k → actor ≡ v.actor → MayName drawn v step → Answers k.whole k.journal step answer → k' ≡ noted_by actor k answer → v1.numbers_drawn ≡ drawn
+    → Leaves (noted_as v1 k') v1.found v1.found_rounds
+act_notes drawn v v1 s k k' actor step answer held is may answers noted known =
+    let es = entries_by actor (written answer) in
+    let leaves = act_leaves k k' actor answer noted in
+    let by : actor ≡ v1.actor = is ∙ sym (ap (λ (x : View). x.actor) held) in
+    let drew : v.drawn ≡ v1.drawn = sym (ap (λ (x : View). x.drawn) held) in
+    inl (record {
+      more = es;
+      left = ap (λ (h : History). h.journal) leaves ∙ ap (λ (j : List Entry). j ++ es) (sym (ap (λ (x : View). x.found) held));
+      own = subst (λ (n : ℕ). OnlyOf n es) by (only_by actor (written answer));
+      used = λ on. subst (λ (l : List ℕ). UnderThese l es) drew (answered_under v.drawn actor k.whole k.journal step answer (names_drawn drawn v step (sym known ∙ on) may) answers);
+      rounds = ap (λ (h : History). h.rounds) leaves ∙ sym (ap (λ (x : View). x.found_rounds) held);
     })
 
 -- a look puts back the book that it found, as it was
@@ -390,11 +456,12 @@ pub only_looks : {v v1 v' : View} (s : List Entry) (k : History) → v1 ≡ held
     → Follows v s k.journal
     → (v.alone ≡ true → k.journal ≡ v.seen)
     → Abreast v k.rounds k.journal s
+    → Uses v s k
     → Looked v v'
-only_looks {v = v} {v1 = v1} {v' = v'} s k held put value legal limit fits follows alone abreast =
+only_looks {v = v} {v1 = v1} {v' = v'} s k held put value legal limit fits follows alone abreast used =
     let a = after v v' v1 v1 s k k [] held (unnoted v v1 s k held) put (same_is k.journal k.journal refl) in
     let lawful : Lawful k = record { legal = legal; limit = limit } in
-    looks v v' s k k a.0 follows (ap (λ (h : History). h.whole) value) lawful lawful fits alone abreast (look_leaves k)
+    looks v v' s k k a.0 follows (ap (λ (h : History). h.whole) value) lawful lawful fits alone abreast used (look_leaves k)
 
 -- and draws no number
 pub look_draws_none : (v v1 v' : View) (s : List Entry) (k : History) → v1 ≡ held_as v s k → v' ≡ settled v1 → v'.drawn ≡ v.drawn
@@ -409,14 +476,14 @@ cut_draws_none v v' v1 v2 v3 s k k' held noted cut put =
     ap (λ (x : View). x.drawn) e ∙ (ap (λ (l : List ℕ). v.drawn ++ l) (numbers_none k'.next k'.next refl) ∙ append-nil v.drawn)
 
 -- the view of the seat that opens the lock
-pub stands_first : (w : Whole) (v : View) → v ≡ first_view w → Found v [] 0
-stands_first w v is =
+pub stands_first : (drawn : Bool) (w : Whole) (v : View) → v ≡ first_view drawn w → Found v [] 0
+stands_first drawn w v is =
     let nothing : owed empty ≡ 0 = amount-empty returns in
     subst (λ (x : View). Found x [] 0) (sym is) (record { legal = tt; limit = omega (arith, nothing); later = later_self 0 []; mine = left_none 0 [] refl })
 
 -- and the history that it has follows
-pub follows_first : (w : Whole) (v : View) → v ≡ first_view w → Follows v [] []
-follows_first w v is = subst (λ (x : View). Follows x [] []) (sym is) (record { is = record { legal = tt; book = refl }; begins = prefix_self []; mine = refl })
+pub follows_first : (drawn : Bool) (w : Whole) (v : View) → v ≡ first_view drawn w → Follows v [] []
+follows_first drawn w v is = subst (λ (x : View). Follows x [] []) (sym is) (record { is = record { legal = tt; book = refl }; begins = prefix_self []; mine = refl })
 
 -- a seat that made another leaves the journal as it is
 pub cut_unchanged : (v v1 v2 : View) (s : List Entry) (k k' : History) → v1 ≡ held_as v s k → v2 ≡ noted_as v1 k' → Kept_as k k' → (v2.left ≡ v2.found) × (v2.left_rounds ≡ v2.found_rounds)

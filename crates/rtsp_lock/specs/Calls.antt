@@ -15,6 +15,7 @@ use Rattle.rtsp_lock.specs.declared.view.View.{View}
 use Rattle.rtsp_lock.specs.declared.lock.BookLock.{BookLock}
 use Rattle.rtsp_lock.specs.declared.seat.BookSeat.{BookSeat}
 use Rattle.rtsp_lock.specs.Entries.{entries_of, Later, LeftOf, Has}
+use Rattle.rtsp_lock.specs.Numbers.{DrawnAlone}
 use Rattle.rtsp_lock.specs.Rule.{Abreast}
 use Rattle.rtsp_lock.specs.Steps.{Follows, holding, numbers}
 
@@ -23,7 +24,7 @@ abbrev pub seat_view : BookSeat → View
 seat_view s = s.seat.me.0
 
 -- the seat is of this lock
-abbrev pub IsSeatOf : BookSeat → BookLock → Type 0
+abbrev pub IsSeatOf : {N : Type 0} → BookSeat → BookLock N → Type 0
 IsSeatOf s l = s.seat.table_id ≡ l.table.shared.table_id
 
 -- the same seat, of the same lock
@@ -55,7 +56,8 @@ pub record Found (v : View) (j : List Entry) (r : ℕ) : Type 0 where
   pub mine : LeftOf v.mine (entries_of v.actor j)
 
 -- the seat is the same actor's, of the same whole, and its next number is no lower; no number that it drew is lost; no seat was split off from
--- it; what it has now seen is such a journal, with its history, and in the same round both have grown alike
+-- it; what it has now seen is such a journal, with its history, and in the same round both have grown alike; where
+-- all seats use drawn numbers alone, nobody else ever used one of its own
 pub record Stays (v v' : View) : Type 0 where
   pub whole : v'.whole ≡ v.whole
   pub actor : v'.actor ≡ v.actor
@@ -65,6 +67,8 @@ pub record Stays (v v' : View) : Type 0 where
   pub stands : Found v' v'.seen v'.seen_rounds
   pub follows : Follows v' v'.history v'.seen
   pub abreast : Abreast v v'.seen_rounds v'.seen v'.history
+  pub same_numbers : v'.numbers_drawn ≡ v.numbers_drawn
+  pub used : DrawnAlone v'
 
 -- the only seat of a lock finds the journal that it had seen, and is the only one still
 pub record StaysAlone (v v' : View) (j : List Entry) : Type 0 where
@@ -122,6 +126,7 @@ pub record Made (v v' u : View) : Type 0 where
   pub cut : v'.cut ≡ v.cut ++ u.actor ∷ []
   pub uncut : u.cut ≡ []
   pub alone : (v'.alone ≡ false) × (u.alone ≡ false)
+  pub same_numbers : u.numbers_drawn ≡ v.numbers_drawn
   pub stands : Found u u.seen u.seen_rounds
   pub follows : Follows u u.history u.seen
 

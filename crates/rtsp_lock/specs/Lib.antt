@@ -1,4 +1,5 @@
 pub mod Entries
+pub mod Numbers
 pub mod Rule
 pub mod Steps
 pub mod Named

@@ -7,21 +7,22 @@ ghost use Rattle.rtsp_lock.specs.Calls.{Looked, LookedAndMade, Drew, Forgot, Che
 ghost use Rattle.rtsp_lock.specs.Tallies.{IsTallyOf};
 
 use crate::lock::BookLock;
+use crate::numbering::{DrawnNumbers, Numbers};
 use crate::seat::BookSeat;
 use crate::tally::Tally;
 use std::sync::{Arc, Wait};
 
 /// A seat together with the lock that it is of. It may go to another thread.
 #[derive(Drop)]
-pub struct BookHandle {
-    pub lock: Arc<BookLock>,
+pub struct BookHandle<N: Numbers = DrawnNumbers> {
+    pub lock: Arc<BookLock<N>>,
     pub seat: BookSeat,
     ghost ours: { IsSeatOf seat (arc_value lock) },
 }
 
-impl BookHandle {
+impl<N: Numbers> BookHandle<N> {
     /// The handle of a seat of this lock.
-    pub fn new(lock: Arc<BookLock>, seat: BookSeat) -> BookHandle
+    pub fn new(lock: Arc<BookLock<N>>, seat: BookSeat) -> BookHandle<N>
         requires { IsSeatOf seat (arc_value lock) }
         ensures lock { result.lock ≡ lock }
         ensures seat { result.seat ≡ seat }
@@ -32,7 +33,7 @@ impl BookHandle {
     /// A handle with a seat of its own, whose actor is a number that no seat has drawn. There is
     /// none where the numbers are used up, or where the lock is shared as often as its `Arc` can
     /// count.
-    pub fn split<R: Wait>(&mut self, rt: &R) -> Option<BookHandle>
+    pub fn split<R: Wait>(&mut self, rt: &R) -> Option<BookHandle<N>>
         ensures same { SameSeat self.old.seat self.new.seat }
         ensures lock { arc_value self.new.lock ≡ arc_value self.old.lock }
         ensures other { IfSome result (λ h. arc_value h.lock ≡ arc_value self.old.lock) }

@@ -11,8 +11,12 @@
 //! Neither touches the history. So what a seat sees of it begins, for ever, with all that the seat
 //! had seen. `hand_out` gives what the history gained, for whoever writes it down.
 //!
+//! A lock that is opened for `DrawnNumbers` has seats that hold and add only under numbers which they
+//! drew themselves: an act requires it. So none uses another's, which each call tells its seat.
+//!
 //! The definitions of `specs/` read in this order: Entries (whose they are, and what a history is),
-//! Rule (what the lock keeps over all seats), Steps (what a step of the lock tells its seat), Named,
+//! Numbers (under which the seats hold and add), Rule (what the lock keeps over all seats), Steps (what
+//! a step of the lock tells its seat), Named,
 //! Calls (what the calls promise), Handing (what is handed out of the history), Tallies, Room, Laws (what
 //! holds over many calls).
 
@@ -23,6 +27,7 @@ mod laws;
 mod lock;
 mod marks;
 mod names;
+mod numbering;
 mod opening;
 mod rule;
 mod seat;
@@ -39,7 +44,8 @@ pub use laws::{
 pub use lock::BookLock;
 pub use marks::{HandOutFault, Mark, Then};
 pub use names::Name;
-pub use opening::{open, open_book};
+pub use numbering::{AnyNumbers, DrawnNumbers, Numbers};
+pub use opening::{open, open_book, open_for};
 pub use rule::LockBook;
 pub use seat::BookSeat;
 pub use tally::Tally;

@@ -112,14 +112,13 @@ const LEFT: [Left; 14] = [
 ];
 
 // Whether a play whose first packet is sent comes to its end so.
-fn is_left(pacer: &mut Pacer, sink: &mut Keeps, left: &Left) -> bool {
+fn is_left(pacer: &mut Pacer, room: &mut SendRoom, sink: &mut Keeps, left: &Left) -> bool {
     let (session, phase, _, turns) = *left;
-    let mut packet = Packet::new();
-    if pacer.turn(2, PLAYED, 1_000, &mut packet, sink) != Turn::More {
+    if pacer.turn(2, PLAYED, 1_000, room, sink) != Turn::More {
         return false;
     }
     for (moment, turn, sent) in turns {
-        let comes_to = pacer.last_turn(session, phase, moment, &mut packet, sink);
+        let comes_to = pacer.last_turn(session, phase, moment, room, sink);
         if comes_to != turn || sink.sent != sent {
             return false;
         }
@@ -130,9 +129,11 @@ fn is_left(pacer: &mut Pacer, sink: &mut Keeps, left: &Left) -> bool {
 
 impl Row for Left {
     fn holds(&self, alloc: Global) -> bool {
-        match start(alloc, ONE, PLAYED) {
-            Some(mut pacer) => is_left(&mut pacer, &mut failing_at(self.2), self),
-            None => false,
+        match (start(alloc, ONE, PLAYED), SendRoom::open(alloc)) {
+            (Some(mut pacer), Ok(mut room)) => {
+                is_left(&mut pacer, &mut room, &mut failing_at(self.2), self)
+            }
+            _ => false,
         }
     }
 }

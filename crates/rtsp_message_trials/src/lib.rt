@@ -6,6 +6,8 @@
 #[cfg(test)]
 mod configurations;
 #[cfg(test)]
+mod films;
+#[cfg(test)]
 mod header_values;
 #[cfg(test)]
 mod last_turns;
@@ -19,6 +21,8 @@ mod normal_play_time;
 mod operations;
 #[cfg(test)]
 mod packets;
+#[cfg(test)]
+mod proxy_headers;
 #[cfg(test)]
 mod rows;
 #[cfg(test)]

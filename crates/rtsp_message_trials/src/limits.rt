@@ -99,6 +99,14 @@ unit_ms = 20 | unit_ms = 1 | taken
 unit_ms = 20 | unit_ms = 0 | bad value
 unit_ms = 20 | unit_ms = 1000 | taken
 unit_ms = 20 | unit_ms = 1001 | bad value
+unit_ms = 20 | unit_ms = 20 & starts = [0] | taken
+unit_ms = 20 | unit_ms = 20 & starts = [0, 1, 499] | taken
+unit_ms = 20 | unit_ms = 20 & starts = [0, 500] | bad value
+unit_ms = 20 | unit_ms = 20 & starts = [1] | bad value
+unit_ms = 20 | unit_ms = 20 & starts = [0, 7, 7] | bad value
+unit_ms = 20 | unit_ms = 20 & starts = [] | bad value
+unit_ms = 20 | unit_ms = 20 & starts = 0 | bad value
+unit_ms = 20 | unit_ms = 20 & starts = [0, 1.0] | bad value
 media = \"audio\" | media = \"video\" | taken
 media = \"audio\" | media = \"Audio\" | bad value
 pt = 0 | pt = 127 | taken
@@ -117,6 +125,18 @@ octets = 160 | octets = 1 | taken
 octets = 160 | octets = 0 | bad value
 octets = 160 | octets = 1400 | taken
 octets = 160 | octets = 1401 | bad value
+octets = 160 | packets = 1 & octets = 120000 | taken
+octets = 160 | packets = 0 & octets = 160 | bad value
+octets = 160 | packets = 256 & octets = 1 | taken
+octets = 160 | packets = 257 & octets = 1 | bad value
+octets = 160 | packets = 2 & octets = 120001 | bad value
+octets = 160 | packets = 2 & packing = \"slots\" & octets = 160 | taken
+octets = 160 | packets = 2 & packing = \"equal\" & octets = 160 | taken
+octets = 160 | packets = 2 & packing = \"equal\" & octets = 161 | bad value
+octets = 160 | packets = 2 & packing = \"equal\" & octets = 2800 | taken
+octets = 160 | packets = 2 & packing = \"equal\" & octets = 2802 | bad value
+octets = 160 | packets = 2 & packing = \"Equal\" & octets = 160 | bad value
+octets = 160 | packing = \"other\" & octets = 160 | taken
 ticks = 160 | ticks = 1 | taken
 ticks = 160 | ticks = 0 | bad value
 ticks = 160 | ticks = 1000000 | taken

@@ -12,17 +12,31 @@ fn read(alloc: Global, text: &str) -> Result<Operation, TableFault> {
 // they are full.
 type Files = (&'static str, u32, bool, WhenFull);
 
-// A configuration, what it says of the journal's files, whether there is a log, and where the
-// figures are shown.
-type Said = (&'static str, Option<Files>, bool, Option<&'static str>);
+// A configuration, what it says of the journal's files, whether there is a log, where the figures are
+// shown, and which connections begin with a header.
+type Said = (
+    &'static str,
+    Option<Files>,
+    bool,
+    Option<&'static str>,
+    &'static [u32],
+);
 
-const SAID: [Said; 3] = [
-    ("[server]\n", None, false, None),
+const SAID: [Said; 4] = [
+    ("[server]\n", None, false, None, &[]),
+    (
+        "[server]\nproxy = [\"10.77.0.1\", \"127.0.0.1\"]\n",
+        None,
+        false,
+        None,
+        &[0x0a4d_0001, 0x7f00_0001],
+    ),
     (
         "[server]\njournal_files = \"/var/lib/rtspd\"\n",
         Some(("/var/lib/rtspd", 1000, false, WhenFull::Keep)),
         false,
         None,
+        &[],
     ),
     (
         "[server]\njournal_files = \"history\"\njournal_period = 250\njournal_sync = true\n\
@@ -30,6 +44,7 @@ const SAID: [Said; 3] = [
         Some(("/etc/rtspd/history", 250, true, WhenFull::Lose)),
         true,
         Some("127.0.0.1:9554"),
+        &[],
     ),
 ];
 
@@ -48,12 +63,13 @@ fn are_said(files: Option<&JournalFiles>, said: Option<Files>) -> bool {
 
 impl Row for Said {
     fn holds(&self, alloc: Global) -> bool {
-        let (text, files, log, status) = *self;
+        let (text, files, log, status, proxy) = *self;
         match read(alloc, text) {
             Ok(operation) => {
                 are_said(operation.journal(), files)
                     && operation.access_log() == log
                     && operation.status() == status
+                    && operation.proxy() == proxy
             }
             Err(_) => false,
         }
@@ -65,11 +81,21 @@ fn says_what_is_kept_and_shown(rt: HostRuntime) {
     hold_rows(&rt, rt.alloc(), &SAID);
 }
 
+// Seventeen.
+const MANY_BALANCERS: &str =
+    "[server]\nproxy = [\"1.1.1.1\", \"1.1.1.1\", \"1.1.1.1\", \"1.1.1.1\", \
+    \"1.1.1.1\", \"1.1.1.1\", \"1.1.1.1\", \"1.1.1.1\", \"1.1.1.1\", \"1.1.1.1\", \"1.1.1.1\", \"1.1.1.1\", \
+    \"1.1.1.1\", \"1.1.1.1\", \"1.1.1.1\", \"1.1.1.1\", \"1.1.1.1\"]\n";
+
 // No configuration, and why not.
 type Refused = (&'static str, TableFault);
 
-const REFUSED: [Refused; 3] = [
+const REFUSED: [Refused; 7] = [
     ("status = 1\n", TableFault::Missing),
+    ("[server]\nproxy = []\n", TableFault::BadValue),
+    ("[server]\nproxy = \"10.77.0.1\"\n", TableFault::BadValue),
+    ("[server]\nproxy = [\"::1\"]\n", TableFault::BadValue),
+    (MANY_BALANCERS, TableFault::BadValue),
     ("server = 1\n", TableFault::BadValue),
     ("[server\n", TableFault::NotToml),
 ];

@@ -47,7 +47,7 @@ fn apply_all(book: &mut PlainBook, entries: &[Entry]) -> Result<(), AllocError> 
 }
 
 // The book of a journal.
-fn book_of(alloc: Global, journal: &str) -> Option<PlainBook> {
+pub(crate) fn book_of(alloc: Global, journal: &str) -> Option<PlainBook> {
     let mut book = PlainBook::open(alloc, &SMALL).ok()?;
     let entries = read_journal(alloc, journal.as_bytes()).ok()?;
     apply_all(&mut book, &entries).ok()?;
@@ -61,7 +61,7 @@ pub(crate) fn start(alloc: Global, journal: &str, phase: Phase) -> Option<Pacer>
     Pacer::start(&view, phase, table.presentation(0)?)
 }
 
-// Keeps the first bytes of what it is sent, and fails at one packet.
+// Keeps the first bytes of what it is sent, and can't read one unit.
 #[derive(Drop)]
 pub(crate) struct Keeps {
     pub(crate) sent: usize,
@@ -74,20 +74,20 @@ pub(crate) struct Keeps {
 impl Sink for Keeps {
     ghost use Rattle.std.specs.Prelude.{⊤};
 
-    ghost calls = { record { octets = λ s track unit bytes u. ⊤; sends = λ s track packet u. ⊤; fails = λ s u. ⊤; failures = λ s. s.failures } };
+    ghost calls = { record { octets = λ s track unit bytes u. ⊤; sends = λ s track packet u. ⊤; refuses = λ s track unit fault u. ⊤; reports = λ s track packet u. ⊤; fails = λ s u. ⊤; failures = λ s. s.failures } };
 
     fn octets(&mut self, _track: u16, unit: u32, out: &mut [u8]) -> Result<(), SinkFault> {
-        self.last_unit = unit;
-        out.fill(7);
-        Ok(())
-    }
-
-    fn send(&mut self, _track: u16, packet: &mut Packet) -> Result<(), SinkFault> {
         if self.sent == self.fails_at {
             self.fails_at = usize::MAX;
             self.failures = self.failures.saturating_add(1);
             return Err(SinkFault);
         }
+        self.last_unit = unit;
+        out.fill(7);
+        Ok(())
+    }
+
+    fn send(&mut self, _track: u16, packet: &mut Packet) {
         if let (Some(head), Some(bytes)) = (
             self.heads.get_mut(self.sent),
             packet.datagram().first_chunk::<12>(),
@@ -95,8 +95,11 @@ impl Sink for Keeps {
             *head = *bytes;
         }
         self.sent = self.sent.saturating_add(1);
-        Ok(())
     }
+
+    fn refuse(&mut self, _track: u16, _unit: u32, _fault: SlotFault) {}
+
+    fn report(&mut self, _track: u16, _packet: &mut Packet) {}
 }
 
 pub(crate) fn failing_at(fails_at: usize) -> Keeps {
@@ -161,7 +164,7 @@ fn a_packet_and_its_frame(rt: HostRuntime) {
 // one is due.
 type Turned = (Phase, u64, Turn, usize, Option<u64>);
 
-// Of one track, whose third packet can't be sent the first time.
+// Of one track, whose third unit can't be read the first time.
 const TURNS: [Turned; 6] = [
     (PLAYING, 0, Turn::More, 1, Some(20)),
     (PLAYING, 19, Turn::More, 1, Some(20)),
@@ -198,18 +201,23 @@ const HEADS_OF_TWO: [[u8; 12]; 3] = [
     [0x80, 0, 0, 1, 0, 0, 0, 0xe0, 0, 0, 0, 1],
 ];
 
-fn is_turned(pacer: &mut Pacer, sink: &mut Keeps, wanted: &Turned) -> bool {
+fn is_turned(pacer: &mut Pacer, room: &mut SendRoom, sink: &mut Keeps, wanted: &Turned) -> bool {
     let (phase, moment, turn, sent, next) = *wanted;
     pacer.is_of(2, phase) == (turn != Turn::OtherPlay)
-        && pacer.turn(2, phase, moment, &mut Packet::new(), sink) == turn
+        && pacer.turn(2, phase, moment, room, sink) == turn
         && sink.sent == sent
         && pacer.next_due() == next
 }
 
 // The first turn that comes to something else.
-fn first_other(pacer: &mut Pacer, sink: &mut Keeps, turns: &[Turned]) -> Option<usize> {
+fn first_other(
+    pacer: &mut Pacer,
+    room: &mut SendRoom,
+    sink: &mut Keeps,
+    turns: &[Turned],
+) -> Option<usize> {
     for (number, wanted) in turns.iter().enumerate() {
-        if !is_turned(pacer, sink, wanted) {
+        if !is_turned(pacer, room, sink, wanted) {
             return Some(number);
         }
     }
@@ -217,9 +225,14 @@ fn first_other(pacer: &mut Pacer, sink: &mut Keeps, turns: &[Turned]) -> Option<
 }
 
 // What a sink has once a pacer has taken these turns, if each comes to what it says.
-fn sent(mut pacer: Pacer, fails_at: usize, turns: &[Turned]) -> Result<Keeps, usize> {
+fn sent(
+    mut pacer: Pacer,
+    room: &mut SendRoom,
+    fails_at: usize,
+    turns: &[Turned],
+) -> Result<Keeps, usize> {
     let mut sink = failing_at(fails_at);
-    match first_other(&mut pacer, &mut sink, turns) {
+    match first_other(&mut pacer, room, &mut sink, turns) {
         None => Ok(sink),
         Some(number) => Err(number),
     }
@@ -238,7 +251,8 @@ fn has(sink: Result<Keeps, usize>, heads: &[[u8; 12]; 3], last_unit: u32, failur
 fn sends_one(alloc: Global) -> Option<bool> {
     let pacer = start(alloc, ONE, PLAYING)?;
     let is_new = pacer.session() == 2 && pacer.next_due() == Some(0);
-    Some(is_new && has(sent(pacer, 2, &TURNS), &HEADS, 499, 1))
+    let mut room = SendRoom::open(alloc).ok()?;
+    Some(is_new && has(sent(pacer, &mut room, 2, &TURNS), &HEADS, 499, 1))
 }
 
 #[test]
@@ -248,7 +262,9 @@ fn a_turn_sends_what_is_due(rt: HostRuntime) {
 
 fn sends_two(alloc: Global) -> Option<bool> {
     let pacer = start(alloc, BOTH, OF_TWO_UNITS)?;
-    Some(has(sent(pacer, usize::MAX, &TURNS_OF_TWO), &HEADS_OF_TWO, 8, 0))
+    let mut room = SendRoom::open(alloc).ok()?;
+    let sent = sent(pacer, &mut room, usize::MAX, &TURNS_OF_TWO);
+    Some(has(sent, &HEADS_OF_TWO, 8, 0))
 }
 
 #[test]

@@ -139,6 +139,7 @@ unfoldable pub traffic_families : Counts → List Family
 traffic_families n =
     counter (codes "rtspd_connections_accepted") (codes "Connections that were let in.") n.connections.accepted ∷
     counter (codes "rtspd_connections_refused") (codes "Connections that were closed at once.") n.connections.refused ∷
+    counter (codes "rtspd_headers_refused") (codes "Connections of balancers whose header was refused.") n.connections.headers_refused ∷
     counter (codes "rtspd_packets_sent") (codes "RTP packets that were sent.") n.packets.sent ∷
     counter (codes "rtspd_packets_lost") (codes "RTP packets that could not be sent.") n.packets.lost ∷ []
 

@@ -95,6 +95,7 @@ count_rows n =
     concat (
     number_row (codes "Packets sent") n.packets.sent ∷ number_row (codes "Packets lost") n.packets.lost ∷
     number_row (codes "Connections let in") n.connections.accepted ∷ number_row (codes "Connections closed at once") n.connections.refused ∷
+    number_row (codes "Headers refused") n.connections.headers_refused ∷
     number_row (codes "Media not read") n.media_failures ∷
     number_row (codes "Sessions expired") n.expired ∷ number_row (codes "Journal shortened") n.shortenings ∷
     number_row (codes "Log lines dropped") n.log_lines_dropped ∷ [])

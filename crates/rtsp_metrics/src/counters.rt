@@ -70,6 +70,7 @@ impl LatenessCounters {
 pub struct Counters {
     accepted: Counter,
     turned_away: Counter,
+    headers_refused: Counter,
     sent: Counter,
     lost: Counter,
     lateness: LatenessCounters,
@@ -84,6 +85,7 @@ impl Counters {
         Counters {
             accepted: Counter::new(),
             turned_away: Counter::new(),
+            headers_refused: Counter::new(),
             sent: Counter::new(),
             lost: Counter::new(),
             lateness: LatenessCounters::new(),
@@ -101,6 +103,11 @@ impl Counters {
     /// A connection was closed at once.
     pub fn turned_away(&self) {
         self.turned_away.add(1);
+    }
+
+    /// The header at the front of a balancer's connection was refused.
+    pub fn header_refused(&self) {
+        self.headers_refused.add(1);
     }
 
     /// So many packets were sent, each so many milliseconds late.
@@ -143,6 +150,7 @@ impl Counters {
             connections: Connections {
                 accepted: self.accepted.read(),
                 refused: self.turned_away.read(),
+                headers_refused: self.headers_refused.read(),
             },
             requests: ByMethod::NONE,
             refusals: Refusals::NONE,

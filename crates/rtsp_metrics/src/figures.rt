@@ -143,6 +143,7 @@ fn write_traffic(out: &mut Vec<u8>, of: &Counts) -> Result<(), AllocError>
 {
     let accepted = b"Connections that were let in.";
     let refused = b"Connections that were closed at once.";
+    let headers = b"Connections of balancers whose header was refused.";
     let sent = b"RTP packets that were sent.";
     let lost = b"RTP packets that could not be sent.";
     let connections = &of.connections;
@@ -157,6 +158,12 @@ fn write_traffic(out: &mut Vec<u8>, of: &Counts) -> Result<(), AllocError>
         b"rtspd_connections_refused",
         refused,
         connections.refused,
+    )?;
+    write_counter(
+        out,
+        b"rtspd_headers_refused",
+        headers,
+        connections.headers_refused,
     )?;
     write_counter(out, b"rtspd_packets_sent", sent, of.packets.sent)?;
     write_counter(out, b"rtspd_packets_lost", lost, of.packets.lost)

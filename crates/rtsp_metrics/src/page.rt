@@ -128,6 +128,7 @@ fn count_section(alloc: Global, of: &Counts) -> Result<Vec<u8>, AllocError>
             Row::Number(b"Packets lost", of.packets.lost),
             Row::Number(b"Connections let in", of.connections.accepted),
             Row::Number(b"Connections closed at once", of.connections.refused),
+            Row::Number(b"Headers refused", of.connections.headers_refused),
             Row::Number(b"Media not read", of.media_failures),
             Row::Number(b"Sessions expired", of.expired),
             Row::Number(b"Journal shortened", of.shortenings),

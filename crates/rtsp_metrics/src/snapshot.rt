@@ -32,6 +32,8 @@ pub struct Connections {
     pub accepted: u64,
     /// Closed at once, because the server or the address of the player had no more.
     pub refused: u64,
+    /// Closed since the header by which a balancer names their player was refused.
+    pub headers_refused: u64,
 }
 
 /// Answers by the first digit of their status.

@@ -11,3 +11,4 @@ pub mod Beginning
 pub mod Credits
 pub mod Channels
 pub mod Drops
+pub mod Runs

@@ -5,15 +5,15 @@ ghost use Rattle.rtsp_lock.specs.Calls.{IsSeatOf};
 
 use crate::bell::Bell;
 use crate::dropped::Dropped;
+use crate::pacer_room::PacerRoom;
 use crate::told::ToldSessions;
 use rtsp_book::{Refusal, SessionView, Step};
 use rtsp_content::Table;
-use rtsp_lock::{BookLock, BookSeat, Name};
+use rtsp_lock::{AnyNumbers, BookLock, BookSeat, Name, Numbers};
 use rtsp_log::{Event, FrameLoss, Log};
 use rtsp_metrics::Counters;
 use rtsp_npt::UnitLength;
 use rtsp_record::Phase;
-use rtsp_rtp::Packet;
 use rtsp_sockets::{Decisions, Media, Outlets, PortTable, RunningClock};
 use std::alloc::Global;
 use std::rt::Clock;
@@ -25,8 +25,8 @@ const TURNS_A_READING: u32 = 64;
 
 /// The parts of a server that are lent to a pacer.
 #[derive(Drop)]
-pub struct PacerParts<'a> {
-    pub lock: &'a BookLock,
+pub struct PacerParts<'a, N: Numbers = AnyNumbers> {
+    pub lock: &'a BookLock<N>,
     pub table: &'a Table,
     pub ports: &'a PortTable,
     pub outlets: &'a Outlets,
@@ -59,13 +59,12 @@ pub struct Paced {
 
 // The parts, with the pacer's own seat and clock, and what it has done.
 #[derive(Drop)]
-pub(crate) struct PacerDesk<'a, R> {
+pub(crate) struct PacerDesk<'a, R, N: Numbers> {
     pub(crate) rt: &'a R,
-    pub(crate) parts: PacerParts<'a>,
+    pub(crate) parts: PacerParts<'a, N>,
     pub(crate) clock: RunningClock<'a, R>,
     pub(crate) paced: Paced,
-    // Where packets are made, one after another.
-    pub(crate) packet: Packet,
+    pub(crate) room: PacerRoom,
     // The moment that was read last, and for how many turns more it does.
     moment: u64,
     turns_left: u32,
@@ -73,18 +72,21 @@ pub(crate) struct PacerDesk<'a, R> {
     is_held: bool,
     // Of which sessions it was told that frames were dropped.
     told: ToldSessions,
+    // And of which that a port of their players refuses all.
+    refusing: ToldSessions,
     seat: BookSeat,
     ghost ours: { IsSeatOf seat parts.lock.now },
 }
 
-impl<'a, R> PacerDesk<'a, R> {
+impl<'a, R, N: Numbers> PacerDesk<'a, R, N> {
     pub(crate) fn new(
         rt: &'a R,
         alloc: Global,
-        parts: PacerParts<'a>,
+        parts: PacerParts<'a, N>,
         clock: RunningClock<'a, R>,
         seat: BookSeat,
-    ) -> PacerDesk<'a, R>
+        room: PacerRoom,
+    ) -> PacerDesk<'a, R, N>
         requires { IsSeatOf seat parts.lock.now }
     {
         PacerDesk {
@@ -98,11 +100,12 @@ impl<'a, R> PacerDesk<'a, R> {
                 failures: 0,
                 reported: 0,
             },
-            packet: Packet::new(),
+            room,
             moment: 0,
             turns_left: 0,
             is_held: false,
             told: ToldSessions::new(alloc),
+            refusing: ToldSessions::new(alloc),
             seat,
         }
     }
@@ -117,7 +120,7 @@ impl Paced {
     }
 }
 
-impl<R> PacerDesk<'_, R> {
+impl<R, N: Numbers> PacerDesk<'_, R, N> {
     // Counts what came of a turn, of whose packets the first was so many milliseconds late.
     pub(crate) fn count(&mut self, packets: u64, lost: u64, failures: u64, late: u64) {
         self.paced.count(packets, lost, failures);
@@ -126,7 +129,7 @@ impl<R> PacerDesk<'_, R> {
     }
 }
 
-impl<R: Clock> PacerDesk<'_, R> {
+impl<R: Clock, N: Numbers> PacerDesk<'_, R, N> {
     // The present moment, or the latest before it by which no lane is deciding on a PLAY or a PAUSE. What
     // was told once stays: a lane that began to decide since reads its moment after that.
     pub(crate) fn now(&mut self) -> u64 {
@@ -160,7 +163,7 @@ impl<R: Clock> PacerDesk<'_, R> {
     }
 }
 
-impl<R: Wait> PacerDesk<'_, R> {
+impl<R: Wait, N: Numbers> PacerDesk<'_, R, N> {
     // How many milliseconds of media, of so many at most, a play of this rate may send beyond its
     // pace: what is free of the uplink is for all that are late. It is looked at once a second.
     pub(crate) fn take_credit(&mut self, most: u64, rate: u64, moment: u64) -> u64
@@ -179,14 +182,19 @@ impl<R: Wait> PacerDesk<'_, R> {
 
     // Forgets of which sessions it was told that don't live any more, before more memory would be taken.
     fn forget_told(&mut self) {
-        if !self.told.is_full() {
+        if !self.told.is_full() && !self.refusing.is_full() {
             return;
         }
-        for place in (0..self.told.len()).rev() {
+        for place in (0..self.told.len().max(self.refusing.len())).rev() {
             if let Some(session) = self.told.at(place)
                 && self.phase(session).is_none()
             {
                 self.told.forget(place);
+            }
+            if let Some(session) = self.refusing.at(place)
+                && self.phase(session).is_none()
+            {
+                self.refusing.forget(place);
             }
         }
     }
@@ -221,7 +229,7 @@ impl<R: Wait> PacerDesk<'_, R> {
     }
 }
 
-impl<R: Wait + Clock> PacerDesk<'_, R> {
+impl<R: Wait + Clock, N: Numbers> PacerDesk<'_, R, N> {
     // Tells that frames of a session were dropped, once for each session.
     pub(crate) fn tell_dropped(&mut self, session: u64, dropped: Dropped) {
         self.forget_told();
@@ -231,6 +239,15 @@ impl<R: Wait + Clock> PacerDesk<'_, R> {
                 cause: dropped.cause,
             };
             let event = Event::FramesDropped { session, loss };
+            self.parts.log.event(self.rt, event);
+        }
+    }
+
+    // Tells that a port of a session's player refuses all packets, once for each session.
+    pub(crate) fn tell_refusing(&mut self, session: u64) {
+        self.forget_told();
+        if self.refusing.note(session) {
+            let event = Event::PortRefuses { session };
             self.parts.log.event(self.rt, event);
         }
     }

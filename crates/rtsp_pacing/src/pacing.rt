@@ -10,10 +10,11 @@ use crate::desk::{Paced, PacerDesk, PacerParts};
 use crate::inbox::Heard;
 use crate::left_early::{LeftEarly, begun_at};
 use crate::noted::NewPlay;
+use crate::pacer_room::PacerRoom;
 use crate::play::{Next, PacedPlay};
 use crate::plays::PacerPlays;
 use crate::wheel::Wheel;
-use rtsp_lock::BookSeat;
+use rtsp_lock::{BookSeat, Numbers};
 use rtsp_sockets::RunningClock;
 use std::alloc::Global;
 use std::rt::Clock;
@@ -33,15 +34,15 @@ const IDLE: u64 = 1_000;
 
 // What a pacer does its turns with.
 #[derive(Drop)]
-struct Pacing<'a, R> {
+struct Pacing<'a, R, N: Numbers> {
     alloc: Global,
-    desk: PacerDesk<'a, R>,
+    desk: PacerDesk<'a, R, N>,
     wheel: Wheel,
     plays: PacerPlays,
     left_early: LeftEarly,
 }
 
-impl<R: Wait + Clock> Pacing<'_, R> {
+impl<R: Wait + Clock, N: Numbers> Pacing<'_, R, N> {
     // How long the pacer sleeps if it hears nothing. `None` where the system can't tell the time.
     fn sleep(&mut self) -> Option<Duration> {
         let moment = match self.wheel.next_full() {
@@ -130,18 +131,19 @@ impl<R: Wait + Clock> Pacing<'_, R> {
 /// where the players of the configuration are GStreamer, each of its streams says goodbye, too.
 /// Where there is room among the plays, a play needs no memory; where there is neither, it isn't
 /// sent.
-pub fn pace<'a, R: Wait + Clock>(
+pub fn pace<'a, R: Wait + Clock, N: Numbers>(
     rt: &'a R,
     alloc: Global,
-    parts: PacerParts<'a>,
+    parts: PacerParts<'a, N>,
     seat: BookSeat,
     plays: PacerPlays,
+    room: PacerRoom,
 ) -> Paced
     requires { IsSeatOf seat parts.lock.now }
 {
     let clock = RunningClock::new(rt, parts.begun);
     let bell = parts.bell;
-    let mut desk = PacerDesk::new(rt, alloc, parts, clock, seat);
+    let mut desk = PacerDesk::new(rt, alloc, parts, clock, seat, room);
     let wheel = Wheel::new(desk.now());
     let mut pacing = Pacing {
         alloc,

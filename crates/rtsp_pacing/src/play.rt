@@ -8,16 +8,20 @@ ghost use Rattle.rtsp_pacing.specs.Beginning.{Begins, IsApart};
 
 use crate::desk::PacerDesk;
 use crate::dropped::Dropped;
+use crate::frame_run::FrameRun;
 use crate::noted::NewPlay;
+use crate::packet_count::PacketCount;
 use crate::renewal::Renewal;
 use crate::sink::{PacketSink, failures_in};
 use crate::ways::{Ways, rate_of};
 use crate::when::{at_pace, is_given_up, look_again, measured, next_unit, waited_on};
 use rtsp_book::SessionView;
 use rtsp_content::Presentation;
+use rtsp_lock::Numbers;
 use rtsp_record::Phase;
 use rtsp_rtp::{LastTurn, Pacer, Turn, sent_before};
 use std::alloc::Global;
+use std::mem;
 use std::rt::Clock;
 use std::sync::Wait;
 
@@ -58,6 +62,8 @@ pub(crate) struct PacedPlay {
     rate: u64,
     // Its frames that were dropped, and of which it wasn't told yet.
     dropped: Option<Dropped>,
+    // Whether a port of its player refuses all packets, as it was seen last.
+    is_refused: bool,
 }
 
 // What came of sending: a turn, with when the next packet is due; or, where the unit that is due isn't
@@ -105,8 +111,8 @@ fn is_past(phase: Phase, unit_ms: u32, moment: u64) -> bool {
 impl PacedPlay {
     // The play that a PLAY began, and the moment of its first turn, also where the session has left
     // it. `None` where nothing of it can be sent.
-    pub(crate) fn begin<R: Wait>(
-        desk: &mut PacerDesk<'_, R>,
+    pub(crate) fn begin<R: Wait, N: Numbers>(
+        desk: &mut PacerDesk<'_, R, N>,
         asked: NewPlay,
         view: &SessionView,
     ) -> Option<(PacedPlay, u64)>
@@ -132,6 +138,7 @@ impl PacedPlay {
             reached: due,
             rate: rate_of(view),
             dropped: None,
+            is_refused: false,
         };
         Some((play, due))
     }
@@ -162,10 +169,10 @@ impl PacedPlay {
     }
 
     // Takes the turn of the play, if its moment has come.
-    pub(crate) fn turn<R: Wait + Clock>(
+    pub(crate) fn turn<R: Wait + Clock, N: Numbers>(
         &mut self,
         alloc: Global,
-        desk: &mut PacerDesk<'_, R>,
+        desk: &mut PacerDesk<'_, R, N>,
     ) -> Next {
         // The moment comes before the look: what is sent was due while the session was playing.
         let moment = desk.moment();
@@ -177,13 +184,27 @@ impl PacedPlay {
             self.next = due;
         }
         self.tell_dropped(desk, next, moment);
+        self.tell_refusing(desk, moment);
         next
     }
 
-    // Tells of frames that were dropped, once they were counted for long enough or the play is over.
-    fn tell_dropped<R: Wait + Clock>(
+    // Tells of a port that has refused all packets for so long that it is sent none.
+    fn tell_refusing<R: Wait + Clock, N: Numbers>(
         &mut self,
-        desk: &mut PacerDesk<'_, R>,
+        desk: &mut PacerDesk<'_, R, N>,
+        moment: u64,
+    ) {
+        let is_refused = self.ways.is_any_spared(moment);
+        if is_refused && !self.is_refused {
+            desk.tell_refusing(self.session());
+        }
+        self.is_refused = is_refused;
+    }
+
+    // Tells of frames that were dropped, once they were counted for long enough or the play is over.
+    fn tell_dropped<R: Wait + Clock, N: Numbers>(
+        &mut self,
+        desk: &mut PacerDesk<'_, R, N>,
         next: Next,
         moment: u64,
     ) {
@@ -201,17 +222,17 @@ impl PacedPlay {
     }
 
     // Tells of frames that were dropped, where it wasn't: the pacer is at its end.
-    pub(crate) fn tell_rest<R: Wait + Clock>(&self, desk: &mut PacerDesk<'_, R>) {
+    pub(crate) fn tell_rest<R: Wait + Clock, N: Numbers>(&self, desk: &mut PacerDesk<'_, R, N>) {
         if let Some(dropped) = self.dropped {
             desk.tell_dropped(self.session(), dropped);
         }
     }
 
     // Does what is next: sends, or reports the play, or says goodbye.
-    fn turn_at<R: Wait>(
+    fn turn_at<R: Wait, N: Numbers>(
         &mut self,
         alloc: Global,
-        desk: &mut PacerDesk<'_, R>,
+        desk: &mut PacerDesk<'_, R, N>,
         moment: u64,
     ) -> Next {
         let Some(phase) = desk.phase(self.session()) else {
@@ -232,10 +253,10 @@ impl PacedPlay {
     }
 
     // Sends what is due, with measure, and ends the play behind its last packet.
-    fn send_on<R: Wait>(
+    fn send_on<R: Wait, N: Numbers>(
         &mut self,
         alloc: Global,
-        desk: &mut PacerDesk<'_, R>,
+        desk: &mut PacerDesk<'_, R, N>,
         presentation: &Presentation,
         phase: Phase,
         moment: u64,
@@ -243,7 +264,7 @@ impl PacedPlay {
         let unit_ms = presentation.unit_ms().ms();
         self.heed_renewal(desk, moment);
         let passed = moment.saturating_sub(self.last);
-        let (turn, due) = match self.send(desk, phase, unit_ms, moment) {
+        let (turn, due) = match self.send(alloc, desk, phase, unit_ms, moment) {
             Sending::Waits(until) => return Next::At(until),
             Sending::Turned(turn, due) => (turn, due),
         };
@@ -259,7 +280,7 @@ impl PacedPlay {
     }
 
     // Sends again to ports that have refused all, once the session is renewed: its player is there.
-    fn heed_renewal<R: Wait>(&mut self, desk: &mut PacerDesk<'_, R>, moment: u64) {
+    fn heed_renewal<R: Wait, N: Numbers>(&mut self, desk: &mut PacerDesk<'_, R, N>, moment: u64) {
         if !self.ways.is_any_spared(moment) {
             self.renewal = Renewal::unseen();
             return;
@@ -276,9 +297,9 @@ impl PacedPlay {
 
     // The moment up to which it sends in a turn, where its next unit is due at `due`. It keeps its pace,
     // and catches up with measure as far as the uplink is free. What isn't at hand has no use for that.
-    fn sends_until<R: Wait>(
+    fn sends_until<R: Wait, N: Numbers>(
         &mut self,
-        desk: &mut PacerDesk<'_, R>,
+        desk: &mut PacerDesk<'_, R, N>,
         due: u64,
         unit_ms: u32,
         moment: u64,
@@ -299,9 +320,10 @@ impl PacedPlay {
 
     // Sends with measure what is due while the session is in this phase. A play that was left waits
     // for its media, too, but not for ever.
-    fn send<R: Wait>(
+    fn send<R: Wait, N: Numbers>(
         &mut self,
-        desk: &mut PacerDesk<'_, R>,
+        alloc: Global,
+        desk: &mut PacerDesk<'_, R, N>,
         phase: Phase,
         unit_ms: u32,
         moment: u64,
@@ -321,25 +343,32 @@ impl PacedPlay {
             presentation: usize::from(self.presentation),
             now: moment,
             room: self.ways.room_when_late(late),
-            packets: 0,
-            lost: 0,
-            dropped: None,
+            run: mem::replace(&mut desk.room.frames, FrameRun::empty(alloc)),
+            count: PacketCount::none(),
             failed: 0,
             waits: false,
         };
-        let packet = &mut desk.packet;
-        let turn = self.pacer.turn(session, phase, until, packet, &mut sink);
+        let room = &mut desk.room.packets;
+        let turn = self.pacer.turn(session, phase, until, room, &mut sink);
         let left = self.left.unwrap_or(phase);
         let last = if turn == Turn::OtherPlay {
             let pacer = &mut self.pacer;
-            Some(pacer.last_turn(session, left, until, packet, &mut sink))
+            Some(pacer.last_turn(session, left, until, room, &mut sink))
         } else {
             None
         };
-        let (packets, lost, waits) = (sink.packets, sink.lost, sink.waits);
-        let failed = failures_in(sink.failed, waits);
-        self.dropped = Dropped::count(self.dropped, sink.dropped);
-        desk.count(packets, lost, failed, late);
+        sink.put_run();
+        let PacketSink {
+            run,
+            count,
+            failed,
+            waits,
+            ..
+        } = sink;
+        desk.room.frames = run;
+        let failed = failures_in(failed, waits);
+        self.dropped = Dropped::count(self.dropped, count.dropped);
+        desk.count(count.sent, count.lost, failed, late);
         let next = self.pacer.next_due();
         self.last = moment;
         if waits {

@@ -8,6 +8,7 @@ ghost use Rattle.rtsp_pacing.specs.Beginning.{LeavesLatest};
 use crate::desk::PacerDesk;
 use crate::play::{Next, PacedPlay};
 use indexmap::IndexMap;
+use rtsp_lock::Numbers;
 use rtsp_record::Phase;
 use slab::Slab;
 use std::alloc::{AllocError, Global};
@@ -74,10 +75,10 @@ impl PacerPlays {
     }
 
     // Takes the turn of the play of a key: which one is linked before it, and when its next turn is.
-    pub(crate) fn turn<R: Wait + Clock>(
+    pub(crate) fn turn<R: Wait + Clock, N: Numbers>(
         &mut self,
         alloc: Global,
-        desk: &mut PacerDesk<'_, R>,
+        desk: &mut PacerDesk<'_, R, N>,
         key: usize,
     ) -> Option<(Option<usize>, Next)>
         ensures turns { IfSome result (λ turned. Turns self.old key turned.0 self.new) }
@@ -121,7 +122,7 @@ impl PacerPlays {
     }
 
     // Tells of frames of all plays that were dropped, where it wasn't: the pacer is at its end.
-    pub(crate) fn tell_rest<R: Wait + Clock>(&self, desk: &mut PacerDesk<'_, R>) {
+    pub(crate) fn tell_rest<R: Wait + Clock, N: Numbers>(&self, desk: &mut PacerDesk<'_, R, N>) {
         for (_, linked) in self.plays.iter() {
             linked.play.tell_rest(desk);
         }

@@ -8,7 +8,7 @@ ghost use Rattle.rtsp_pacing.specs.Reports.{report_step, is_rtcp_of, has_rtcp, r
 
 use rtsp_book::{SessionView, Step};
 use rtsp_content::{Server, Table};
-use rtsp_lock::{BookLock, BookSeat, Name};
+use rtsp_lock::{BookLock, BookSeat, Name, Numbers};
 use rtsp_record::Thing;
 use std::sync::Wait;
 
@@ -90,10 +90,10 @@ fn report_end(server: &Server, report: Report, view: &SessionView) -> Option<u64
 /// Hears a report about the session of this number: where the channel is RTCP's of one of its
 /// streams, the session lives for the timeout from then on. Where the book refuses the renewal, the
 /// session's end stays.
-pub fn hear<R: Wait>(
+pub fn hear<R: Wait, N: Numbers>(
     rt: &R,
     seat: &mut BookSeat,
-    lock: &BookLock,
+    lock: &BookLock<N>,
     table: &Table,
     session: u64,
     report: Report,

@@ -2,11 +2,12 @@
 
 ghost use Rattle.std.specs.Prelude.{◌≡◌, ◌-◌, if◌then◌else◌};
 
-use crate::dropped::Dropped;
+use crate::frame_run::FrameRun;
+use crate::packet_count::PacketCount;
 use crate::ways::Ways;
 use crate::went::Went;
 use rtsp_metrics::Counters;
-use rtsp_rtp::{ControlSink, Packet, Sink, SinkFault};
+use rtsp_rtp::{ControlSink, Packet, Sink, SinkFault, SlotFault};
 use rtsp_sockets::{FrameRoom, Media, NotTaken};
 use std::sync::Wait;
 
@@ -23,10 +24,9 @@ pub(crate) struct PacketSink<'a, 'w, R> {
     pub(crate) now: u64,
     // How much of the play's streams may wait for a connection.
     pub(crate) room: FrameRoom,
-    pub(crate) packets: u64,
-    pub(crate) lost: u64,
-    // What of the lost was dropped for want of room.
-    pub(crate) dropped: Option<Dropped>,
+    // The frames of the unit that is being sent, in the pacer's room. They are put before a sink is let go.
+    pub(crate) run: FrameRun,
+    pub(crate) count: PacketCount,
     // The calls that have failed, for whatever reason.
     pub(crate) failed: u64,
     // Whether the last of them was for a unit that isn't read yet.
@@ -41,12 +41,68 @@ pub(crate) fn failures_in(failed: u64, waits: bool) -> u64
     failed.saturating_sub(u64::from(waits))
 }
 
+impl<R: Wait> PacketSink<'_, '_, R> {
+    // Puts frames of a track.
+    fn put(&self, track: u16, frames: &[u8]) -> Went {
+        self.ways
+            .put_frames(self.rt, self.now, self.room, track, frames)
+    }
+
+    // Gathers a frame of a track behind those of its unit; where they have no room for it, they are put.
+    fn gather(&mut self, track: u16, frame: &[u8])
+        ensures { self.new.failed ≡ self.old.failed }
+    {
+        if self.run.add(track, frame) {
+            return;
+        }
+        self.put_run();
+        if !self.run.add(track, frame) {
+            let went = self.put(track, frame);
+            self.count = self.count.with_more(1, went, self.now);
+        }
+    }
+
+    // Puts the frames that were gathered in one call, and one by one where there is no room for all.
+    pub(crate) fn put_run(&mut self)
+        ensures { self.new.failed ≡ self.old.failed }
+    {
+        let (track, frames) = (self.run.track(), self.run.frames());
+        if frames == 0 {
+            return;
+        }
+        let (rt, ways, now, room) = (self.rt, self.ways, self.now, self.room);
+        let went = ways.put_frames(rt, now, room, track, self.run.as_bytes());
+        let count = match went {
+            Went::Dropped(_) if frames > 1 => self.put_each(track, frames),
+            _ => self.count.with_more(frames, went, self.now),
+        };
+        self.count = count;
+        self.run.clear();
+    }
+
+    // Puts the frames that were gathered one by one. What the count comes to.
+    fn put_each(&self, track: u16, frames: u64) -> PacketCount {
+        let mut count = self.count;
+        let mut at = 0usize;
+        for _ in 0..frames {
+            let Some(frame) = self.run.frame_at(at) else {
+                return count;
+            };
+            at = at.saturating_add(frame.len());
+            let went = self.put(track, frame);
+            count = count.with_more(1, went, self.now);
+        }
+        count
+    }
+}
+
 impl<R: Wait> Sink for PacketSink<'_, '_, R> {
     ghost use Rattle.std.specs.Prelude.{⊤};
 
-    ghost calls = { record { octets = λ s track unit bytes u. ⊤; sends = λ s track packet u. ⊤; fails = λ s u. ⊤; failures = λ s. s.failed } };
+    ghost calls = { record { octets = λ s track unit bytes u. ⊤; sends = λ s track packet u. ⊤; refuses = λ s track unit fault u. ⊤; reports = λ s track packet u. ⊤; fails = λ s u. ⊤; failures = λ s. s.failed } };
 
     fn octets(&mut self, track: u16, unit: u32, out: &mut [u8]) -> Result<(), SinkFault> {
+        self.put_run();
         let presentation = self.presentation;
         let taken = self
             .media
@@ -63,18 +119,24 @@ impl<R: Wait> Sink for PacketSink<'_, '_, R> {
         Err(SinkFault)
     }
 
-    fn send(&mut self, track: u16, packet: &mut Packet) -> Result<(), SinkFault> {
-        let went = self.ways.send(self.rt, self.now, self.room, track, packet);
-        if went == Went::Sent {
-            self.packets = self.packets.saturating_add(1);
-        } else {
-            self.lost = self.lost.saturating_add(1);
+    fn send(&mut self, track: u16, packet: &mut Packet) {
+        match self.ways.channel_number(track) {
+            Some(number) => self.gather(track, packet.frame(number)),
+            None => {
+                let went = self.ways.send_datagram(self.now, track, packet.datagram());
+                self.count = self.count.with_more(1, went, self.now);
+            }
         }
-        if let Went::Dropped(cause) = went {
-            let one = Dropped::one(cause, self.now);
-            self.dropped = Dropped::count(self.dropped, Some(one));
-        }
-        Ok(())
+    }
+
+    fn refuse(&mut self, track: u16, _unit: u32, _fault: SlotFault) {
+        let presentation = u16::try_from(self.presentation).unwrap_or(u16::MAX);
+        self.counters.media_failed(presentation, track);
+    }
+
+    fn report(&mut self, track: u16, packet: &mut Packet) {
+        self.put_run();
+        self.ways.send_control(self.rt, self.now, track, packet);
     }
 }
 

@@ -5,6 +5,7 @@ use crate::desk::PacerParts;
 use crate::refusals::Refusals;
 use crate::went::Went;
 use rtsp_book::SessionView;
+use rtsp_lock::Numbers;
 use rtsp_record::{Admission, Stream, Thing};
 use rtsp_rtp::Packet;
 use rtsp_sockets::{FrameRoom, PortSockets};
@@ -64,9 +65,9 @@ fn datagrams(sockets: Option<Arc<PortSockets>>, stream: &Stream) -> Way {
 }
 
 // The way of a stream under an admission.
-fn way_of<R: Wait>(
+fn way_of<R: Wait, N: Numbers>(
     rt: &R,
-    parts: &PacerParts<'_>,
+    parts: &PacerParts<'_, N>,
     number: u64,
     admission: &Admission,
     stream: &Stream,
@@ -149,18 +150,17 @@ impl Way {
         }
     }
 
-    // Sends a packet, which may wait within this room where it is a frame.
-    fn send<R: Wait>(&self, rt: &R, now: u64, room: FrameRoom, packet: &mut Packet) -> Went {
+    // Sends a datagram. Frames are put on the channel.
+    fn send_datagram(&self, now: u64, datagram: &[u8]) -> Went {
         match self {
-            Way::Nowhere => Went::Lost,
             Way::Datagrams(port) => {
-                if port.send(now, packet.datagram()) {
+                if port.send(now, datagram) {
                     Went::Sent
                 } else {
                     Went::Lost
                 }
             }
-            Way::Frames(channel) => channel.put(rt, now, room, packet.frame(channel.number())),
+            Way::Nowhere | Way::Frames(_) => Went::Lost,
         }
     }
 
@@ -179,7 +179,11 @@ impl Way {
 
 impl Ways {
     // The ways of the streams that a session has.
-    pub(crate) fn of<R: Wait>(rt: &R, parts: &PacerParts<'_>, view: &SessionView) -> Ways {
+    pub(crate) fn of<R: Wait, N: Numbers>(
+        rt: &R,
+        parts: &PacerParts<'_, N>,
+        view: &SessionView,
+    ) -> Ways {
         let mut ways = Ways {
             ways: [
                 Way::Nowhere,
@@ -226,19 +230,35 @@ impl Ways {
         room_when_late(self.frame_rate, late)
     }
 
-    // Sends a packet of a track, which may wait within this room where it is a frame.
-    pub(crate) fn send<R: Wait>(
+    // The number of the channel that packets of a track go to as frames, if they do.
+    pub(crate) fn channel_number(&self, track: u16) -> Option<u8> {
+        match self.ways.get(usize::from(track)) {
+            Some(Way::Frames(channel)) => Some(channel.number()),
+            _ => None,
+        }
+    }
+
+    // Puts frames of a track, one behind another, which may wait within this room: all of them, or none.
+    pub(crate) fn put_frames<R: Wait>(
         &self,
         rt: &R,
         now: u64,
         room: FrameRoom,
         track: u16,
-        packet: &mut Packet,
+        frames: &[u8],
     ) -> Went {
+        match self.ways.get(usize::from(track)) {
+            Some(Way::Frames(channel)) => channel.put(rt, now, room, frames),
+            _ => Went::Lost,
+        }
+    }
+
+    // Sends a packet of a track as a datagram.
+    pub(crate) fn send_datagram(&self, now: u64, track: u16, datagram: &[u8]) -> Went {
         let Some(way) = self.ways.get(usize::from(track)) else {
             return Went::Lost;
         };
-        let went = way.send(rt, now, room, packet);
+        let went = way.send_datagram(now, datagram);
         if went != Went::Sent {
             let until = way.spared_until().max(self.spared_until.get());
             self.spared_until.set(until);

@@ -1,11 +1,12 @@
 -- The moments at which a session may have left a play.
-use Rattle.std.proofs.Common.{◌≡◌, ℕ, ◌+◌, ◌-◌, ◌*◌, ◌/◌, ◌%◌, ◌^◌, ◌<◌, ◌≤◌, min, refl, ap, sym, ◌∙◌, arith, ⊎_elim, subst, drop}
+use Rattle.std.proofs.Common.{List, ◌≡◌, ℕ, ◌+◌, ◌-◌, ◌*◌, ◌/◌, ◌%◌, ◌^◌, ◌<◌, ◌≤◌, min, refl, ap, sym, ◌∙◌, arith, ⊎_elim, subst, drop}
 use Rattle.std.proofs.lemmas.Nat.{div-mul-add, le-div}
 use Rattle.std.proofs.lemmas.Bool.{cases_lt}
 use Rattle.std.proofs.Math.Nat.{div-mul-le_self}
 use Rattle.rtsp_record.specs.declared.phases.Phase.{Phase}
 use Rattle.rtsp_record.specs.declared.phases.Phase.TheVariants.{Ended}
 use Rattle.rtsp_record.specs.Moments.{due, sent_before, sent_with_due}
+use Rattle.rtsp_rtp.specs.declared.sender_state.SenderState.{SenderState}
 use Rattle.rtsp_rtp.specs.Sinks.{Calls}
 use Rattle.rtsp_rtp.specs.Pacing.{Pacing, begun_at, units_in, schedule}
 use Rattle.rtsp_rtp.specs.Turns.{unsent_at, SendsAll, SendsSome}
@@ -90,49 +91,50 @@ pub record HasLeft (p old : Pacing) (session : ℕ) (phase : Phase) (left : ℕ)
   pub few : units_in p.phase < 2 ^ 32
   pub at : IsLeftAt old session phase left
 
-module _ {S : Type 0} (calls : Calls S) (p old : Pacing) (session : ℕ) (phase : Phase) (left moment done : ℕ) (s u : S) where
+module _ {S : Type 0} (calls : Calls S) (p old : Pacing) (session : ℕ) (phase : Phase) (left moment done : ℕ) (e : List SenderState) (s u : S) where
   -- at another moment at which it may have left, as much was to be sent by then
   alike : 0 < p.unit_ms → units_in p.phase < 2 ^ 32 → IsLeftAt p session phase left → (m : ℕ) → IsLeftAt p session phase m
       → due p.phase p.unit_ms (min left moment) ≡ due p.phase p.unit_ms (min m moment)
   alike some few at m other = same_until p.phase phase p.unit_ms left m moment some few at.left other.left
 
   -- a last turn from what was sent in it
-  pub completed : HasLeft p old session phase left → left ≤ moment → SendsAll calls p.phase (unsent_at p (min left moment)) p.done done s u
-      → Completed calls old (record p { done = done }) session phase moment s u
+  pub completed : HasLeft p old session phase left → left ≤ moment → SendsAll calls p.phase p.unit_ms (unsent_at p (min left moment)) p.done done p.states e s u
+      → Completed calls old (record p { states = e; done = done }) session phase moment s u
   completed is past sends =
-      subst (λ (o : Pacing). IsLeftAt o session phase left → Completed calls o (record p { done = done }) session phase moment s u) is.is
+      subst (λ (o : Pacing). IsLeftAt o session phase left → Completed calls o (record p { states = e; done = done }) session phase moment s u) is.is
       (λ at. record {
         when = left;
         left = at;
+        past = past;
         sends = λ m other.
             let all : min left moment ≡ left = omega (arith, past) in
-            subst (λ (n : ℕ). SendsAll calls p.phase (drop p.done (schedule p.sources 0 n)) p.done done s u)
+            subst (λ (n : ℕ). SendsAll calls p.phase p.unit_ms (drop p.done (schedule p.sources 0 n)) p.done done p.states e s u)
             (ap (λ (k : ℕ). due p.phase p.unit_ms k) all ∙ same_due p.phase phase p.unit_ms left m is.few at.left other.left) sends;
         pacer = refl;
       })
       is.at
 
-  pub continued : HasLeft p old session phase left → moment < left → SendsAll calls p.phase (unsent_at p (min left moment)) p.done done s u
-      → Continued calls old (record p { done = done }) session phase moment s u
+  pub continued : HasLeft p old session phase left → moment < left → SendsAll calls p.phase p.unit_ms (unsent_at p (min left moment)) p.done done p.states e s u
+      → Continued calls old (record p { states = e; done = done }) session phase moment s u
   continued is later sends =
-      subst (λ (o : Pacing). IsLeftAt o session phase left → Continued calls o (record p { done = done }) session phase moment s u) is.is
+      subst (λ (o : Pacing). IsLeftAt o session phase left → Continued calls o (record p { states = e; done = done }) session phase moment s u) is.is
       (λ at. record {
         when = left;
         left = at;
         later = later;
-        sends = λ m other. subst (λ (n : ℕ). SendsAll calls p.phase (drop p.done (schedule p.sources 0 n)) p.done done s u) (alike is.unit is.few at m other) sends;
+        sends = λ m other. subst (λ (n : ℕ). SendsAll calls p.phase p.unit_ms (drop p.done (schedule p.sources 0 n)) p.done done p.states e s u) (alike is.unit is.few at m other) sends;
         pacer = refl;
       })
       is.at
 
-  pub interrupted : HasLeft p old session phase left → SendsSome calls p.phase (unsent_at p (min left moment)) p.done done s u
-      → Interrupted calls old (record p { done = done }) session phase moment s u
+  pub interrupted : HasLeft p old session phase left → SendsSome calls p.phase p.unit_ms (unsent_at p (min left moment)) p.done done p.states e s u
+      → Interrupted calls old (record p { states = e; done = done }) session phase moment s u
   interrupted is sends =
-      subst (λ (o : Pacing). IsLeftAt o session phase left → Interrupted calls o (record p { done = done }) session phase moment s u) is.is
+      subst (λ (o : Pacing). IsLeftAt o session phase left → Interrupted calls o (record p { states = e; done = done }) session phase moment s u) is.is
       (λ at. record {
         when = left;
         left = at;
-        sends = λ m other. subst (λ (n : ℕ). SendsSome calls p.phase (drop p.done (schedule p.sources 0 n)) p.done done s u) (alike is.unit is.few at m other) sends;
+        sends = λ m other. subst (λ (n : ℕ). SendsSome calls p.phase p.unit_ms (drop p.done (schedule p.sources 0 n)) p.done done p.states e s u) (alike is.unit is.few at m other) sends;
         pacer = refl;
       })
       is.at

@@ -6,9 +6,10 @@ use Rattle.std.proofs.lemmas.Option.{slice_get-map, slice_get-get_or, none-some}
 use Rattle.std.proofs.Math.Nat.{suc-mul, mul-zero}
 use Rattle.rtsp_record.specs.declared.phases.Phase.{Phase}
 use Rattle.rtsp_rtp.specs.declared.source.Source.{Source}
+use Rattle.rtsp_rtp.specs.declared.sender_state.SenderState.{SenderState}
 use Rattle.rtsp_rtp.specs.Sinks.{Calls}
 use Rattle.rtsp_rtp.specs.Pacing.{schedule}
-use Rattle.rtsp_rtp.specs.Turns.{PacketSent, AllSent}
+use Rattle.rtsp_rtp.specs.Turns.{UnitSent, AllSent}
 
 -- each unit has a packet of each source
 pub schedule-length : (xs : List Source) (i n : ℕ) → length (schedule xs i n) ≡ n * length xs
@@ -71,11 +72,11 @@ next_at xs ys units from u place d same among is begun =
     ∙ (at_unit xs 0 units u place p x is found refl
     ∙ ap (λ (m : ℕ). Some (m, x)) unit))
 
-module _ {S : Type 0} (calls : Calls S) (phase : Phase) where
-  -- one packet more was sent
-  pub sent_next : (slots : List (ℕ × Source)) (m : ℕ) (x : ℕ × Source) (s d u : S) → AllSent calls phase (take m slots) s d → slice_get slots m ≡ Some x → PacketSent calls phase x.0 x.1 d u → AllSent calls phase (take (suc m) slots) s u
-  sent_next [] m x s d u before is one = absurd (none-some x is)
-  sent_next (y ∷ slots) zero x s d u before is one =
+module _ {S : Type 0} (calls : Calls S) (phase : Phase) (unit_ms : ℕ) where
+  -- one unit more was sent
+  pub sent_next : (slots : List (ℕ × Source)) (m : ℕ) (x : ℕ × Source) (c e f : List SenderState) (s d u : S) → AllSent calls phase unit_ms (take m slots) c e s d → slice_get slots m ≡ Some x → UnitSent calls phase unit_ms x.0 x.1 e f d u → AllSent calls phase unit_ms (take (suc m) slots) c f s u
+  sent_next [] m x c e f s d u before is one = absurd (none-some x is)
+  sent_next (y ∷ slots) zero x c e f s d u before is one =
       let same : x ≡ y = cc in
-      (u, subst (λ (z : ℕ × Source). PacketSent calls phase z.0 z.1 s u) same (subst (λ (e : S). PacketSent calls phase x.0 x.1 e u) before one), refl)
-  sent_next (y ∷ slots) (suc m) x s d u before is one = (before.0, before.1, sent_next slots m x before.0 d u before.2 is one)
+      (f, u, subst (λ (z : ℕ × Source). UnitSent calls phase unit_ms z.0 z.1 c f s u) same (subst (λ (n : List SenderState). UnitSent calls phase unit_ms x.0 x.1 n f s u) before.0 (subst (λ (v : S). UnitSent calls phase unit_ms x.0 x.1 e f v u) before.1 one)), (refl, refl))
+  sent_next (y ∷ slots) (suc m) x c e f s d u before is one = (before.0, before.1, before.2, sent_next slots m x before.0 e f before.1 d u before.3 is one)

@@ -37,8 +37,9 @@ module _ {S : Type 0} (calls : Calls S) (p q : Pacing) (session : ℕ) (phase : 
   pub record Completed (s u : S) : Type 0 where
     pub when : ℕ
     pub left : IsLeftAt p session phase when
-    pub sends : (m : ℕ) → IsLeftAt p session phase m → SendsAll calls p.phase (unsent_at p m) p.done q.done s u
-    pub pacer : q ≡ record p { done = q.done }
+    pub past : when ≤ moment
+    pub sends : (m : ℕ) → IsLeftAt p session phase m → SendsAll calls p.phase p.unit_ms (unsent_at p m) p.done q.done p.states q.states s u
+    pub pacer : q ≡ record p { states = q.states; done = q.done }
 
   -- of this, what is due at the given moment was sent; the session may have left at a later moment, so more
   -- may come due
@@ -46,15 +47,15 @@ module _ {S : Type 0} (calls : Calls S) (p q : Pacing) (session : ℕ) (phase : 
     pub when : ℕ
     pub left : IsLeftAt p session phase when
     pub later : moment < when
-    pub sends : (m : ℕ) → IsLeftAt p session phase m → SendsAll calls p.phase (unsent_at p (min m moment)) p.done q.done s u
-    pub pacer : q ≡ record p { done = q.done }
+    pub sends : (m : ℕ) → IsLeftAt p session phase m → SendsAll calls p.phase p.unit_ms (unsent_at p (min m moment)) p.done q.done p.states q.states s u
+    pub pacer : q ≡ record p { states = q.states; done = q.done }
 
   -- some of this was sent, and then the sink failed
   pub record Interrupted (s u : S) : Type 0 where
     pub when : ℕ
     pub left : IsLeftAt p session phase when
-    pub sends : (m : ℕ) → IsLeftAt p session phase m → SendsSome calls p.phase (unsent_at p (min m moment)) p.done q.done s u
-    pub pacer : q ≡ record p { done = q.done }
+    pub sends : (m : ℕ) → IsLeftAt p session phase m → SendsSome calls p.phase p.unit_ms (unsent_at p (min m moment)) p.done q.done p.states q.states s u
+    pub pacer : q ≡ record p { states = q.states; done = q.done }
 
   -- a last turn of the pacer p at a moment, by its answer
   abbrev pub LastTurned : LastTurn → S → S → Type 0

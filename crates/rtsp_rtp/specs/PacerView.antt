@@ -5,7 +5,7 @@ use Rattle.rtsp_rtp.specs.Pacing.{Pacing, IsPacing}
 use Rattle.rtsp_rtp.specs.Progress.{pacing_of, IsPlaced}
 
 abbrev pub pacing_view : Inside → Pacing
-pacing_view p = pacing_of p.play p.next
+pacing_view p = pacing_of p.play p.next p.states
 
 pub record IsInside (p : Inside) : Type 0 where
   pub pacing : IsPacing (pacing_view p)

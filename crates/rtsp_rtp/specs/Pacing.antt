@@ -9,16 +9,20 @@ use Rattle.rtsp_record.specs.Rules.{is_playing}
 use Rattle.rtsp_sessions.specs.Searches.{first_with, is_of_track}
 use Rattle.rtsp_content.specs.TrackValue.{TrackValue}
 use Rattle.rtsp_content.specs.PresentationValue.{PresentationValue}
-use Rattle.rtsp_content.specs.declared.limits.TheConstants.{MAX_OCTETS, MAX_TRACKS, MAX_UNIT_MS}
+use Rattle.rtsp_content.specs.declared.limits.TheConstants.{MAX_TRACKS, MAX_UNIT_MS}
 use Rattle.rtsp_rtp.specs.declared.source.Source.{Source}
 use Rattle.rtsp_rtp.specs.Packets.{source_of}
+use Rattle.rtsp_content.specs.PackingLimits.{IsPackedWithin}
+use Rattle.rtsp_rtp.specs.declared.sender_state.SenderState.{SenderState}
+use Rattle.rtsp_rtp.specs.SenderStates.{unsent_states}
 
--- the play of a session, and how many of its packets have been sent
+-- the play of a session, what its streams have sent, and how many units of a source
 pub record Pacing : Type 0 where
   pub session : ℕ
   pub phase : Phase
   pub unit_ms : ℕ
   pub sources : List Source
+  pub states : List SenderState
   pub done : ℕ
 
 -- The parts of a play; without one, nothing.
@@ -61,16 +65,21 @@ sources_from f i (t ∷ ts) = with_source (source_under t (first_with (is_of_tra
 abbrev pub started : ℕ × Session → Phase → PresentationValue → Option Pacing
 started v phase p =
     if is_playing phase
-    then Some (record { session = v.0; phase = phase; unit_ms = p.unit_ms; sources = sources_from v.1 0 p.tracks; done = 0 })
+    then Some (record { session = v.0; phase = phase; unit_ms = p.unit_ms; sources = sources_from v.1 0 p.tracks; states = unsent_states; done = 0 })
     else None
 
 -- the session and the phase are those that the pacer was made for
 abbrev pub IsOfPlay : Pacing → ℕ → Phase → Type 0
 IsOfPlay p session phase = (session ≡ p.session) × (phase ≡ p.phase)
 
--- how many packets the whole play has
+-- how many units of a source the whole play has
 abbrev pub packets_in : Pacing → ℕ
 packets_in p = units_in p.phase * length p.sources
+
+-- the numbers of a source are within their limits
+pub record IsSourceWithin (x : Source) : Type 0 where
+  pub packed : IsPackedWithin x.packing x.octets
+  pub track : x.track < MAX_TRACKS
 
 -- what is true of every pacer
 pub record IsPacing (p : Pacing) : Type 0 where
@@ -78,10 +87,11 @@ pub record IsPacing (p : Pacing) : Type 0 where
   pub unit : 0 < p.unit_ms
   pub unit_most : p.unit_ms ≤ MAX_UNIT_MS
   pub few : length p.sources ≤ MAX_TRACKS
-  pub short : All (λ x. x.octets ≤ MAX_OCTETS) p.sources
+  pub sources : All IsSourceWithin p.sources
+  pub states : length p.states ≡ MAX_TRACKS
   pub sent : p.done ≤ packets_in p
 
--- What is sent of a play, a packet each: the unit of the play, and the source.
+-- What is sent of a play: the unit of the play, and the source.
 
 -- of n units from the unit i on: by unit, and then in the order of the sources
 abbrev pub schedule : List Source → ℕ → ℕ → List (ℕ × Source)

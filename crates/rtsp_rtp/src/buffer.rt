@@ -1,14 +1,14 @@
 //! A packet in a buffer of fixed size.
 
-ghost use Rattle.std.specs.Prelude.{◌≡◌, ◌≤◌, [], length, OnOk, OnErr};
+ghost use Rattle.std.specs.Prelude.{◌≡◌, ◌≤◌, ◌++◌, [], length, OnOk, OnErr};
 ghost use Rattle.rtsp_grammar.specs.Frame.{frame_text};
 ghost use Rattle.rtsp_content.specs.declared.limits.TheConstants.{MAX_OCTETS};
 ghost use Rattle.rtsp_rtp.specs.Buffers.{framed, Filled};
 ghost use Rattle.rtsp_rtp.specs.Sinks.{Failed};
-ghost use Rattle.rtsp_rtp.specs.Packets.{packet_of};
+ghost use Rattle.rtsp_rtp.specs.Packets.{packet_of, marked_header};
 
 use crate::sink::{Sink, SinkFault};
-use crate::source::Source;
+use crate::source::{PacketHeader, Source};
 use std::marker::Model;
 
 const DOLLAR: u8 = 0x24;
@@ -82,6 +82,16 @@ impl Packet {
         self.len = 12 + payload.len();
     }
 
+    // Puts a packet of a unit of several in place of what is there.
+    pub(crate) fn put_marked(&mut self, source: &Source, header: PacketHeader, payload: &[u8])
+        requires { length payload.now ≤ MAX_OCTETS }
+        ensures { self.new ≡ marked_header source.now header.marker header.number header.timestamp ++ payload.now }
+    {
+        source.put_marked_header(header, &mut self.buffer);
+        self.buffer[16..16 + payload.len()].copy_from_slice(payload);
+        self.len = 12 + payload.len();
+    }
+
     // Puts a whole packet in place of what is there.
     pub(crate) fn put_whole(&mut self, packet: &[u8])
         requires { length packet.now ≤ MAX_OCTETS }
@@ -104,7 +114,7 @@ impl Packet {
         ensures ok { OnOk result (Filled S.calls source.now sent unit self.new sink.old sink.new) }
         ensures err { OnErr result (Failed S.calls sink.old sink.new) }
     {
-        let octets = usize::from(source.octets);
+        let octets = source.octets as usize;
         self.len = 12 + octets;
         source.put_header(sent, &mut self.buffer);
         sink.octets(source.track, unit, &mut self.buffer[16..16 + octets])

@@ -1,15 +1,16 @@
 //! The pace of one play.
 
 ghost use Rattle.std.specs.Prelude.{◌≡◌, ◌↔◌, ◌<◌, ◌^◌, IsTrue, IfSome, IfNone};
-ghost use Rattle.rtsp_rtp.specs.Pacing.{IsOfPlay, packets_in, started, units_in};
+ghost use Rattle.rtsp_rtp.specs.Pacing.{IsOfPlay, IsPacing, packets_in, started, units_in};
 ghost use Rattle.rtsp_rtp.specs.Turns.{Turned, CountsFault};
 ghost use Rattle.rtsp_rtp.specs.Leaving.{IsLeftAt, IsNeverLeft, LastTurned, CountsLastFault};
 ghost use Rattle.rtsp_rtp.specs.Moments.{IsNextDue, IsNeverDue};
 ghost use Rattle.rtsp_rtp.specs.Goodbyes.{SaysGoodbye};
 
-use crate::buffer::Packet;
 use crate::goodbye::{ControlSink, say_goodbye};
 use crate::play::{Play, Progress};
+use crate::send_room::SendRoom;
+use crate::sender_state::SenderStates;
 use crate::sink::{Sink, SinkFault};
 use crate::sources::Sources;
 use crate::turn::{LastTurn, Turn};
@@ -23,6 +24,7 @@ use std::marker::Model;
 #[derive(Drop)]
 pub struct Pacer {
     next: Progress,
+    states: SenderStates,
     play: Play,
 }
 
@@ -53,6 +55,7 @@ impl Pacer {
                 since,
             } => Some(Pacer {
                 next: Progress { unit: 0, place: 0 },
+                states: SenderStates::unsent(),
                 play: Play {
                     session: view.session(),
                     from,
@@ -84,14 +87,14 @@ impl Pacer {
 
     /// Sends what is due at a moment, in milliseconds, and unsent: by unit, and then in the order
     /// of the presentation's tracks. What was sent is never sent again. `phase` is the one that the
-    /// session is in at that moment. `packet` is room to make packets in: what it holds counts for
-    /// nothing, and a caller that keeps it from turn to turn saves clearing it.
+    /// session is in at that moment. Behind the packets of a unit of several the stream reports, where
+    /// it hasn't for a second.
     pub fn turn<S: Sink>(
         &mut self,
         session: u64,
         phase: Phase,
         moment: u64,
-        packet: &mut Packet,
+        room: &mut SendRoom,
         sink: &mut S,
     ) -> Turn
         ensures turned { Turned S.calls self.old self.new session phase moment result sink.old sink.new }
@@ -100,7 +103,14 @@ impl Pacer {
         if !self.is_of(session, phase) {
             return Turn::OtherPlay;
         }
-        if let Err(SinkFault) = self.play.send_due(&mut self.next, moment, packet, sink) {
+        if let Err(SinkFault) = self.play.send_due(
+            &mut self.next,
+            &mut self.states,
+            moment,
+            &mut room.packet,
+            room.unit.as_mut_slice(),
+            sink,
+        ) {
             return Turn::SinkFailed;
         }
         if self.is_at_end() {
@@ -118,7 +128,7 @@ impl Pacer {
         session: u64,
         phase: Phase,
         moment: u64,
-        packet: &mut Packet,
+        room: &mut SendRoom,
         sink: &mut S,
     ) -> LastTurn
         ensures turned { LastTurned S.calls self.old self.new session phase moment result sink.old sink.new }
@@ -128,7 +138,14 @@ impl Pacer {
             return LastTurn::NotLeft;
         };
         let until = left.min(moment);
-        if let Err(SinkFault) = self.play.send_due(&mut self.next, until, packet, sink) {
+        if let Err(SinkFault) = self.play.send_due(
+            &mut self.next,
+            &mut self.states,
+            until,
+            &mut room.packet,
+            room.unit.as_mut_slice(),
+            sink,
+        ) {
             return LastTurn::SinkFailed;
         }
         if moment < left {
@@ -147,6 +164,13 @@ impl Pacer {
             return None;
         }
         self.play.left_for(phase)
+    }
+
+    // What its type says of it.
+    pub(crate) fn told(&self)
+        ensures { IsPacing self.now }
+    {
+        let _next = self.next;
     }
 
     // Whether no packet is left.
@@ -171,10 +195,9 @@ impl Pacer {
     }
 
     /// Says goodbye for each stream of the play, in the order of the presentation's tracks.
-    /// `packet` is room to make packets in.
-    pub fn say_goodbye<S: ControlSink>(&self, packet: &mut Packet, sink: &mut S)
+    pub fn say_goodbye<S: ControlSink>(&self, room: &mut SendRoom, sink: &mut S)
         ensures { SaysGoodbye S.sends self.now.sources sink.old sink.new }
     {
-        say_goodbye(self.play.sources.as_slice(), packet, sink);
+        say_goodbye(self.play.sources.as_slice(), &mut room.packet, sink);
     }
 }

@@ -1,15 +1,15 @@
-//! One play of one session, and the sending of its packets.
+//! One play of one session, and the sending of what is due of it.
 
 ghost use Rattle.std.specs.Prelude.{◌≡◌, ◌↔◌, ◌<◌, ◌≤◌, ◌+◌, IsTrue, length, OnOk, OnErr};
 ghost use Rattle.rtsp_record.specs.Moments.{due, sent_before};
-ghost use Rattle.rtsp_content.specs.declared.limits.TheConstants.{MAX_OCTETS, MAX_UNIT_MS};
+ghost use Rattle.rtsp_content.specs.declared.limits.TheConstants.{MAX_UNIT_MS};
 ghost use Rattle.rtsp_rtp.specs.Pacing.{units_in};
-ghost use Rattle.rtsp_rtp.specs.Turns.{PacketSent, PacketFailed};
+ghost use Rattle.rtsp_rtp.specs.Parts.{MAX_UNIT_LEN};
 ghost use Rattle.rtsp_rtp.specs.Progress.{phase_of, sent_at, IsPlaced, SendsDue, SendsDuePart};
 
 use crate::buffer::Packet;
+use crate::sender_state::SenderStates;
 use crate::sink::{Sink, SinkFault};
-use crate::source::Source;
 use crate::sources::Sources;
 use rtsp_record::Phase;
 
@@ -90,37 +90,23 @@ impl Play {
         unit < self.units() && u64::from(unit) * u64::from(self.unit_ms) <= passed
     }
 
-    // Makes the packet of a unit of the play and a source, and sends it.
-    fn send<S: Sink>(
-        &self,
-        unit: u32,
-        source: &Source,
-        packet: &mut Packet,
-        sink: &mut S,
-    ) -> Result<(), SinkFault>
-        requires unit { unit < units_in (phase_of self.now) }
-        requires short { source.now.octets ≤ MAX_OCTETS }
-        ensures ok { OnOk result (PacketSent S.calls (phase_of self.now) unit source.now sink.old sink.new) }
-        ensures err { OnErr result (PacketFailed S.calls (phase_of self.now) unit source.now sink.old sink.new) }
-    {
-        let sent = self.sent.wrapping_add(unit);
-        packet.fill(source, sent, self.from + unit, sink)?;
-        sink.send(source.track, packet)
-    }
-
-    // Sends the packets that are due at a moment and unsent.
+    // Sends what is due at a moment and unsent. The room is for the octets of a unit of several packets.
     pub(crate) fn send_due<S: Sink>(
         &self,
         at: &mut Progress,
+        states: &mut SenderStates,
         moment: u64,
         packet: &mut Packet,
+        room: &mut [u8],
         sink: &mut S,
     ) -> Result<(), SinkFault>
         requires some { 0 < self.now.unit_ms }
         requires most { self.now.unit_ms ≤ MAX_UNIT_MS }
         requires placed { IsPlaced (length self.now.sources) at.old }
-        ensures ok { OnOk result (SendsDue S.calls self.now moment at.old at.new sink.old sink.new) }
-        ensures err { OnErr result (SendsDuePart S.calls self.now moment at.old at.new sink.old sink.new) }
+        requires room { MAX_UNIT_LEN ≤ length room.old }
+        ensures ok { OnOk result (SendsDue S.calls self.now moment at.old at.new states.old states.new sink.old sink.new) }
+        ensures err { OnErr result (SendsDuePart S.calls self.now moment at.old at.new states.old states.new sink.old sink.new) }
+        ensures room { length room.new ≡ length room.old }
         ensures placed { IsPlaced (length self.now.sources) at.new }
     {
         let sources = self.sources.as_slice();
@@ -128,7 +114,7 @@ impl Play {
             return Ok(());
         }
         while self.is_due(at.unit, moment) {
-            self.send(at.unit, &sources[at.place], packet, sink)?;
+            self.send(at.unit, &sources[at.place], states, packet, room, sink)?;
             at.step(sources.len());
         }
         Ok(())

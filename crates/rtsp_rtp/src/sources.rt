@@ -3,11 +3,11 @@
 ghost use Rattle.std.specs.Prelude.{◌≡◌, ◌<◌, ◌≤◌, [], ◌∷◌, ◌++◌, length, All, IfSome};
 ghost use Rattle.std.specs.FinMap.{entries};
 ghost use Rattle.rtsp_sessions.specs.Searches.{first_with, is_of_track};
-ghost use Rattle.rtsp_content.specs.declared.limits.TheConstants.{MAX_OCTETS, MAX_TRACKS};
-ghost use Rattle.rtsp_rtp.specs.Pacing.{source_under, sources_from};
+ghost use Rattle.rtsp_content.specs.declared.limits.TheConstants.{MAX_TRACKS};
+ghost use Rattle.rtsp_rtp.specs.Pacing.{IsSourceWithin, source_under, sources_from};
 
 use crate::source::Source;
-use rtsp_content::{MAX_TRACKS, Presentation, Track};
+use rtsp_content::{MAX_TRACKS, Packing, Presentation, Track};
 use rtsp_sessions::SessionView;
 use std::marker::Model;
 
@@ -21,14 +21,15 @@ pub struct Sources {
 
 impl Model for Sources {
     ghost use Rattle.std.specs.Prelude.{List, take, ◌≤◌, All};
-    ghost use Rattle.rtsp_content.specs.declared.limits.TheConstants.{MAX_OCTETS, MAX_TRACKS};
+    ghost use Rattle.rtsp_content.specs.declared.limits.TheConstants.{MAX_TRACKS};
     ghost use Rattle.rtsp_rtp.specs.declared.source.Source.{Source};
+    ghost use Rattle.rtsp_rtp.specs.Pacing.{IsSourceWithin};
 
     ghost Value = { List Source };
 
     ghost view = { λ s. take s.len s.rows };
 
-    ghost invariant = { λ s. (s.len ≤ MAX_TRACKS) × All (λ x. x.octets ≤ MAX_OCTETS) (take s.len s.rows) };
+    ghost invariant = { λ s. (s.len ≤ MAX_TRACKS) × All IsSourceWithin (take s.len s.rows) };
 }
 
 impl Sources {
@@ -38,6 +39,7 @@ impl Sources {
         let blank = Source {
             track: 0,
             payload_type: 0,
+            packing: Packing::Single,
             octets: 0,
             ticks: 0,
             ssrc: 0,
@@ -52,7 +54,7 @@ impl Sources {
 
     fn push(&mut self, source: Source)
         requires room { length self.old < MAX_TRACKS }
-        requires short { source.octets ≤ MAX_OCTETS }
+        requires within { IsSourceWithin source }
         ensures { self.new ≡ self.old ++ source ∷ [] }
     {
         self.rows[self.len] = source;
@@ -62,7 +64,7 @@ impl Sources {
     pub(crate) fn as_slice(&self) -> &[Source]
         ensures value { result.now ≡ self.now }
         ensures few { length result.now ≤ MAX_TRACKS }
-        ensures short { All (λ x. x.octets ≤ MAX_OCTETS) result.now }
+        ensures within { All IsSourceWithin result.now }
     {
         &self.rows[..self.len]
     }
@@ -83,8 +85,9 @@ impl Sources {
 
 // The source of a track, where the session has a stream of it.
 fn source_under(view: &SessionView, index: u16, track: &Track) -> Option<Source>
+    requires { index < MAX_TRACKS }
     ensures value { result ≡ source_under track.now (first_with (is_of_track index) (entries view.now.1.admissions)) }
-    ensures short { IfSome result (λ x. x.octets ≤ MAX_OCTETS) }
+    ensures within { IfSome result IsSourceWithin }
 {
     let (_, admission) = view.with_track(index)?;
     let stream = admission.stream?;

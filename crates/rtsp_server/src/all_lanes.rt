@@ -1,5 +1,6 @@
 //! What is known of all lanes.
 
+use crate::stopping::StopTimes;
 use crossbeam_utils::CachePadded;
 use mio::Waker;
 use rtsp_metrics::{AnswerCounters, Counts};
@@ -16,6 +17,8 @@ pub(crate) struct AllLanes {
     answers: Mutex<Vec<Arc<CachePadded<AnswerCounters>>>>,
     // The moment from which on no connection is waited for, the greatest while the server serves.
     stop_by: AtomicU64,
+    // The moment from which on no disk is waited for.
+    leave_by: AtomicU64,
     // How many lanes have begun.
     standing: AtomicU64,
 }
@@ -27,6 +30,7 @@ impl AllLanes {
             wakers: Mutex::new(Vec::new(alloc)),
             answers: Mutex::new(Vec::new(alloc)),
             stop_by: AtomicU64::new(u64::MAX),
+            leave_by: AtomicU64::new(u64::MAX),
             standing: AtomicU64::new(0),
         }
     }
@@ -74,11 +78,16 @@ impl AllLanes {
         }
     }
 
-    /// From this moment on, in milliseconds, no connection is waited for, unless it was an earlier one
-    /// already.
-    pub(crate) fn set_stop<R: Wait>(&self, rt: &R, by: u64) {
-        self.stop_by.fetch_min(by, Ordering::SeqCst);
+    /// From these moments on no connection and no disk is waited for, unless it was an earlier one already.
+    pub(crate) fn set_stop<R: Wait>(&self, rt: &R, times: StopTimes) {
+        self.leave_by.fetch_min(times.leave, Ordering::SeqCst);
+        self.stop_by.fetch_min(times.hang_up, Ordering::SeqCst);
         self.wake(rt);
+    }
+
+    /// Whether no disk is waited for any more at this moment.
+    pub(crate) fn leaves_disks(&self, now: u64) -> bool {
+        self.leave_by.load(Ordering::SeqCst) <= now
     }
 
     /// The moment from which on no connection is waited for, where the server is at its end.

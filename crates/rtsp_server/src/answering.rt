@@ -5,6 +5,7 @@ ghost use Rattle.rtsp_grammar.specs.Answer.{IsUndecided};
 ghost use Rattle.rtsp_traits.specs.Devices.{devices};
 ghost use Rattle.rtsp_engine.specs.Serving.{serving_of};
 ghost use Rattle.rtsp_watch.specs.Understanding.{AnswersUnderstood, GivesUpUnderstood, TakesPiece, FaultsPiece, gathered};
+ghost use Rattle.rtsp_watch.specs.Understanding.{LeavesTaken, LeavesFaulted};
 
 use crate::channels::Channels;
 use crate::figures::AnswerCounter;
@@ -69,6 +70,16 @@ fn answer_piece<R: Wait + Net + rt::Clock, W: Words, P: Plays>(
         (gathered service.entry.now.table.now asker handle.new.seat room.new)) }
     ensures undecided { OnOk result (IsUndecided input.new) }
     ensures ends { IfErr result (λ f. FaultsPiece (devices ⟦<PortBinder<'static, R> as Binder>⟧.calls W.calls
+        ⟦<PieceClock<'static, R> as Clock>⟧.tells P.calls ⟦<LaneShares<'static, R> as Shares>⟧.calls)
+        (input.old ++ piece.now) f
+        (gathered service.entry.now.table.now asker handle.old.seat room.old)
+        (gathered service.entry.now.table.now asker handle.new.seat room.new)) }
+    ensures clean { OnOk result (LeavesTaken (devices ⟦<PortBinder<'static, R> as Binder>⟧.calls W.calls
+        ⟦<PieceClock<'static, R> as Clock>⟧.tells P.calls ⟦<LaneShares<'static, R> as Shares>⟧.calls)
+        (input.old ++ piece.now) input.new
+        (gathered service.entry.now.table.now asker handle.old.seat room.old)
+        (gathered service.entry.now.table.now asker handle.new.seat room.new)) }
+    ensures clean_end { IfErr result (λ f. LeavesFaulted (devices ⟦<PortBinder<'static, R> as Binder>⟧.calls W.calls
         ⟦<PieceClock<'static, R> as Clock>⟧.tells P.calls ⟦<LaneShares<'static, R> as Shares>⟧.calls)
         (input.old ++ piece.now) f
         (gathered service.entry.now.table.now asker handle.old.seat room.old)

@@ -1,11 +1,13 @@
 //! A connection of a lane.
 
 mod holding_back;
+mod taking_a_name;
 
 use self::holding_back::Passage;
 use crate::answering::Front;
 use crate::channels::Channels;
 use crate::hearing::Hearing;
+use crate::naming::Naming;
 use crate::service::Service;
 use crate::shared::{Lent, Shared};
 use crate::tools::Tools;
@@ -40,7 +42,9 @@ enum Stage {
 /// A connection of a lane.
 pub(crate) struct Client {
     handle: BookHandle,
+    // While the header is awaited, its peer is the balancer.
     asker: Asker,
+    naming: Naming,
     // The address of the host that the player connected to. Packets over UDP leave from it.
     host: Ipv4Addr,
     outlet: Arc<Outlet>,
@@ -90,6 +94,7 @@ impl Client {
         lane: &mut BookHandle,
         stream: TcpStream,
         peer: u32,
+        naming: Naming,
     ) -> Option<Client> {
         if stream.set_nodelay(true).is_err() || !prepare(stream.as_raw_fd()) {
             return None;
@@ -103,6 +108,7 @@ impl Client {
         Some(Client {
             handle,
             asker: Asker { conn, peer },
+            naming,
             host,
             outlet,
             input: Connection::new(service.alloc),
@@ -150,13 +156,16 @@ impl Client {
         until: u64,
     ) -> Visit {
         if self.is_over {
-            return Visit::Ended;
+            return self.end_overdue(service);
         }
         if self.is_writable && !self.flush(service.rt, service.now) {
             return Visit::Ended;
         }
         if !self.is_readable || self.stage != Stage::Open {
             return Visit::Done;
+        }
+        if let Some(visit) = self.take_name(service, tools) {
+            return visit;
         }
         if self.hearing.is_held_up(&service.shared.bells) {
             return Visit::Held;
@@ -336,7 +345,7 @@ impl Client {
     /// milliseconds.
     pub(crate) fn sweep<R: Wait>(&mut self, rt: &R, timeout: u64, moment: u64) -> bool {
         self.outlet.close_stalled(rt, moment);
-        self.is_over = self.is_overdue(moment, timeout);
+        self.is_over = self.naming.is_overdue(moment) || self.is_overdue(moment, timeout);
         // A pacer may have written what the lane waits for, which the system doesn't tell of then.
         let waits = self.outlet.waiting(rt) > 0 || self.stage != Stage::Open;
         self.is_writable = self.is_writable || waits;
@@ -363,7 +372,7 @@ impl Client {
         if take_leave(rt, &mut self.handle, &mut binder, conn, &mut shares) {
             shared.ends.note();
         }
-        shared.gate.leave(rt, peer);
+        shared.gate.leave(rt, self.naming.place(peer));
     }
 }
 
@@ -373,6 +382,7 @@ impl Drop for Client {
         let Self {
             handle: _handle,
             asker: _,
+            naming: _,
             host: _,
             outlet: _outlet,
             input: _input,

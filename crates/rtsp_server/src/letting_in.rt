@@ -2,6 +2,7 @@
 
 use crate::client::Client;
 use crate::clients::Clients;
+use crate::naming::Naming;
 use crate::service::Service;
 use mio::net::TcpStream;
 use mio::unix::SourceFd;
@@ -48,7 +49,10 @@ impl Clients {
         peer: u32,
     ) {
         let gate = &service.shared.gate;
-        if let Err(why) = gate.enter(service.rt, peer) {
+        let is_listed = service.shared.balancers.is_listed(peer);
+        let naming = Naming::begin(is_listed, service.now);
+        let place = naming.place(peer);
+        if let Err(why) = gate.enter(service.rt, place) {
             service.shared.note_refused(service.rt, peer, why);
             return;
         }
@@ -56,13 +60,13 @@ impl Clients {
         if gate.is_shut() {
             service.shared.lanes.wake(service.rt);
         }
-        let is_taken_in = match Client::open(service, handle, stream, peer) {
+        let is_taken_in = match Client::open(service, handle, stream, peer, naming) {
             Some(client) => self.take_in(service.rt, &service.shared.outlets, client),
             None => false,
         };
         if !is_taken_in {
             service.shared.log.event(service.rt, Event::OutOfMemory);
-            gate.leave(service.rt, peer);
+            gate.leave(service.rt, place);
         }
     }
 

@@ -7,7 +7,7 @@ use crate::threads::OnePacer;
 use mio::net::TcpListener;
 use rtsp_content::{Operation, Table};
 use rtsp_lock::{BookHandle, open_book};
-use rtsp_pacing::PacerPlays;
+use rtsp_pacing::{PacerPlays, PacerRoom};
 use rtsp_sockets::{Media, Reader};
 use rtsp_status::{PEERS, StatusServer};
 use rtsp_threads::{CONNECTIONS, connections_for, descriptor_limit, whole_of};
@@ -128,7 +128,7 @@ impl Opened {
 #[derive(Drop)]
 pub(crate) struct Handles {
     pub(crate) lanes: BookHandle,
-    // Two: the last is that of the sweeper, and the first that of the thread that starts the others.
+    // Two: those of the sweeper and of the thread that writes the journal.
     pub(crate) others: Vec<BookHandle>,
     // That by which the figures are shown, and that by which the book is given up at the end.
     pub(crate) shown: BookHandle,
@@ -275,10 +275,12 @@ fn open_pacer<R: Wait>(
     sessions: u16,
 ) -> Result<OnePacer, ServerFault> {
     let plays = PacerPlays::open(alloc, usize::from(sessions))?;
+    let room = PacerRoom::open(alloc)?;
     match handle.split(rt) {
         Some(handle) => Ok(OnePacer {
             number,
             plays,
+            room,
             handle,
         }),
         None => Err(ServerFault::NoThread),

@@ -53,6 +53,9 @@ impl Parts {
             if !self.is_reading() {
                 return;
             }
+            if self.shared.lanes.leaves_disks(self.shared.now(rt)) {
+                break;
+            }
             thread::sleep(rt, Duration::from_millis(1));
         }
         for reader in &self.readers {

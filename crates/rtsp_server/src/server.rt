@@ -6,8 +6,9 @@ ghost use Rattle.rtsp_record.specs.Books.{book_of};
 
 use crate::fault::ServerFault;
 use crate::opening::{Handles, Listening, Opened, Sending};
-use crate::threads::{Beside, Parts, Start};
+use crate::threads::{Beside, Parts, Served, Start};
 use rtsp_book::Kept;
+use rtsp_chronicle::Doubt;
 use rtsp_content::{Operation, Table};
 use rtsp_lock::{BookHandle, LockBook};
 use rtsp_log::Event;
@@ -29,6 +30,8 @@ pub struct ServerEnd {
     pub pool: PoolEnd,
     /// The book with its last journal, where all threads have let go of it.
     pub book: Option<Kept<LockBook>>,
+    /// What isn't known to be in the journal's file, where a disk held a write up that was left behind.
+    pub left: Option<Doubt>,
 }
 
 /// Is told where a server listens, once all its threads stand but lanes that got none.
@@ -177,8 +180,9 @@ impl Server {
     }
 
     /// Runs the server until it has served as many connections as it was opened for, or the process is
-    /// asked to end, and joins all threads, but for those that read ahead: one that a disk holds up is left
-    /// behind. Then no session lives in the last journal, so nothing is held. `DeviceFailed` where the folder of the journal takes no file, or where it couldn't be told
+    /// asked to end, and joins all threads, but for those that read ahead and the one that writes the
+    /// journal: what a disk holds up is left behind. Then no session lives in the last journal, so nothing
+    /// is held. `DeviceFailed` where the folder of the journal takes no file, or where it couldn't be told
     /// on which address the server listens.
     pub fn run<
         A: Announce,
@@ -209,17 +213,21 @@ impl Server {
             address,
             connections: _,
         } = self;
-        start.is_short = !parts.start_readers(rt);
+        let written = start.others.pop();
+        start.is_short = !(parts.start_readers(rt) && parts.start_scribe(rt, scribe, written));
         let beside = Beside {
             signals: OwnStatus::open(rt).ok(),
             status,
             handle: shown,
             last,
         };
-        let (pool, last) = parts.run(rt, alloc, errors, start, beside, announcer, address, scribe)?;
+        let Served { pool, last, left } = parts.run(
+            rt, alloc, errors, start, beside, announcer, address,
+        )?;
         Ok(ServerEnd {
             pool,
             book: parts.close(rt, last),
+            left,
         })
     }
 }

@@ -1,13 +1,15 @@
 //! What the threads of a server share.
 
 use crate::all_lanes::AllLanes;
+use crate::balancers::Balancers;
 use crate::end_note::EndNote;
 use crate::opening::Opening;
+use crate::stopping::StopTimes;
 use crate::unread::HELD_IN_ALL;
 use mio::net::TcpListener;
 use rtsp_content::{Operation, Server, Table};
 use rtsp_lock::BookHandle;
-use rtsp_log::{BATCH_LINES, Event, Log};
+use rtsp_log::{BATCH_LINES, Event, HeaderCause, Log};
 use rtsp_metrics::Counters;
 use rtsp_pacing::Bells;
 use rtsp_shares::{ShareTable, Watermark};
@@ -45,6 +47,8 @@ impl Lent {
 pub(crate) struct Shared {
     pub(crate) listener: TcpListener,
     pub(crate) gate: Gate,
+    /// Those whose connections begin with a header.
+    pub(crate) balancers: Balancers,
     /// What addresses have of the sessions, where each has a share of them.
     pub(crate) session_shares: Option<Mutex<ShareTable>>,
     pub(crate) outlets: Outlets,
@@ -77,6 +81,7 @@ impl Drop for Shared {
         let Self {
             listener: _listener,
             gate: _gate,
+            balancers: _balancers,
             session_shares: _session_shares,
             outlets: _outlets,
             lent: _lent,
@@ -119,11 +124,8 @@ fn open_log(alloc: Global, logs_access: bool) -> Result<Log, AllocError> {
 
 // The bell of the thread that writes the journal to files, where one does.
 fn scribe_bell(operation: &Operation) -> Option<ScribeBell> {
-    if operation.journal().is_some() {
-        Some(ScribeBell::new())
-    } else {
-        None
-    }
+    let files = operation.journal()?;
+    Some(ScribeBell::new(files.sync()))
 }
 
 impl Shared {
@@ -143,11 +145,13 @@ impl Shared {
         let ports = PortTable::open(alloc, numbers.first_port, numbers.pairs)?;
         let bells = Bells::new(alloc, of.pacers, numbers.sessions)?;
         let gate = Gate::new(alloc, connections, numbers.connections_per_address)?;
+        let balancers = Balancers::open(alloc, of.operation.proxy())?;
         let session_shares = session_shares(alloc, numbers)?;
         let log = open_log(alloc, of.operation.access_log())?;
         Ok(Shared {
             listener,
             gate,
+            balancers,
             session_shares,
             outlets: Outlets::new(alloc),
             lent,
@@ -209,6 +213,17 @@ impl Shared {
         }
     }
 
+    /// A connection of the balancer at this address was closed, since its header was refused.
+    pub(crate) fn note_header_refused<R: Wait + rt::Clock>(
+        &self,
+        rt: &R,
+        balancer: u32,
+        cause: HeaderCause,
+    ) {
+        self.counters.header_refused();
+        self.balancers.note_refused(rt, &self.log, balancer, cause);
+    }
+
     /// A connection was closed at once, since there is no descriptor.
     pub(crate) fn note_no_descriptor<R: Wait + rt::Clock>(&self, rt: &R) {
         self.counters.turned_away();
@@ -224,19 +239,16 @@ impl Shared {
     }
 
     /// Has the lanes end: no connection is let in any more, and those that are open are answered
-    /// what they have asked, and hung up, at the latest at this moment.
-    pub(crate) fn begin_stop<R: Wait>(&self, rt: &R, by: u64) {
+    /// what they have asked, and hung up, at the latest at the first of these moments.
+    pub(crate) fn begin_stop<R: Wait>(&self, rt: &R, times: StopTimes) {
         self.gate.shut();
-        self.lanes.set_stop(rt, by);
+        self.lanes.set_stop(rt, times);
     }
 
-    /// Ends the threads beside the lanes, but for that of the log and those that read ahead.
+    /// Ends the threads beside the lanes, but for that of the log and those that disks hold up.
     pub(crate) fn stop<R: Wait>(&self, rt: &R) {
         self.bells.stop(rt);
         self.stop_bell.ring(rt);
-        if let Some(scribe) = &self.scribe {
-            scribe.stop(rt);
-        }
         self.halt.halt();
     }
 }

@@ -5,17 +5,16 @@ use crate::figures::Figures;
 use crate::server::Announce;
 use crate::shared::Shared;
 use crate::socket_lane::SocketLane;
-use crate::stopping::watch_signals;
+use crate::stopping::{StopTimes, watch_signals};
 use crate::sweeper::run_sweeper;
+use rtsp_chronicle::Doubt;
 use rtsp_content::Table;
 use rtsp_lock::BookHandle;
 use rtsp_log::{Event, LogWriter, SleepPause, StderrSink};
-use rtsp_pacing::{PacerParts, PacerPlays, pace};
+use rtsp_pacing::{PacerParts, PacerPlays, PacerRoom, pace};
 use rtsp_sockets::{Media, Reader};
 use rtsp_status::StatusServer;
-use rtsp_threads::{
-    OwnStatus, PoolEnd, STANDING_LIMIT, STOP_TOLD_AFTER, Scribe, StopBell, end_expired, run_pool,
-};
+use rtsp_threads::{OwnStatus, PoolEnd, STANDING_LIMIT, StopBell, end_expired, run_pool};
 use std::alloc::Global;
 use std::fs::File;
 use std::io::{Eprint, Write};
@@ -52,8 +51,8 @@ impl Drop for Parts {
 
 // What the threads that serve begin with.
 pub(crate) struct Start {
-    // The handle of the book that the lanes have, and those of the sweeper and of the thread that
-    // starts them.
+    // The handle of the book that the lanes have, and those of the sweeper and of the thread that writes
+    // the journal, until each has taken its own.
     pub(crate) handle: BookHandle,
     pub(crate) others: Vec<BookHandle>,
     pub(crate) lanes: Vec<SocketLane>,
@@ -86,11 +85,21 @@ pub(crate) struct Beside {
     pub(crate) last: BookHandle,
 }
 
+// What is left once the threads that serve are over: the handle of the book, and what isn't known to be in
+// the journal's file, where a write to it was left behind.
+#[derive(Drop)]
+pub(crate) struct Served {
+    pub(crate) pool: PoolEnd,
+    pub(crate) last: BookHandle,
+    pub(crate) left: Option<Doubt>,
+}
+
 // A pacer: which of them it is, its plays, of which there are none yet, and its handle of the book.
 #[derive(Drop)]
 pub(crate) struct OnePacer {
     pub(crate) number: usize,
     pub(crate) plays: PacerPlays,
+    pub(crate) room: PacerRoom,
     pub(crate) handle: BookHandle,
 }
 
@@ -128,6 +137,7 @@ impl Parts {
         let OnePacer {
             number,
             plays,
+            room,
             handle,
         } = pacer;
         let BookHandle { lock, seat } = handle;
@@ -151,7 +161,7 @@ impl Parts {
                 log: &shared.log,
                 begun: shared.begun,
             };
-            pace(rt, alloc, parts, seat, plays);
+            pace(rt, alloc, parts, seat, plays, room);
         }
     }
 
@@ -192,18 +202,7 @@ impl Parts {
         shared.lanes.standing() > 0
     }
 
-    // Which disk a stop waits for, if for one.
-    pub(crate) fn waits_for<R: Wait + rt::Clock>(&self, rt: &R) -> Option<Event> {
-        let shared = &self.shared;
-        if let Some(bell) = &shared.scribe
-            && bell.is_held_for(rt, STOP_TOLD_AFTER)
-        {
-            return Some(Event::StopWaitsForJournal);
-        }
-        None
-    }
-
-    // Ends the threads beside the lanes, but for that of the log.
+    // Ends the threads beside the lanes, but for that of the log and that which writes the journal.
     fn stop<R: Wait>(&self, rt: &R) {
         self.media.stop_readers(rt);
         self.shared.stop(rt);
@@ -226,7 +225,8 @@ impl Parts {
             return Ok(());
         }
         if !announcer.announce(address) {
-            self.shared.begin_stop(rt, 0);
+            let now = self.shared.now(rt);
+            self.shared.begin_stop(rt, StopTimes::at_the_beginning(now));
             return Err(ServerFault::DeviceFailed);
         }
         let presentations = self.table.presentations().len() as u64;
@@ -234,35 +234,18 @@ impl Parts {
         Ok(())
     }
 
-    // What the thread that starts the others does while the lanes run: it writes the journal where that is
-    // wanted.
-    fn attend<R: Wait + rt::Clock + Files<File = File>>(
-        &self,
-        rt: &R,
-        scribe: &mut Option<Scribe>,
-        mut handle: BookHandle,
-    ) {
-        if let (Some(scribe), Some(bell)) = (scribe, &self.shared.scribe) {
-            scribe.run(rt, &mut handle, bell, &self.shared.log);
-        }
-    }
-
-    // Ends all sessions once no thread serves any more, and writes the rest of the journal.
-    fn finish<R: Wait + Net + rt::Clock + Files<File = File>>(
-        &self,
-        rt: &R,
-        last: &mut BookHandle,
-        mut scribe: Option<Scribe>,
-    ) {
+    // Ends all sessions once no thread serves any more, and has the rest of the journal written. Reads and
+    // writes that disks hold up are left behind: what then isn't known to be in the journal's file.
+    fn finish<R: Wait + Net + rt::Clock>(&self, rt: &R, last: &mut BookHandle) -> Option<Doubt> {
         let mut binder = self.shared.unbinder(rt);
         end_expired(rt, last, &mut binder, u64::MAX);
-        if let (Some(scribe), Some(bell)) = (&mut scribe, &self.shared.scribe) {
-            scribe.end(rt, last, bell);
-        }
+        self.stop_scribe(rt);
+        self.leave_readers(rt);
+        self.leave_scribe(rt)
     }
 
-    // Runs all threads beside that of the log, until the lanes are over, and then ends all sessions and
-    // writes the rest of the journal by the last handle of the book, which is given back.
+    // Runs all threads beside that of the log, until the lanes are over, and then ends all sessions by the
+    // last handle of the book, which is given back.
     fn run_logged<
         A: Announce,
         R: Threads
@@ -279,8 +262,7 @@ impl Parts {
         beside: Beside,
         announcer: A,
         address: SocketAddr,
-        scribe: Option<Scribe>,
-    ) -> Result<(PoolEnd, BookHandle), ServerFault> {
+    ) -> Result<Served, ServerFault> {
         thread::scope(thread::scope_env(), rt, move |scope| {
             let Beside {
                 signals,
@@ -298,18 +280,15 @@ impl Parts {
                 self.over.ring(rt);
                 return Err(ServerFault::NoThread);
             }
-            let (scribe, served) = start.serve(self, rt, alloc, announcer, address, scribe);
-            self.leave_readers(rt);
-            let ended = match served {
-                Ok(pool) => {
-                    self.finish(rt, &mut last, scribe);
-                    Ok((pool, last))
-                }
-                Err(fault) => Err(fault),
-            };
+            let served = start.serve(self, rt, alloc, announcer, address);
+            let left = self.finish(rt, &mut last);
             self.shared.log.event(rt, Event::Stopped);
             self.over.ring(rt);
-            ended
+            Ok(Served {
+                pool: served?,
+                last,
+                left,
+            })
         })
     }
 
@@ -333,15 +312,14 @@ impl Parts {
         beside: Beside,
         announcer: A,
         address: SocketAddr,
-        scribe: Option<Scribe>,
-    ) -> Result<(PoolEnd, BookHandle), ServerFault> {
+    ) -> Result<Served, ServerFault> {
         thread::scope(thread::scope_env(), rt, move |scope| {
             let logs = scope.spawn(move || self.log(rt, alloc, errors)).is_ok();
             if !logs {
                 self.stop_for_want_of_threads(rt);
                 return Err(ServerFault::NoThread);
             }
-            let ended = self.run_logged(rt, alloc, start, beside, announcer, address, scribe);
+            let ended = self.run_logged(rt, alloc, start, beside, announcer, address);
             self.shared.log.close();
             ended
         })
@@ -374,7 +352,7 @@ impl Parts {
 }
 
 impl Start {
-    // Runs the threads that serve, until the lanes are over. What writes the journal is given back.
+    // Runs the threads that serve, until the lanes are over.
     fn serve<
         A: Announce,
         R: Threads
@@ -390,8 +368,7 @@ impl Start {
         alloc: Global,
         announcer: A,
         address: SocketAddr,
-        mut scribe: Option<Scribe>,
-    ) -> (Option<Scribe>, Result<PoolEnd, ServerFault>) {
+    ) -> Result<PoolEnd, ServerFault> {
         let Self {
             handle,
             mut others,
@@ -399,9 +376,9 @@ impl Start {
             pacers,
             is_short,
         } = self;
-        let (Some(sweeper), Some(own)) = (others.pop(), others.pop()) else {
+        let Some(sweeper) = others.pop() else {
             parts.stop_for_want_of_threads(rt);
-            return (scribe, Err(ServerFault::NoThread));
+            return Err(ServerFault::NoThread);
         };
         thread::scope(thread::scope_env(), rt, move |scope| {
             let mut missing = u64::from(is_short);
@@ -412,19 +389,16 @@ impl Start {
             }
             if scope.spawn(move || parts.sweep(rt, sweeper)).is_err() || missing > 0 {
                 parts.stop_for_want_of_threads(rt);
-                return (scribe, Err(ServerFault::NoThread));
+                return Err(ServerFault::NoThread);
             }
             let Ok(pool) = scope.spawn(move || parts.run_lanes(rt, alloc, handle, lanes)) else {
                 parts.stop_for_want_of_threads(rt);
-                return (scribe, Err(ServerFault::NoThread));
+                return Err(ServerFault::NoThread);
             };
             let told = parts.announce(rt, announcer, address);
-            parts.attend(rt, &mut scribe, own);
             let ended = pool.join(rt);
-            match told {
-                Ok(()) => (scribe, ended),
-                Err(fault) => (scribe, Err(fault)),
-            }
+            told?;
+            ended
         })
     }
 }

@@ -2,7 +2,8 @@
 
 use crate::devices::{Drawing, Noting, Ticking};
 use crate::server::{SERVER, Server, Talk, as_sent, converse};
-use rtsp_engine::law_served_grows;
+use rtsp_engine::{law_served_grows, law_visited_drawn};
+use rtsp_lock::AnyNumbers;
 use rtsp_record::Phase;
 use rtsp_traits::{NoShares, PortSet};
 use std::alloc::Global;
@@ -367,6 +368,7 @@ fn a_renewal_that_gains_less_than_the_step_is_left_out(rt: HostRuntime) {
 }
 
 #[test]
-fn the_law_is_called() {
-    law_served_grows::<HostRuntime, PortSet, Drawing, Ticking, Noting, NoShares>();
+fn the_laws_are_called() {
+    law_served_grows::<HostRuntime, PortSet, Drawing, Ticking, Noting, NoShares, AnyNumbers>();
+    law_visited_drawn::<PortSet, Drawing, Ticking, Noting, NoShares>();
 }

@@ -2,7 +2,7 @@
 
 use crate::history::{History, entries};
 use crate::steps::{Scene, Step, play};
-use rtsp_chronicle::{FileSink, Pause, Plan, Turned};
+use rtsp_chronicle::{FileSink, Pause, Plan, Progress, Turned};
 use rtsp_lock::Then;
 use std::fs::{self, File};
 use std::net::{Net, TcpListener, TcpStream};
@@ -34,7 +34,8 @@ impl Pause for Turns {
 
 // The number of a new file in the folder.
 fn next_number<R: Files<File = File> + AllocGlobal>(rt: &R, folder: &str) -> Option<u64> {
-    let sink = FileSink::open(rt, rt.alloc(), folder).ok()?;
+    let progress = Progress::new(true);
+    let sink = FileSink::open(rt, rt.alloc(), folder, &progress).ok()?;
     Some(sink.number())
 }
 
@@ -94,7 +95,7 @@ impl Scene for Disk {
 fn run_three<R: Files<File = File> + Wait>(
     rt: &R,
     history: &mut History,
-    sink: &mut FileSink<'_, R>,
+    sink: &mut FileSink<'_, '_, R>,
 ) -> Option<u64> {
     let plan = Plan {
         after: Then::Forget,
@@ -116,7 +117,8 @@ fn write_files<
         + Abort,
 >(rt: &R) -> Option<Turned> {
     let mut history = History::open(rt, rt.alloc(), 1_000)?;
-    let mut sink = FileSink::open(rt, rt.alloc(), "journals").ok()?;
+    let progress = Progress::new(true);
+    let mut sink = FileSink::open(rt, rt.alloc(), "journals", &progress).ok()?;
     play(rt, &mut history, "one opens 10, one opens 11");
     assert!(rt; run_three(rt, &mut history, &mut sink) == Some(4));
     play(rt, &mut history, "one ends 10");

@@ -16,7 +16,7 @@ use rtsp_engine::{Binder, Plays};
 use rtsp_lock::{BookLock, BookSeat, open};
 use rtsp_log::Log;
 use rtsp_metrics::Counters;
-use rtsp_pacing::{Bells, NotedPlays, Paced, PacerParts, PacerPlays, pace};
+use rtsp_pacing::{Bells, NotedPlays, Paced, PacerParts, PacerPlays, PacerRoom, pace};
 use rtsp_record::{Phase, Whole};
 use rtsp_sockets::{Decisions, Media, Outlet, Outlets, PortBinder, PortTable};
 use std::alloc::{AllocError, Global};
@@ -287,7 +287,7 @@ fn receive<R: Wait + Clock + AllocGlobal>(
 fn run<'a, R: Threads + Wait + Clock + AllocGlobal + Sync>(
     rt: &'a R,
     parts: PacerParts<'a>,
-    plays: PacerPlays,
+    memory: (PacerPlays, PacerRoom),
     seats: (BookSeat, BookSeat),
     stage: &Stage,
     leaving: Leaving,
@@ -296,12 +296,13 @@ fn run<'a, R: Threads + Wait + Clock + AllocGlobal + Sync>(
     requires player { IsSeatOf seats.1 parts.lock.now }
 {
     let (seat, mut own) = seats;
+    let (plays, room) = memory;
     let lock = parts.lock;
     thread::join(
         rt,
         move || -> Paced
             requires { IsSeatOf seat parts.lock.now }
-        { pace(rt, rt.alloc(), parts, seat, plays) },
+        { pace(rt, rt.alloc(), parts, seat, plays, room) },
         || -> Came
             requires { IsSeatOf own lock.now }
         { receive(rt, lock, &mut own, stage, leaving) },
@@ -361,7 +362,8 @@ fn paced<R: Threads + Wait + Clock + AllocGlobal + Sync>(
         begun,
     };
     let plays = PacerPlays::open(rt.alloc(), 4).ok()?;
-    let (paced, came) = run(rt, parts, plays, seats, stage, leaving);
+    let room = PacerRoom::open(rt.alloc()).ok()?;
+    let (paced, came) = run(rt, parts, (plays, room), seats, stage, leaving);
     let packets = counters.read().packets;
     (packets.sent == paced.packets && packets.lost == 0).then_some((paced, came))
 }

@@ -38,12 +38,17 @@ fn name_of(entered: Result<(), Refused>) -> &'static str {
 // Whether an address leaves the gate, or what comes of its entering it.
 fn passes<R: Wait>(rt: &R, gate: &Gate, step: &str) -> bool {
     let (peer, wanted) = step.split_once(' ').unwrap_or((step, ""));
-    let peer = peer.parse().unwrap_or(0);
-    if wanted == "leaves" {
-        gate.leave(rt, peer);
-        return true;
+    let address = peer.parse().unwrap_or(0);
+    let place = if peer == "?" { None } else { Some(address) };
+    match wanted {
+        "leaves" => {
+            gate.leave(rt, place);
+            true
+        }
+        "named" => gate.name(rt, address) == Ok(()),
+        "unplaced" => gate.name(rt, address) == Err(Refused::Share),
+        _ => name_of(gate.enter(rt, place)) == wanted,
     }
-    name_of(gate.enter(rt, peer)) == wanted
 }
 
 // Whether all steps of a line come to what they say, and whether the gate is shut then.
@@ -80,6 +85,19 @@ fn a_gate_lets_so_many_in(rt: HostRuntime) -> Result<(), AllocError> {
     let gate = Gate::new(rt.alloc(), Some(5), Some(2))?;
     gate.allow(3);
     assert!(rt; lets_five_in(&rt, &gate));
+    Ok(())
+}
+
+// Two of whom one is named, which takes the last place of its address; the other may only leave.
+const NAMED: &str =
+    "? enters, ? enters, 1 enters, 2 full, 1 named, 1 unplaced, ? leaves, 2 enters, 1 leaves, ? enters";
+
+#[test]
+fn a_gate_names_whom_it_let_in(rt: HostRuntime) -> Result<(), AllocError> {
+    let gate = Gate::new(rt.alloc(), None, Some(2))?;
+    gate.allow(3);
+    assert!(rt; ends_shut(&rt, &gate, NAMED) == Some(false));
+    assert!(rt; gate.open_now() == 3);
     Ok(())
 }
 
@@ -207,7 +225,7 @@ fn is_stopped<R: Wait + Clock>(rt: &R, bell: &ScribeBell) -> bool {
 
 #[test]
 fn a_scribe_is_asked_and_stopped(rt: HostRuntime) {
-    let bell = ScribeBell::new();
+    let bell = ScribeBell::new(true);
     assert!(rt; is_asked(&rt, &bell));
     bell.note(false);
     let was_stuck = bell.is_stuck();
@@ -217,7 +235,7 @@ fn a_scribe_is_asked_and_stopped(rt: HostRuntime) {
 
 #[test]
 fn a_turn_is_timed(rt: HostRuntime) {
-    let bell = ScribeBell::new();
+    let bell = ScribeBell::new(true);
     let rests = !bell.is_held_for(&rt, 0);
     bell.work(&rt);
     let works = bell.is_held_for(&rt, 0) && !bell.is_held_for(&rt, 3_600_000);
@@ -275,11 +293,13 @@ fn length_at_end<R: Files<File = File> + Wait + Clock + AllocGlobal>(
     handle: &mut BookHandle,
     bell: &ScribeBell,
 ) -> Option<usize> {
-    let mut scribe = scribe_of(rt)?;
+    let scribe = scribe_of(rt)?;
     bell.stop(rt);
     let log = Log::new(rt.alloc(), 1, false).ok()?;
-    scribe.run(rt, handle, bell, &log);
-    scribe.end(rt, handle, bell);
+    scribe.run(rt, handle.split(rt)?, bell, &log);
+    if !bell.is_over_within(rt, Duration::ZERO) {
+        return None;
+    }
     let text = fs::read(rt, WRITTEN).ok()?;
     fs::remove_file(rt, WRITTEN).ok()?;
     Some(text.len())
@@ -291,7 +311,7 @@ fn written_at_end<R: Files<File = File> + Wait + Clock + AllocGlobal>(
 ) -> Option<[usize; 2]> {
     let table = tone(rt.alloc(), "")?;
     let mut handle = empty_book(rt.alloc())?;
-    let bell = ScribeBell::new();
+    let bell = ScribeBell::new(true);
     if !has_room(rt, &table, &mut handle, &bell) {
         return None;
     }

@@ -6,7 +6,7 @@ ghost use Rattle.rtsp_sockets.specs.Cuts.{cut_around};
 use crate::media::Place;
 
 // How much of a track is read at once, in milliseconds.
-const CUT_MS: u64 = 400;
+pub(crate) const CUT_MS: u64 = 400;
 
 // A part of a file, which is named by its index among the media's files.
 #[derive(Clone, Copy, Debug, PartialEq, Eq, Hash, Drop)]
@@ -18,7 +18,7 @@ pub(crate) struct Cut {
 
 // How many bytes of a track are read at once: as many whole units as fit into that time, and one in any
 // case.
-pub(crate) fn cut_len(octets: u16, unit_ms: u32) -> u64
+pub(crate) fn cut_len(octets: u32, unit_ms: u32) -> u64
     requires { 0 < unit_ms }
     ensures { result ≡ octets * max (CUT_MS / unit_ms) 1 }
 {

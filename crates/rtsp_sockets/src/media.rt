@@ -1,10 +1,11 @@
 //! The files of the tracks.
 
-ghost use Rattle.std.specs.Prelude.{◌≡◌, ◌/◌, max, IfSome, IfNone, option_copied, slice_get};
+ghost use Rattle.std.specs.Prelude.{◌≡◌, ◌<◌, ◌*◌, ◌/◌, max, IfSome, IfNone, option_copied, slice_get};
+ghost use Rattle.rtsp_content.specs.PackingLimits.{unit_len};
 ghost use Rattle.rtsp_sockets.specs.declared.media.Place.{Place};
 ghost use Rattle.rtsp_sockets.specs.Media.{IsPlaceOf};
 
-use crate::cut::cut_len;
+use crate::cut::{CUT_MS, cut_len};
 use crate::disk::Disk;
 use crate::media_file::MediaFile;
 use crate::read_at::ReadAt;
@@ -46,8 +47,25 @@ impl From<AllocError> for MediaFault {
 #[derive(Clone, Copy)]
 pub(crate) struct Place {
     pub(crate) file: usize,
-    pub(crate) octets: u16,
+    pub(crate) octets: u32,
     pub(crate) step: u64,
+}
+
+impl Place {
+    // The place of a track whose units have so many milliseconds each.
+    fn of(file: usize, track: &Track, unit_ms: u32) -> Place
+        requires { 0 < unit_ms }
+        ensures file { result.file ≡ file }
+        ensures octets { result.octets ≡ unit_len track.now.packing track.now.octets }
+        ensures step { result.step ≡ result.octets * max (CUT_MS / unit_ms) 1 }
+    {
+        let octets = track.unit_len();
+        Place {
+            file,
+            octets,
+            step: cut_len(octets, unit_ms),
+        }
+    }
 }
 
 /// A track, by the place of its presentation in the configuration and its own place there.
@@ -79,8 +97,10 @@ fn kept_limit(uplink: u64) -> u64
 }
 
 // How many bytes the file of a track has.
-fn len_of(presentation: &Presentation, track: &Track) -> u64 {
-    u64::from(presentation.units()) * u64::from(track.octets())
+fn len_of(presentation: &Presentation, track: &Track) -> u64
+    ensures { result ≡ presentation.now.units * unit_len track.now.packing track.now.octets }
+{
+    u64::from(presentation.units()) * u64::from(track.unit_len())
 }
 
 impl MediaOf<File> {
@@ -102,11 +122,7 @@ impl MediaOf<File> {
             let mut places = Vec::new(alloc);
             for track in presentation.tracks() {
                 let file = media.file_of(rt, &mut paths, presentation, track)?;
-                let place = Place {
-                    file,
-                    octets: track.octets(),
-                    step: cut_len(track.octets(), presentation.unit_ms().ms()),
-                };
+                let place = Place::of(file, track, presentation.unit_ms().ms());
                 places.push(place).map_err(AllocError::from)?;
             }
             media.places.push(places).map_err(AllocError::from)?;

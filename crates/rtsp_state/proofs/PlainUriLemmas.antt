@@ -1,5 +1,5 @@
 -- A plain URI is the text of a URL with the same path, and the parser gives that URL.
-use Rattle.std.proofs.Common.{◌≡◌, ◌≢◌, ℕ, ◌-◌, ◌^◌, ◌<◌, Bool, true, false, not, ◌&&◌, ◌==◌, List, [], ◌∷◌, ◌++◌, length, get_or, Option, Some, None, All, refl, sym, ap, ◌∙◌, subst, inl, ⊎_elim, append-nil, arith, lit<}
+use Rattle.std.proofs.Common.{◌≡◌, ◌≢◌, ℕ, ◌-◌, ◌^◌, ◌<◌, Bool, true, false, not, ◌&&◌, ◌==◌, List, [], ◌∷◌, ◌++◌, length, get_or, Option, Some, None, Ok, All, refl, sym, ap, ◌∙◌, subst, inl, ⊎_elim, append-nil, arith, lit<}
 use Rattle.std.specs.Prelude.{codes, decimal, IfSome}
 use Rattle.std.specs.List.{list_all}
 use Rattle.std.proofs.lemmas.Bool.{and_parts, and_right, cases_eq, eqb-true, ne_eqb, true≢false, both_ways}
@@ -27,7 +27,7 @@ use Rattle.rtsp_content.specs.TableValue.{TableValue}
 use Rattle.rtsp_content.specs.Paths.{find_of}
 use Rattle.rtsp_state.specs.Values.{of_scheme, rtsp_url, uri_of, bare_text, with_slash}
 use Rattle.rtsp_state.specs.OrderOfRefusals.{target_at, media_of}
-use Rattle.rtsp_state.specs.PlainUri.{is_host_byte, is_path_byte, may_follow, is_plain_after, is_plain_path, port_text, IsPlainUri}
+use Rattle.rtsp_state.specs.PlainUri.{is_host_byte, is_path_byte, may_follow, is_plain_after, is_plain_path, port_text, scheme_text, Scheme, rtsp, rtsps, IsPlainUri}
 use Rattle.rtsp_state.proofs.ReadLemmas.{uri_some}
 
 -- ---- bytes that need no escape
@@ -53,17 +53,20 @@ path_unescaped b e = kept_from_passes is_path_byte PATH refl b (path_ascii b e) 
 
 -- ---- the scheme
 
-rtsp_kind : scheme_type (codes "rtsp") ≡ NotSpecial
+kind : (scheme : Scheme) → scheme_type (scheme_text scheme) ≡ NotSpecial
 unfolding scheme_type default_port
-rtsp_kind = refl
+kind rtsp = refl
+kind rtsps = refl
 
-rtsp_port : default_port (codes "rtsp") ≡ None
+portless : (scheme : Scheme) → default_port (scheme_text scheme) ≡ None
 unfolding default_port
-rtsp_port = refl
+portless rtsp = refl
+portless rtsps = refl
 
-rtsp_scheme : IsScheme (codes "rtsp")
+spelled_scheme : (scheme : Scheme) → IsScheme (scheme_text scheme)
 unfolding scheme_len
-rtsp_scheme = record { nonempty = lit< tt; whole = refl; lower = refl }
+spelled_scheme rtsp = record { nonempty = lit< tt; whole = refl; lower = refl }
+spelled_scheme rtsps = record { nonempty = lit< tt; whole = refl; lower = refl }
 
 -- ---- the segments of the path
 
@@ -148,9 +151,9 @@ plain_segments (b ∷ bytes) e =
 
 -- ---- the URL
 
-abbrev plain_parts : List ℕ → Option ℕ → List ℕ → Parts
-plain_parts host port path = record {
-  scheme = codes "rtsp";
+abbrev plain_parts : Scheme → List ℕ → Option ℕ → List ℕ → Parts
+plain_parts scheme host port path = record {
+  scheme = scheme_text scheme;
   username = [];
   password = [];
   host = Some (Domain host);
@@ -167,31 +170,31 @@ record ArePlain (host : List ℕ) (port : Option ℕ) (path : List ℕ) : Type 0
   fits : IfSome port (λ n. n < 2 ^ 16)
   plain : is_plain_path path ≡ true
 
-port_valid : (port : Option ℕ) → IfSome port (λ n. n < 2 ^ 16) → IsPortOf (codes "rtsp") port
-port_valid None fits = tt
-port_valid (Some n) fits = (fits, λ same. none-some n (sym rtsp_port ∙ same))
+port_valid : (scheme : Scheme) (port : Option ℕ) → IfSome port (λ n. n < 2 ^ 16) → IsPortOf (scheme_text scheme) port
+port_valid scheme None fits = tt
+port_valid scheme (Some n) fits = (fits, λ same. none-some n (sym (portless scheme) ∙ same))
 
-host_there : (host : List ℕ) (port : Option ℕ) (path : List ℕ) → 0 < length host → cannot_have_credentials_or_port (plain_parts host port path) ≡ false
-host_there host port path some = rw (is_empty_nonempty host some, rtsp_kind) refl
+host_there : (scheme : Scheme) (host : List ℕ) (port : Option ℕ) (path : List ℕ) → 0 < length host → cannot_have_credentials_or_port (plain_parts scheme host port path) ≡ false
+host_there scheme host port path some = rw (is_empty_nonempty host some, kind scheme) refl
 
-head_valid : (host : List ℕ) (port : Option ℕ) (path : List ℕ) → ArePlain host port path → IsValidHead (plain_parts host port path)
-head_valid host port path h =
+head_valid : (scheme : Scheme) (host : List ℕ) (port : Option ℕ) (path : List ℕ) → ArePlain host port path → IsValidHead (plain_parts scheme host port path)
+head_valid scheme host port path h =
     let bytes = all_pass is_host_byte host h.named in
     let allowed = All-weaker (Passes is_host_byte) (IsKept FORBIDDEN_HOST) host_allowed host bytes in
     let unescaped = All-weaker (Passes is_host_byte) (IsKept CONTROLS) host_unescaped host bytes in
     record {
-      scheme = rtsp_scheme;
+      scheme = spelled_scheme scheme;
       username = All-nil (IsKept USERINFO);
       password = All-nil (IsKept USERINFO);
-      host = subst (λ k. IsDomainOf k host) (sym rtsp_kind) (allowed, unescaped);
-      port = port_valid port h.fits;
-      bare = λ cannot. absurd (both_ways _ (host_there host port path h.some) cannot);
+      host = subst (λ k. IsDomainOf k host) (sym (kind scheme)) (allowed, unescaped);
+      port = port_valid scheme port h.fits;
+      bare = λ cannot. absurd (both_ways _ (host_there scheme host port path h.some) cannot);
     }
 
-valid : (host : List ℕ) (port : Option ℕ) (path : List ℕ) → ArePlain host port path → IsValid (plain_parts host port path)
-valid host port path h = record {
-  head = head_valid host port path h;
-  path = inl (subst (λ k. IsHierarchicalPath k path) (sym rtsp_kind) (plain_segments path h.plain, λ e. absurd (true≢false (sym e))));
+valid : (scheme : Scheme) (host : List ℕ) (port : Option ℕ) (path : List ℕ) → ArePlain host port path → IsValid (plain_parts scheme host port path)
+valid scheme host port path h = record {
+  head = head_valid scheme host port path h;
+  path = inl (subst (λ k. IsHierarchicalPath k path) (sym (kind scheme)) (plain_segments path h.plain, λ e. absurd (true≢false (sym e))));
   query = tt;
   fragment = tt;
 }
@@ -200,32 +203,38 @@ no_space : (path : List ℕ) → All (IsNot 32) path → ends_in_space path ≡ 
 no_space [] all = refl
 no_space (b ∷ path) all = and_right _ _ (ne_eqb (get_or (b ∷ path) (length (b ∷ path) - 1) 0) 32 (all (length (b ∷ path) - 1) 0 (omega arith)))
 
-canonical : (host : List ℕ) (port : Option ℕ) (path : List ℕ) → ArePlain host port path → IsCanonical (plain_parts host port path)
-canonical host port path h =
-    let url = plain_parts host port path in
+canonical : (scheme : Scheme) (host : List ℕ) (port : Option ℕ) (path : List ℕ) → ArePlain host port path → IsCanonical (plain_parts scheme host port path)
+canonical scheme host port path h =
+    let url = plain_parts scheme host port path in
     let kept = segment_list_kept NotSpecial path (plain_segments path h.plain) in
     let spaceless = no_space path (All_kept_differs PATH 32 refl path kept) in
-    subst (λ k. IsCanonicalAs k url) (sym rtsp_kind) (tt, ends_visibly url (valid host port path h) kept, spaceless)
+    subst (λ k. IsCanonicalAs k url) (sym (kind scheme)) (tt, ends_visibly url (valid scheme host port path h) kept, spaceless)
 
 -- ---- its text
 
-serialized : (host : List ℕ) (port : Option ℕ) (path : List ℕ) → serialize (plain_parts host port path) ≡ codes "rtsp://" ++ (host ++ (port_text port ++ path))
-serialized host None path = ap (λ p. codes "rtsp://" ++ (host ++ p)) (append-nil path)
-serialized host (Some n) path = ap (λ p. codes "rtsp://" ++ (host ++ (58 ∷ (decimal n ++ p)))) (append-nil path)
+serialized : (scheme : Scheme) (host : List ℕ) (port : Option ℕ) (path : List ℕ) → serialize (plain_parts scheme host port path) ≡ scheme_text scheme ++ (codes "://" ++ (host ++ (port_text port ++ path)))
+serialized scheme host None path = ap (λ p. scheme_text scheme ++ (codes "://" ++ (host ++ p))) (append-nil path)
+serialized scheme host (Some n) path = ap (λ p. scheme_text scheme ++ (codes "://" ++ (host ++ (58 ∷ (decimal n ++ p))))) (append-nil path)
 
-bare : (host : List ℕ) (port : Option ℕ) (path : List ℕ) → bare_text (plain_parts host port path) ≡ codes "rtsp://" ++ (host ++ (port_text port ++ path))
-bare host None path = ap (λ p. codes "rtsp://" ++ (host ++ p)) (append-nil path)
-bare host (Some n) path = ap (λ p. codes "rtsp://" ++ (host ++ (58 ∷ (decimal n ++ p)))) (append-nil path)
+bare : (scheme : Scheme) (host : List ℕ) (port : Option ℕ) (path : List ℕ) → bare_text (plain_parts scheme host port path) ≡ scheme_text scheme ++ (codes "://" ++ (host ++ (port_text port ++ path)))
+bare scheme host None path = ap (λ p. scheme_text scheme ++ (codes "://" ++ (host ++ p))) (append-nil path)
+bare scheme host (Some n) path = ap (λ p. scheme_text scheme ++ (codes "://" ++ (host ++ (58 ∷ (decimal n ++ p))))) (append-nil path)
 
--- the parser reads its own text, and the scheme is rtsp
-own_text : (host : List ℕ) (port : Option ℕ) (path : List ℕ) → ArePlain host port path → rtsp_url (serialize (plain_parts host port path)) ≡ Some (plain_parts host port path)
-own_text host port path h =
-    ap of_scheme (parse_url-serialize (plain_parts host port path) None (valid host port path h) (canonical host port path h))
+-- either scheme is one of RTSP
+taken : (scheme : Scheme) (host : List ℕ) (port : Option ℕ) (path : List ℕ) → of_scheme (Ok (plain_parts scheme host port path)) ≡ Some (plain_parts scheme host port path)
+taken rtsp host port path = refl
+taken rtsps host port path = refl
 
-own_uri : (host : List ℕ) (port : Option ℕ) (path : List ℕ) → ArePlain host port path → uri_of (serialize (plain_parts host port path)) ≡ Some (plain_parts host port path)
-own_uri host port path h =
-    let url = plain_parts host port path in
-    uri_some (serialize url) (IsUtf8-from_ascii (serialize url) (IsAscii-serialize url (valid host port path h))) ∙ own_text host port path h
+-- the parser reads its own text
+own_text : (scheme : Scheme) (host : List ℕ) (port : Option ℕ) (path : List ℕ) → ArePlain host port path → rtsp_url (serialize (plain_parts scheme host port path)) ≡ Some (plain_parts scheme host port path)
+own_text scheme host port path h =
+    ap of_scheme (parse_url-serialize (plain_parts scheme host port path) None (valid scheme host port path h) (canonical scheme host port path h)) ∙
+    taken scheme host port path
+
+own_uri : (scheme : Scheme) (host : List ℕ) (port : Option ℕ) (path : List ℕ) → ArePlain host port path → uri_of (serialize (plain_parts scheme host port path)) ≡ Some (plain_parts scheme host port path)
+own_uri scheme host port path h =
+    let url = plain_parts scheme host port path in
+    uri_some (serialize url) (IsUtf8-from_ascii (serialize url) (IsAscii-serialize url (valid scheme host port path h))) ∙ own_text scheme host port path h
 
 -- a text is a URL with this path, and is written as it stands
 pub record IsUrlWith (text path : List ℕ) : Type 0 where
@@ -237,13 +246,14 @@ pub record IsUrlWith (text path : List ℕ) : Type 0 where
 pub plain_url : (text path : List ℕ) → IsPlainUri text path → IsUrlWith text path
 plain_url text path h =
     let port = h.follows.port in
-    let spelled : text ≡ codes "rtsp://" ++ (h.host ++ (port_text port ++ path)) = h.spelled ∙ ap (λ l. codes "rtsp://" ++ (h.host ++ l)) h.follows.spelled in
+    let scheme = h.begins.scheme in
+    let spelled : text ≡ scheme_text scheme ++ (codes "://" ++ (h.host ++ (port_text port ++ path))) = h.begins.spelled ∙ ap (λ l. scheme_text scheme ++ (codes "://" ++ (h.host ++ l))) h.follows.spelled in
     let plain : ArePlain h.host port path = record { some = h.some; named = h.named; fits = h.follows.fits; plain = h.plain } in
     record {
-      url = plain_parts h.host port path;
-      is_read = ap uri_of (spelled ∙ sym (serialized h.host port path)) ∙ own_uri h.host port path plain;
+      url = plain_parts scheme h.host port path;
+      is_read = ap uri_of (spelled ∙ sym (serialized scheme h.host port path)) ∙ own_uri scheme h.host port path plain;
       same_path = refl;
-      same_text = bare h.host port path ∙ sym spelled;
+      same_text = bare scheme h.host port path ∙ sym spelled;
     }
 
 -- so its path alone says what media it names

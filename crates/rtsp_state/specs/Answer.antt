@@ -58,7 +58,7 @@ abbrev pub granted_lines : SetupPlan → ℕ → Admitted → List HeaderText
 granted_lines plan id made = cseq_line plan.cseq ∷ opened_line id plan.timeout ∷ transport_line made.address made.stream ∷ []
 
 abbrev pub media_lines : Timing → List HeaderText
-media_lines timing = accept_ranges_line ∷ properties_line timing.unit_ms ∷ media_range_line timing ∷ []
+media_lines timing = accept_ranges_line ∷ properties_line timing.longest_gap timing.unit_ms ∷ media_range_line timing ∷ []
 
 abbrev pub admitted_lines : SetupPlan → ℕ → Admitted → List HeaderText
 admitted_lines plan id made = granted_lines plan id made ++ media_lines plan.timing

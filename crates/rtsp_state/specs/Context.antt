@@ -11,6 +11,7 @@ use Rattle.rtsp_state.specs.declared.status.Status.TheVariants.{Success, NotFoun
 use Rattle.rtsp_state.specs.declared.fault.Fault.{Fault}
 use Rattle.rtsp_state.specs.declared.fault.Fault.TheVariants.{Refused}
 use Rattle.rtsp_state.specs.declared.response_start.ResponseStart.{ResponseStart}
+use Rattle.rtsp_content.specs.StartsValue.{longest_gap}
 use Rattle.rtsp_state.specs.declared.timing.Timing.{Timing}
 use Rattle.rtsp_state.specs.declared.context.Context.{Context}
 use Rattle.rtsp_state.specs.declared.plan.Plan.{Plan}
@@ -46,7 +47,7 @@ abbrev pub has_track : ℕ → List Stream → Bool
 has_track t streams = list_any (λ s. s.track == t) streams
 
 abbrev pub timing_of : PresentationValue → Timing
-timing_of p = record { units = p.units; unit_ms = p.unit_ms }
+timing_of p = record { units = p.units; unit_ms = p.unit_ms; longest_gap = longest_gap p.starts p.units }
 
 -- what is looked up has to be there
 abbrev pub known : {A : Type 0} → Option A → Result A Fault

@@ -8,9 +8,9 @@ use Rattle.rtsp_state.specs.declared.words.Word.TheVariants as words
 use Rattle.rtsp_state.specs.declared.rtp_info.StreamInfo.{StreamInfo}
 use Rattle.rtsp_state.specs.Words.{name_of_field, text_of}
 
--- the sequence number of a play's first packet: the session's first one and what was sent, modulo 2^16
+-- the sequence number of a play's first packet: the session's first one and those of the units that were sent, modulo 2^16
 unfoldable pub seq_text : StreamInfo → ℕ → List ℕ
-seq_text p sent = text_of words.SeqIs ++ decimal ((p.seq + sent) % 65536)
+seq_text p sent = text_of words.SeqIs ++ decimal ((p.seq + sent * p.packets) % 65536)
 
 -- the timestamp of that packet, modulo 2^32
 unfoldable pub rtptime_text : StreamInfo → ℕ → List ℕ

@@ -43,10 +43,10 @@ unsupported_line tags = record { name = name_of_field fields.Unsupported; value 
 abbrev pub accept_ranges_line : HeaderText
 accept_ranges_line = record { name = name_of_field fields.AcceptRanges; value = text_of words.Npt }
 
--- a play may start at each unit; the media doesn't change, and is there for ever
-abbrev pub properties_line : ℕ → HeaderText
-properties_line unit_ms =
-    record { name = name_of_field fields.MediaProperties; value = text_of words.RandomAccess ++ time_text 1 unit_ms ++ text_of words.Immutable }
+-- so many units lie at most between two at which a play may begin (section 18.29); the media doesn't change, and is there for ever
+abbrev pub properties_line : ℕ → ℕ → HeaderText
+properties_line gap unit_ms =
+    record { name = name_of_field fields.MediaProperties; value = text_of words.RandomAccess ++ time_text gap unit_ms ++ text_of words.Immutable }
 
 -- the whole of the media
 abbrev pub media_range_line : Timing → HeaderText

@@ -1,5 +1,5 @@
 -- URIs of the plain form, which the parser of URLs leaves as they are: `rtsp://host/path` or `rtsp://host:port/path`,
--- the host in lower case, with no escape, no segment that begins with a dot, no query and no fragment.
+-- and the same with `rtsps`, the host in lower case, with no escape, no segment that begins with a dot, no query and no fragment.
 use Rattle.std.specs.Prelude.{◌≡◌, ℕ, ◌^◌, ◌<◌, Bool, true, false, not, ◌&&◌, ◌||◌, ◌==◌, nat_le, List, [], ◌∷◌, ◌++◌, length, codes, decimal, Option, Some, None, IfSome}
 use Rattle.std.specs.List.{list_all}
 
@@ -25,6 +25,20 @@ abbrev pub is_plain_path : List ℕ → Bool
 is_plain_path [] = false
 is_plain_path (b ∷ bytes) = b == 47 && is_plain_after 47 bytes
 
+-- the schemes, and how each is written
+pub data Scheme : Type 0 where
+  rtsp : Scheme
+  rtsps : Scheme
+
+abbrev pub scheme_text : Scheme → List ℕ
+scheme_text rtsp = codes "rtsp"
+scheme_text rtsps = codes "rtsps"
+
+-- the text is a scheme, and then the rest
+pub record FollowsScheme (text rest : List ℕ) : Type 0 where
+  pub scheme : Scheme
+  pub spelled : text ≡ scheme_text scheme ++ (codes "://" ++ rest)
+
 -- a port as it is written behind a host, or nothing
 abbrev pub port_text : Option ℕ → List ℕ
 port_text None = []
@@ -40,7 +54,7 @@ pub record FollowsPort (text rest : List ℕ) : Type 0 where
 pub record IsPlainUri (text path : List ℕ) : Type 0 where
   pub host : List ℕ
   pub behind : List ℕ
-  pub spelled : text ≡ codes "rtsp://" ++ (host ++ behind)
+  pub begins : FollowsScheme text (host ++ behind)
   pub some : 0 < length host
   pub named : list_all is_host_byte host ≡ true
   pub follows : FollowsPort behind path

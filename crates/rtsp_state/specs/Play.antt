@@ -20,6 +20,8 @@ use Rattle.rtsp_npt.specs.declared.fault.RangeFault.{RangeFault}
 use Rattle.rtsp_npt.specs.declared.fault.RangeFault.TheVariants as faults
 use Rattle.rtsp_npt.specs.declared.fault.OutOfMedia.{OutOfMedia}
 use Rattle.rtsp_content.specs.PresentationValue.{PresentationValue}
+use Rattle.rtsp_content.specs.PackingLimits.{packet_count}
+use Rattle.rtsp_content.specs.StartsValue.{start_at}
 use Rattle.rtsp_content.specs.TrackValue.{TrackValue}
 use Rattle.rtsp_book.specs.declared.steps.Step.TheVariants as steps
 use Rattle.rtsp_state.specs.declared.play.Units.{Units}
@@ -44,17 +46,18 @@ abbrev pub range_in : Option (List ℕ) → Result Range Fault
 range_in None = Ok (record { start = None; stop = None })
 range_in (Some value) = range_read (range_of value)
 
--- the units that are asked for lie in the media; where no start is written, the step starts at the point
-abbrev pub units_in : Range → Result Span OutOfMedia → Result Units Fault
-units_in range (Ok taken) = Ok (record { from = option_and range.start (Some taken.from); stop = taken.stop })
-units_in range (Err outside) = Err (Refused InvalidRange)
+-- the units that are asked for lie in the media; a start that is written is the last one up to it where a play may begin (section 18.47),
+-- and where none is written, the step starts at the point
+abbrev pub units_in : Range → PresentationValue → Result Span OutOfMedia → Result Units Fault
+units_in range p (Ok taken) = Ok (record { from = option_and range.start (Some (start_at p.starts taken.from)); stop = taken.stop })
+units_in range p (Err outside) = Err (Refused InvalidRange)
 
 -- the units that a request asks for
 abbrev pub units_asked : ContextValue → Living → PresentationValue → Result Units Fault
 units_asked context view p = do
   value ← single_value (codes "Range") context.headers
   range ← range_in value
-  units_in range (units_of range (point view.1.phase p.unit_ms context.moment) p.unit_ms p.units)
+  units_in range p (units_of range (point view.1.phase p.unit_ms context.moment) p.unit_ms p.units)
 
 -- the stream of a track
 abbrev pub stream_of : ℕ → List Stream → Option Stream
@@ -63,7 +66,7 @@ stream_of t (s ∷ ss) = if s.track == t then Some s else stream_of t ss
 
 -- what RTP-Info says of a stream
 abbrev pub stream_info : List ℕ → TrackValue → Stream → StreamInfo
-stream_info base t s = record { url = base ++ t.name; ssrc = s.ssrc; seq = s.seq; rtptime = s.rtptime; ticks = t.ticks }
+stream_info base t s = record { url = base ++ t.name; ssrc = s.ssrc; seq = s.seq; packets = packet_count t.packing; rtptime = s.rtptime; ticks = t.ticks }
 
 -- the same of a track, if it has a stream
 abbrev pub stream_info_at : List ℕ → TrackValue → Option Stream → List StreamInfo

@@ -62,7 +62,7 @@ abbrev pub setup_plan : ContextValue → SetupSession → ℕ → ℕ → Delive
 setup_plan context session p t delivery presentation track = record {
   cseq = context.start.cseq;
   session = session;
-  rate = rate_of presentation.unit_ms track.octets;
+  rate = rate_of presentation.unit_ms track.octets track.packing;
   delivery = delivery;
   presentation = p;
   track = t;

@@ -50,9 +50,13 @@ is_hex_digit b = (nat_le 48 b && nat_le b 57) || (nat_le 97 b && nat_le b 102)
 unfoldable pub id_of : List ℕ → Option ℕ
 id_of name = if length name == 32 && list_all is_hex_digit name then Some (digits_value 16 name) else None
 
--- the URL that a reading gave, if its scheme is rtsp
+-- the scheme of a connection as it is, or of one under TLS, which ends in front of the server
+abbrev pub is_rtsp : List ℕ → Bool
+is_rtsp scheme = bytes_eq scheme (codes "rtsp") || bytes_eq scheme (codes "rtsps")
+
+-- the URL that a reading gave, if its scheme is rtsp or rtsps
 abbrev pub of_scheme : Result Parts ParseError → Option Parts
-of_scheme (Ok url) = if bytes_eq url.scheme (codes "rtsp") then Some url else None
+of_scheme (Ok url) = if is_rtsp url.scheme then Some url else None
 of_scheme (Err e) = None
 
 -- the rtsp URL that a text is, by the URL Standard

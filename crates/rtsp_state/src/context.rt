@@ -80,6 +80,7 @@ pub fn timing_of(presentation: &Presentation) -> Timing
     Timing {
         units: presentation.units(),
         unit_ms: presentation.unit_ms(),
+        longest_gap: presentation.longest_gap(),
     }
 }
 

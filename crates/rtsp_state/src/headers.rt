@@ -214,25 +214,25 @@ pub fn put_accept_ranges(room: &mut Room)
     put_fixed(room, Field::AcceptRanges, Word::Npt);
 }
 
-fn put_properties_value(room: &mut Room, unit_ms: UnitLength)
+fn put_properties_value(room: &mut Room, gap: u32, unit_ms: UnitLength)
     requires { 57 ≤ room.old.spare }
-    ensures text { room.new.text ≡ room.old.text ++ (text_of words.RandomAccess ++ time_text 1 unit_ms ++ text_of words.Immutable) }
+    ensures text { room.new.text ≡ room.old.text ++ (text_of words.RandomAccess ++ time_text gap unit_ms ++ text_of words.Immutable) }
     ensures room { Takes room.old room.new 57 }
 {
     put_word(room, Word::RandomAccess);
-    room.put_time(1, unit_ms);
+    room.put_time(gap, unit_ms);
     put_word(room, Word::Immutable);
 }
 
-/// Media-Properties: a play may begin at any unit, and the media never change.
+/// Media-Properties: how far apart the units are where a play may begin; the media never change.
 #[tactic(auto, using(crate::proofs::MessageLemmas::line_of))]
-pub fn put_properties(room: &mut Room, unit_ms: UnitLength)
+pub fn put_properties(room: &mut Room, gap: u32, unit_ms: UnitLength)
     requires { 77 ≤ room.old.spare }
-    ensures text { room.new.text ≡ room.old.text ++ header_text (properties_line unit_ms) }
+    ensures text { room.new.text ≡ room.old.text ++ header_text (properties_line gap unit_ms) }
     ensures room { Takes room.old room.new 77 }
 {
     put_name(room, Field::MediaProperties);
-    put_properties_value(room, unit_ms);
+    put_properties_value(room, gap, unit_ms);
     put_end(room);
 }
 

@@ -2,9 +2,20 @@
 
 ghost use Rattle.std.specs.Prelude.{◌≡◌, ◌==◌, ℕ, slice_index, ◌≤◌, ◌<◌, ◌^◌, true, length, take, decimal, IfSome, IsTrue};
 ghost use Rattle.std.specs.List.{list_all};
-ghost use Rattle.rtsp_state.specs.PlainUri.{is_host_byte, is_path_byte, may_follow, is_plain_path, FollowsPort, IsPlainUri};
+ghost use Rattle.rtsp_state.specs.PlainUri.{is_host_byte, is_path_byte, may_follow, is_plain_path, FollowsPort, FollowsScheme, IsPlainUri};
 
 use rtsp_text::number_of;
+
+// What follows the scheme: rtsp, or rtsps of a connection whose TLS ends in front of the server.
+fn after_scheme(text: &[u8]) -> Option<&[u8]>
+    ensures { IfSome result (λ rest. FollowsScheme text.now rest.now) }
+{
+    match text {
+        [b'r', b't', b's', b'p', b':', b'/', b'/', rest @ ..] => Some(rest),
+        [b'r', b't', b's', b'p', b's', b':', b'/', b'/', rest @ ..] => Some(rest),
+        _ => None,
+    }
+}
 
 // A byte of a plain host: it is in lower case.
 fn is_host_byte(byte: u8) -> bool
@@ -91,9 +102,7 @@ fn after_port(text: &[u8]) -> Option<&[u8]>
 pub fn plain_path(text: &[u8]) -> Option<&[u8]>
     ensures { IfSome result (λ path. IsPlainUri text.now path.now) }
 {
-    let [b'r', b't', b's', b'p', b':', b'/', b'/', rest @ ..] = text else {
-        return None;
-    };
+    let rest = after_scheme(text)?;
     let (host, behind) = rest.split_at(host_length(rest));
     let path = after_port(behind)?;
     if !host.is_empty() && is_plain_path(path) {

@@ -58,15 +58,20 @@ fn range_in(value: Option<&[u8]>) -> Result<Range, Fault>
     }
 }
 
-// The units that a range takes. They are played from the session's point where no start is written.
-fn units_in(range: Range, resolved: Result<Span, OutOfMedia>) -> Result<Units, Fault>
+// The units that a range takes: from the last one up to a written start where a play may begin. They
+// are played from the session's point where no start is written.
+fn units_in(
+    range: Range,
+    presentation: &Presentation,
+    resolved: Result<Span, OutOfMedia>,
+) -> Result<Units, Fault>
     requires { IfOk resolved (λ taken. taken.stop ≤ MAX_UNITS) }
-    ensures value { result ≡ units_in range resolved }
+    ensures value { result ≡ units_in range presentation.now resolved }
     ensures most { IfOk result (λ units. units.stop ≤ MAX_UNITS) }
 {
     match resolved {
         Ok(taken) => Ok(Units {
-            from: range.start.and(Some(taken.from)),
+            from: range.start.and(Some(presentation.start_at(taken.from))),
             stop: taken.stop,
         }),
         Err(_) => Err(Fault::Refused(Status::InvalidRange)),
@@ -85,7 +90,8 @@ fn units_asked(
     let range = range_in(value)?;
     let unit_ms = presentation.unit_ms();
     let resume = view.phase().point(unit_ms.ms(), context.moment);
-    units_in(range, resolve(range, resume, unit_ms, presentation.units()))
+    let resolved = resolve(range, resume, unit_ms, presentation.units());
+    units_in(range, presentation, resolved)
 }
 
 // The stream of a track.
@@ -122,6 +128,7 @@ fn stream_info(
         url: Text::from_vec(url),
         ssrc: stream.ssrc,
         seq: stream.seq,
+        packets: track.packing().packet_count(),
         rtptime: stream.rtptime,
         ticks: track.ticks(),
     })

@@ -22,6 +22,8 @@ pub struct StreamInfo {
     pub ssrc: u32,
     /// The sequence number of the session's first packet.
     pub seq: u16,
+    /// How many numbers a unit takes.
+    pub packets: u16,
     /// The timestamp of the session's first packet.
     pub rtptime: u32,
     /// How many ticks of the timestamp a unit lasts.
@@ -88,7 +90,8 @@ fn put_seq(room: &mut Room, stream: &StreamInfo, sent: u32)
     ensures room { Takes room.old room.new 15 }
 {
     put_word(room, Word::SeqIs);
-    room.put_decimal(((u64::from(stream.seq) + u64::from(sent)) % 65_536) as u32);
+    let numbers = u64::from(sent) * u64::from(stream.packets);
+    room.put_decimal(((u64::from(stream.seq) + numbers) % 65_536) as u32);
 }
 
 #[tactic(auto, unfolding(crate::specs::Info::rtptime_text))]

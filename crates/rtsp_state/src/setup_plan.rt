@@ -255,7 +255,7 @@ fn put_media(room: &mut Room, timing: Timing)
     ensures room { Takes room.old room.new 167 }
 {
     put_accept_ranges(room);
-    put_properties(room, timing.unit_ms);
+    put_properties(room, timing.longest_gap, timing.unit_ms);
     put_media_range(room, timing);
 }
 

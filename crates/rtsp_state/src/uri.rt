@@ -7,13 +7,13 @@ use std::alloc::{AllocError, Global};
 use std::str;
 use url::{ParseError, Url};
 
-// The rtsp URL that a text spells, or `None`.
+// The URL of scheme rtsp or rtsps that a text spells, or `None`.
 fn read_url(alloc: Global, text: &str) -> Result<Option<Url>, AllocError>
     ensures { IfOk result (λ url. url ≡ rtsp_url text.now) }
 {
     match Url::parse(alloc, text) {
         Ok(url) => {
-            if url.scheme() == "rtsp" {
+            if url.scheme() == "rtsp" || url.scheme() == "rtsps" {
                 Ok(Some(url))
             } else {
                 Ok(None)
@@ -25,7 +25,7 @@ fn read_url(alloc: Global, text: &str) -> Result<Option<Url>, AllocError>
     }
 }
 
-/// Reads a request URI: the rtsp URL that it spells, or `None`.
+/// Reads a request URI: the URL of scheme rtsp or rtsps that it spells, or `None`.
 pub fn read_uri(alloc: Global, text: &[u8]) -> Result<Option<Url>, AllocError>
     ensures { IfOk result (λ url. url ≡ uri_of text.now) }
 {

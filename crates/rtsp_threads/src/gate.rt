@@ -39,12 +39,16 @@ impl Gate {
         self.most.store(most, Ordering::SeqCst);
     }
 
-    /// Lets a connection from this address in, where it may be served. Each that is let in is taken
-    /// leave of by `leave`. After the last that is served the gate is shut.
-    pub fn enter<R: Wait>(&self, rt: &R, peer: u32) -> Result<(), Refused> {
+    /// Lets a connection from this address in, where it may be served, or one of a player who isn't
+    /// known yet. Each that is let in is taken leave of by `leave`. After the last that is served the
+    /// gate is shut.
+    pub fn enter<R: Wait>(&self, rt: &R, peer: Option<u32>) -> Result<(), Refused> {
         let most = self.most.load(Ordering::SeqCst);
         let mut heads = self.heads.lock(rt);
-        let entered = heads.enter(peer, most);
+        let entered = match peer {
+            Some(peer) => heads.enter(peer, most),
+            None => heads.enter_unnamed(most),
+        };
         self.open.store(heads.count(), Ordering::SeqCst);
         if heads.is_over() {
             self.shut();
@@ -52,10 +56,20 @@ impl Gate {
         entered
     }
 
-    /// A connection from this address has ended.
-    pub fn leave<R: Wait>(&self, rt: &R, peer: u32) {
+    /// The player of a connection becomes known, which then takes a place of this address, if it has
+    /// one left.
+    pub fn name<R: Wait>(&self, rt: &R, peer: u32) -> Result<(), Refused> {
         let mut heads = self.heads.lock(rt);
-        heads.leave(peer);
+        heads.name(peer)
+    }
+
+    /// A connection has ended that has a place of this address, or of none.
+    pub fn leave<R: Wait>(&self, rt: &R, peer: Option<u32>) {
+        let mut heads = self.heads.lock(rt);
+        match peer {
+            Some(peer) => heads.leave(peer),
+            None => heads.leave_unnamed(),
+        }
         self.open.store(heads.count(), Ordering::SeqCst);
     }
 

@@ -73,8 +73,12 @@ pub const SIGNALS_EVERY: u64 = 100;
 /// hang up, so that all is over within 3 s.
 pub const STOP_LIMIT: u64 = 2_500;
 
-/// The log tells which disk a stop waits for once the lanes were to have hung up so long ago.
-pub const STOP_TOLD_AFTER: u64 = 1_000;
+/// A write to the journal's file is left behind so long after the lanes were to have hung up, so that all
+/// is over within 3 s.
+pub const JOURNAL_LEFT_AFTER: u64 = 350;
+
+/// The same after a second signal, so that all is over within 0.3 s.
+pub const JOURNAL_LEFT_AT_ONCE: u64 = 120;
 
 /// The queue of the log has room for about so many lines, in batches, where each answer has one; further
 /// ones are dropped and counted.

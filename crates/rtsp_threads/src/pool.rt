@@ -4,7 +4,7 @@ ghost use Rattle.std.specs.Arc.{arc_value};
 ghost use Rattle.rtsp_lock.specs.Calls.{IsSeatOf, SameSeat};
 
 use rtsp_content::Table;
-use rtsp_lock::{BookHandle, BookLock, BookSeat};
+use rtsp_lock::{BookHandle, BookLock, BookSeat, DrawnNumbers};
 use std::alloc::Global;
 use std::net::{Net, TcpListener, TcpStream};
 use std::rt::Clock;
@@ -93,7 +93,7 @@ fn run_lanes<
 }
 
 // The end of a pool of which no lane was run.
-fn none_served<L: Lane>(lanes: &Vec<L>) -> PoolEnd {
+fn none_served<L>(lanes: &Vec<L>) -> PoolEnd {
     PoolEnd {
         served: 0,
         idle: lanes.len() as u64,
@@ -109,7 +109,7 @@ pub fn run_pool<
     rt: &R,
     alloc: Global,
     lanes: Vec<L>,
-    lock: &Arc<BookLock>,
+    lock: &Arc<BookLock<DrawnNumbers>>,
     seat: &mut BookSeat,
     table: &Table,
 ) -> PoolEnd

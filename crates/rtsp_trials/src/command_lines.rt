@@ -127,7 +127,7 @@ fn numbers(rt: HostRuntime) {
     }
 }
 
-const EXITS: [Exit; 10] = [
+const EXITS: [Exit; 11] = [
     Exit::Done,
     Exit::BadCommandLine,
     Exit::BadConfiguration,
@@ -139,6 +139,10 @@ const EXITS: [Exit; 10] = [
         ports: 80,
         others: 13,
         limit: 64,
+    },
+    Exit::JournalLeft {
+        file: 7,
+        entries: 12,
     },
     Exit::DeviceFailed,
     Exit::BadMessage,
@@ -154,6 +158,7 @@ const WRITTEN: &str = "\
 3 rtspd: entry 65536: not allowed
 3 rtspd: journal too long
 4 rtspd: 94 descriptors are wanted at least, 80 for pairs of ports, 13 for files, lanes and listeners, and 1 for a connection; the limit is 64
+4 rtspd: a disk holds up journal-000007.txt, which was left behind: 12 entries that it was handed may not be there, and none that came later is
 4 rtspd: read or write failed
 5 rtspd: bad message
 6 rtspd: out of memory

@@ -5,7 +5,7 @@
 use crate::world::{serve, tone};
 use rtsp_content::Table;
 use rtsp_engine::{Asker, BindFault, Binder, CountedReader, CountedWriter, ServeEnd, TURNS, Words};
-use rtsp_lock::open;
+use rtsp_lock::{DrawnNumbers, open_for};
 use rtsp_server::{BookHandle, Lane, LaneTurn, PoolEnd, run_pool, whole_of};
 use rtspd::CountedWords;
 use std::alloc::Global;
@@ -179,7 +179,7 @@ fn serves_both<R: Threads + Wait + Net<Listener = TcpListener, Stream = TcpStrea
     is_waiting_first: bool,
 ) -> Option<bool> {
     let table = tone(alloc)?;
-    let (lock, mut seat) = open(alloc, &whole_of(&table)).ok()?;
+    let (lock, mut seat) = open_for::<DrawnNumbers>(alloc, &whole_of(&table)).ok()?;
     let lock = Arc::new(alloc, lock).ok()?;
     let (one, two) = (flag(alloc, false)?, flag(alloc, false)?);
     let lanes = lanes(alloc, is_waiting_first, &one, &two)?;

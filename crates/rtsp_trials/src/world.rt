@@ -6,7 +6,7 @@ use crate::devices::{Answers, Counted, Failing, Ports, Requests};
 use rtsp_book::{Kept, Receipt};
 use rtsp_content::{EXAMPLE, Table};
 use rtsp_engine::{Asker, Binder, ByteIn, ByteOut, Desk, ServeEnd, Words};
-use rtsp_lock::{BookLock, BookSeat, LockBook, open};
+use rtsp_lock::{BookLock, BookSeat, LockBook, Numbers, open};
 use rtsp_server::whole_of;
 use rtspd::{NoPlays, NoShares, StandingClock};
 use std::alloc::Global;
@@ -18,11 +18,11 @@ pub fn tone(alloc: Global) -> Option<Table> {
 }
 
 /// Serves a connection at the moment 0, over these devices and with at most so many reads.
-pub fn serve<'a, R: Wait, B: Binder, W: Words, I: ByteIn, O: ByteOut>(
+pub fn serve<'a, R: Wait, N: Numbers, B: Binder, W: Words, I: ByteIn, O: ByteOut>(
     rt: &'a R,
     alloc: Global,
     seat: &'a mut BookSeat,
-    lock: &'a BookLock,
+    lock: &'a BookLock<N>,
     binder: &'a mut B,
     words: &'a mut W,
     table: &'a Table,

@@ -10,6 +10,7 @@ use Rattle.rtsp_state.specs.Room.{RoomText}
 use Rattle.rtsp_traits.specs.Devices.{Devices}
 use Rattle.rtsp_engine.specs.DeskAnswers.{AnswersAt, GivesUpAt}
 use Rattle.rtsp_engine.specs.Served.{Output, Answered, FaultedAfter, at}
+use Rattle.rtsp_engine.specs.Numbers.{DrawsAlone, AnswersMeantDrawn}
 use Rattle.rtsp_engine.specs.Serving.{Serving, AnswersFrom, GivesUpFrom, desk_serving, serving_of}
 use Rattle.rtsp_engine.specs.declared.desk.Asker.{Asker}
 use Rattle.rtsp_engine.specs.declared.desk.Desk.{Desk}
@@ -20,8 +21,12 @@ use Rattle.rtsp_dialect.specs.Repairing.{TakesRepaired, FaultsRepaired}
 abbrev pub players_served : Serving → Players
 players_served serving = serving.service.table.server.players
 
+-- what an item means, from one of these players
+abbrev pub meaning : Serving → Item → Item
+meaning serving item = understood (players_served serving) item
+
 -- a desk's answers are gathered in a room
-abbrev pub serves : {R B W C P S : Type 0} → Desk R B W C P S → RoomText → Output Serving
+abbrev pub serves : {R B W C P S N : Type 0} → Desk R B W C P S N → RoomText → Output Serving
 serves desk room = at room (desk_serving desk)
 
 -- answers to this player, from this content, over this seat, are gathered in a room
@@ -45,10 +50,20 @@ module _ {B W C P S : Type 0} (d : Devices B W C P S) where
   abbrev pub FaultsPiece : List ℕ → MessageFault → Output Serving → Output Serving → Type 0
   FaultsPiece bytes fault s t = FaultedAfter AnswersUnderstood GivesUpUnderstood bytes fault s t
 
+  -- where the seat and all others of its lock use drawn numbers alone they still do, and of the SETUPs that were refused nothing is left
+  abbrev pub LeavesTaken : List ℕ → List ℕ → Output Serving → Output Serving → Type 0
+  LeavesTaken bytes rest s t =
+      DrawsAlone s.answerer.view → Answered (AnswersMeantDrawn d meaning) GivesUpUnderstood bytes rest s t × DrawsAlone t.answerer.view
+
+  -- so it is before a fault
+  abbrev pub LeavesFaulted : List ℕ → MessageFault → Output Serving → Output Serving → Type 0
+  LeavesFaulted bytes fault s t =
+      DrawsAlone s.answerer.view → FaultedAfter (AnswersMeantDrawn d meaning) GivesUpUnderstood bytes fault s t × DrawsAlone t.answerer.view
+
 -- a desk whose requests are repaired
-module _ {R B W C P S : Type 0} (d : Devices B W C P S) where
-  abbrev pub TakesAt : List ℕ → List ℕ → Output (Desk R B W C P S) → Output (Desk R B W C P S) → Type 0
+module _ {R B W C P S N : Type 0} (d : Devices B W C P S) where
+  abbrev pub TakesAt : List ℕ → List ℕ → Output (Desk R B W C P S N) → Output (Desk R B W C P S N) → Type 0
   TakesAt bytes rest s t = TakesRepaired (AnswersAt d) (GivesUpAt d) bytes rest s t
 
-  abbrev pub FaultsAt : List ℕ → MessageFault → Output (Desk R B W C P S) → Output (Desk R B W C P S) → Type 0
+  abbrev pub FaultsAt : List ℕ → MessageFault → Output (Desk R B W C P S N) → Output (Desk R B W C P S N) → Type 0
   FaultsAt bytes fault s t = FaultsRepaired (AnswersAt d) (GivesUpAt d) bytes fault s t

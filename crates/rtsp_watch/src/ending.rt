@@ -5,6 +5,7 @@ ghost use Rattle.rtsp_watch.specs.Ending.{closed_by};
 
 use rtsp_engine::{Binder, Clock, Desk, Plays, Shares, Words};
 use rtsp_grammar::Method;
+use rtsp_lock::Numbers;
 use rtsp_record::Record;
 use std::sync::Wait;
 
@@ -28,8 +29,8 @@ fn closed_by(made: &[Record]) -> Option<u64>
     }
 }
 
-impl<R: Wait, B: Binder, W: Words, C: Clock, P: Plays, S: Shares> Recorder
-    for Desk<'_, R, B, W, C, P, S> {
+impl<R: Wait, B: Binder, W: Words, C: Clock, P: Plays, S: Shares, N: Numbers> Recorder
+    for Desk<'_, R, B, W, C, P, S, N> {
     fn closed(&self) -> Option<u64> {
         closed_by(self.made.records())
     }

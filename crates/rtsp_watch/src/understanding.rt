@@ -14,14 +14,15 @@ use crate::witness::Witness;
 use rtsp_content::Players;
 use rtsp_engine::{Binder, Clock, Connection, Desk, Plays, Shares, Words};
 use rtsp_grammar::MessageFault;
+use rtsp_lock::Numbers;
 use rtsp_state::Room;
 use std::alloc::Global;
 use std::sync::Wait;
 
 // Takes a piece, and has its items answered by the desk.
-fn push_strict<R: Wait, B: Binder, W: Words, C: Clock, P: Plays, S: Shares, T: Witness>(
+fn push_strict<R: Wait, B: Binder, W: Words, C: Clock, P: Plays, S: Shares, N: Numbers, T: Witness>(
     alloc: Global,
-    desk: &mut Desk<'_, R, B, W, C, P, S>,
+    desk: &mut Desk<'_, R, B, W, C, P, S, N>,
     witness: &T,
     connection: &mut Connection,
     piece: &[u8],
@@ -38,9 +39,18 @@ fn push_strict<R: Wait, B: Binder, W: Words, C: Clock, P: Plays, S: Shares, T: W
 }
 
 // Takes a piece, and has the repaired items answered.
-fn push_repaired<R: Wait, B: Binder, W: Words, C: Clock, P: Plays, S: Shares, T: Witness>(
+fn push_repaired<
+    R: Wait,
+    B: Binder,
+    W: Words,
+    C: Clock,
+    P: Plays,
+    S: Shares,
+    N: Numbers,
+    T: Witness,
+>(
     alloc: Global,
-    desk: &mut Desk<'_, R, B, W, C, P, S>,
+    desk: &mut Desk<'_, R, B, W, C, P, S, N>,
     witness: &T,
     connection: &mut Connection,
     piece: &[u8],
@@ -60,9 +70,18 @@ fn push_repaired<R: Wait, B: Binder, W: Words, C: Clock, P: Plays, S: Shares, T:
 /// players of the configuration mean it, and tells the witness of each request that was answered. Of
 /// the desk only what its seat has seen of the book matters for the next piece, so each piece may have
 /// devices that are lent for it alone.
-pub fn push_understood<R: Wait, B: Binder, W: Words, C: Clock, P: Plays, S: Shares, T: Witness>(
+pub fn push_understood<
+    R: Wait,
+    B: Binder,
+    W: Words,
+    C: Clock,
+    P: Plays,
+    S: Shares,
+    N: Numbers,
+    T: Witness,
+>(
     alloc: Global,
-    desk: &mut Desk<'_, R, B, W, C, P, S>,
+    desk: &mut Desk<'_, R, B, W, C, P, S, N>,
     witness: &T,
     input: &mut Connection,
     piece: &[u8],

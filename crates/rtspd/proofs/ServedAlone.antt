@@ -8,9 +8,11 @@ use Rattle.rtsp_lock.specs.declared.seat.BookSeat.{BookSeat}
 use Rattle.rtsp_lock.specs.declared.view.View.{View}
 use Rattle.rtsp_admit.specs.Numbers.{OwnsAll, OwnsAllLasts}
 use Rattle.rtsp_engine.specs.declared.desk.Desk.{Desk}
+use Rattle.rtsp_lock.specs.declared.numbering.AnyNumbers.{AnyNumbers}
 use Rattle.rtsp_engine.specs.declared.serving.ServeEnd.{ServeEnd}
 use Rattle.rtsp_engine.specs.Additions.{ServedGrows}
 use Rattle.rtsp_engine.specs.DeskAnswers.{EndsAt}
+use Rattle.rtsp_admit.specs.Refused.{LeftNothing}
 use Rattle.rtsp_engine.specs.Numbers.{EndsCleanly}
 use Rattle.rtsp_engine.specs.Served.{line, parts}
 use Rattle.rtsp_content.specs.TableValue.{TableValue}
@@ -29,10 +31,10 @@ pub record IsNew (w : Whole) (v : View) : Type 0 where
   pub seen : v.seen ≡ []
   pub mine : v.mine ≡ []
 
-pub drawn_new : (w : Whole) (v u : View) → OwnsAllLasts → v ≡ first_view w → Looked v u → IsNew w u
+pub drawn_new : (w : Whole) (v u : View) → OwnsAllLasts → v ≡ first_view false w → Looked v u → IsNew w u
 drawn_new w v u lasts is looked =
     let from = subst (λ (x : View). Looked x u) is looked in
-    record { whole = from.stays.whole; owns = lasts.looked (first_view w) u (lasts.first w) from; seen = from.seen ∙ from.alone.found refl; mine = from.mine }
+    record { whole = from.stays.whole; owns = lasts.looked (first_view false w) u (lasts.first false w) from; seen = from.seen ∙ from.alone.found refl; mine = from.mine }
 
 pub whole_is : (table : TableValue) (w v : Whole) → v ≡ w → (w.first_port ≡ table.server.first_port) × (w.pairs ≡ table.server.pairs)
     → (w.uplink ≡ table.server.uplink) × (w.sessions ≡ table.server.sessions) → w.journal ≡ table.server.journal → IsWholeOf table v
@@ -44,10 +46,10 @@ pub bound_none : (first pairs first' pairs' : ℕ) (b : PortSet) → (first ≡ 
 bound_none first pairs first' pairs' b same none = subst (λ (p : ℕ). NoneBound p pairs' b) same.0 (subst (λ (n : ℕ). NoneBound first n b) same.1 none)
 
 module _ {R I O : Type 0} (remaining : I → Option (List ℕ)) (contents : O → Option (List ℕ)) (table : TableValue) (end : ServeEnd) (kept : History) (i j : I) (o p : O)
-    (first last : Desk R PortSet CountedWords StandingClock NoPlays NoShares) where
-  pub alone_served : (seat : BookSeat) (u : View) → IsFresh table first → last.seat.now ≡ seat → ServedGrows stdio_devices R
+    (first last : Desk R PortSet CountedWords StandingClock NoPlays NoShares AnyNumbers) where
+  pub alone_served : (seat : BookSeat) (u : View) → IsFresh table first → last.seat.now ≡ seat → ServedGrows stdio_devices R AnyNumbers
       → EndsAt stdio_devices remaining contents end (parts i o first) (parts j p last)
-      → (OwnsAll (seat_view first.seat.now) → EndsCleanly stdio_devices remaining contents end (parts i o first) (parts j p last))
+      → (OwnsAll (seat_view first.seat.now) → EndsCleanly stdio_devices LeftNothing remaining contents end (parts i o first) (parts j p last))
       → (OwnsAll (seat_view first.seat.now) → OwnsAll (seat_view last.seat.now))
       → Finished (seat_view seat) u kept → ServedAlone R remaining contents table end kept i j o p
   alone_served seat u fresh is grows ends cleanly owns finishes =

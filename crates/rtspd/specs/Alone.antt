@@ -12,10 +12,12 @@ use Rattle.rtsp_engine.specs.Conducting.{HasPlace, ConductsSetup}
 use Rattle.rtsp_engine.specs.Desk.{State}
 use Rattle.rtsp_engine.specs.DeskAnswers.{EndsAt}
 use Rattle.rtsp_traits.specs.Devices.{Devices, devices}
+use Rattle.rtsp_admit.specs.Refused.{LeftNothing}
 use Rattle.rtsp_engine.specs.Numbers.{EndsCleanly}
 use Rattle.rtsp_engine.specs.Served.{line, parts}
 use Rattle.rtsp_engine.specs.declared.desk.Asker.{Asker}
 use Rattle.rtsp_engine.specs.declared.desk.Desk.{Desk}
+use Rattle.rtsp_lock.specs.declared.numbering.AnyNumbers.{AnyNumbers}
 use Rattle.rtsp_engine.specs.declared.serving.ServeEnd.{ServeEnd}
 use Rattle.rtsp_traits.specs.declared.port_set.PortSet.{PortSet}
 use Rattle.rtspd.specs.declared.devices.counted_words.CountedWords.{CountedWords}
@@ -53,7 +55,7 @@ pub record IsWholeOf (table : TableValue) (whole : Whole) : Type 0 where
 
 module _ {R : Type 0} where
   -- a desk from which nothing was answered yet: its seat is the only one of its lock, over what there is to hold, whose journal is empty; no port is bound, no word was given
-  pub record IsFresh (table : TableValue) (desk : Desk R PortSet CountedWords StandingClock NoPlays NoShares) : Type 0 where
+  pub record IsFresh (table : TableValue) (desk : Desk R PortSet CountedWords StandingClock NoPlays NoShares AnyNumbers) : Type 0 where
     pub content : desk.table.now ≡ table
     pub player : desk.asker.peer ≡ local_host
     pub whole : IsWholeOf table (seat_view desk.seat.now).whole
@@ -66,11 +68,11 @@ module _ {R : Type 0} where
 -- a connection was served to this end, from a fresh desk over this content: what was written is, in order, the answers to what was read; of each
 -- SETUP that was refused nothing is left; the seat's entries are the records of the replies, and the journal that is kept is what that seat saw last
 pub record ServedAlone (R : Type 0) {I O : Type 0} (remaining : I → Option (List ℕ)) (contents : O → Option (List ℕ)) (table : TableValue) (end : ServeEnd) (kept : History) (i j : I) (o p : O) : Type 0 where
-  pub first : Desk R PortSet CountedWords StandingClock NoPlays NoShares
-  pub last : Desk R PortSet CountedWords StandingClock NoPlays NoShares
+  pub first : Desk R PortSet CountedWords StandingClock NoPlays NoShares AnyNumbers
+  pub last : Desk R PortSet CountedWords StandingClock NoPlays NoShares AnyNumbers
   pub fresh : IsFresh table first
   pub ends : EndsAt stdio_devices remaining contents end (parts i o first) (parts j p last)
-  pub cleanly : EndsCleanly stdio_devices remaining contents end (parts i o first) (parts j p last)
+  pub cleanly : EndsCleanly stdio_devices LeftNothing remaining contents end (parts i o first) (parts j p last)
   pub records : GrowsBy stdio_devices first last (end_records stdio_devices [] end (line remaining contents (parts i o first)) (line remaining contents (parts j p last)) ends)
   pub owns : OwnsAll (seat_view last.seat.now)
   pub whole : IsWholeOf table kept.whole

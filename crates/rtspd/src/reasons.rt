@@ -66,7 +66,7 @@ fn tell_of_track<R: Files<File = File> + Eprint>(
     track: &Track,
 ) -> bool {
     let path = track.file();
-    let (units, octets) = (presentation.units(), track.octets());
+    let (units, octets) = (presentation.units(), track.unit_len());
     let wanted = u64::from(units) * u64::from(octets);
     let length = match File::open(rt, path) {
         Ok(file) => match file.metadata() {

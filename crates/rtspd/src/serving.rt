@@ -3,7 +3,7 @@
 use crate::running::{read_operation, read_table};
 use rtsp_command_line::Exit;
 use rtsp_engine::{ByteOut, CountedWriter};
-use rtsp_server::{Announce, Server, ServerFault};
+use rtsp_server::{Announce, Doubt, Server, ServerEnd, ServerFault};
 use std::alloc::Global;
 use std::fs::File;
 use std::io::{Eprint, Write};
@@ -48,6 +48,14 @@ fn fault_exit(fault: ServerFault) -> Exit {
         },
         ServerFault::DeviceFailed | ServerFault::NoThread => Exit::DeviceFailed,
         ServerFault::OutOfMemory => Exit::OutOfMemory,
+    }
+}
+
+// How the program ends where the server has ended.
+fn end_of(end: ServerEnd) -> Result<(), Exit> {
+    match end.left {
+        None => Ok(()),
+        Some(Doubt { file, entries }) => Err(Exit::JournalLeft { file, entries }),
     }
 }
 
@@ -126,7 +134,7 @@ where
         writer: CountedWriter::new(writer),
     };
     match server.run(rt, announcer, errors) {
-        Ok(_) => Ok(()),
+        Ok(end) => end_of(end),
         Err(fault) => Err(fault_exit(fault)),
     }
 }

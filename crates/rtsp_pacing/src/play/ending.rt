@@ -7,6 +7,7 @@ use crate::sink::WaysOfControl;
 use rtsp_book::{Refusal, SessionView};
 use rtsp_content::{Players, Presentation};
 use rtsp_grammar::write_request;
+use rtsp_lock::Numbers;
 use rtsp_record::Phase;
 use rtsp_sockets::Message;
 use rtsp_state::notify;
@@ -23,10 +24,10 @@ const GOODBYE_AFTER: u64 = 250;
 impl PacedPlay {
     // Ends the play. Where that is refused, as for want of room in the journal, it is tried again
     // a unit later.
-    pub(super) fn finish<R: Wait>(
+    pub(super) fn finish<R: Wait, N: Numbers>(
         &mut self,
         alloc: Global,
-        desk: &mut PacerDesk<'_, R>,
+        desk: &mut PacerDesk<'_, R, N>,
         presentation: &Presentation,
         moment: u64,
     ) -> Next {
@@ -43,10 +44,10 @@ impl PacedPlay {
 
     // Tells the connection that asked for the play of its end, unless the session has gone on. The
     // streams of GStreamer say goodbye a moment later: it waits for that.
-    pub(super) fn report<R: Wait>(
+    pub(super) fn report<R: Wait, N: Numbers>(
         &mut self,
         alloc: Global,
-        desk: &mut PacerDesk<'_, R>,
+        desk: &mut PacerDesk<'_, R, N>,
         presentation: &Presentation,
         moment: u64,
     ) -> Next {
@@ -66,10 +67,10 @@ impl PacedPlay {
         }
     }
 
-    fn put_report<R: Wait>(
+    fn put_report<R: Wait, N: Numbers>(
         &self,
         alloc: Global,
-        desk: &PacerDesk<'_, R>,
+        desk: &PacerDesk<'_, R, N>,
         view: &SessionView,
         presentation: &Presentation,
         moment: u64,
@@ -92,9 +93,9 @@ impl PacedPlay {
     }
 
     // Says goodbye for the streams of the play, unless the session has gone on.
-    pub(super) fn say_goodbye<R: Wait>(
+    pub(super) fn say_goodbye<R: Wait, N: Numbers>(
         &self,
-        desk: &mut PacerDesk<'_, R>,
+        desk: &mut PacerDesk<'_, R, N>,
         phase: Phase,
         moment: u64,
     ) {
@@ -104,7 +105,7 @@ impl PacedPlay {
                 ways: &self.ways,
                 now: moment,
             };
-            self.pacer.say_goodbye(&mut desk.packet, &mut sink);
+            self.pacer.say_goodbye(&mut desk.room.packets, &mut sink);
         }
     }
 }

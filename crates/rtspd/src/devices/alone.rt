@@ -10,7 +10,7 @@ use crate::devices::standing_clock::StandingClock;
 use rtsp_book::{Kept, Receipt};
 use rtsp_content::Table;
 use rtsp_engine::{Asker, ByteIn, ByteOut, Desk, ServeEnd, law_owns_all, law_served_grows};
-use rtsp_lock::{LockBook, open};
+use rtsp_lock::{AnyNumbers, LockBook, open};
 use rtsp_server::whole_of;
 use rtsp_traits::{NoShares, PortSet};
 use std::alloc::{AllocError, Global};
@@ -47,7 +47,7 @@ pub fn serve_alone<R: Wait, I: ByteIn, O: ByteOut>(
     ensures spent { IfOk result (λ c. SpendsTurns c.end turns (I.remaining reader.old) (I.remaining reader.new)) }
 {
     law_owns_all();
-    law_served_grows::<R, PortSet, CountedWords, StandingClock, NoPlays, NoShares>();
+    law_served_grows::<R, PortSet, CountedWords, StandingClock, NoPlays, NoShares, AnyNumbers>();
     let whole = whole_of(table);
     let (lock, mut seat) = open(alloc, &whole)?;
     let mut binder = PortSet::open(alloc, whole.first_port, whole.pairs)?;

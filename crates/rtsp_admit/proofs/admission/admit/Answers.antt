@@ -25,3 +25,7 @@ returns-in-Ok-clause-owns g c =
 pub returns-in-Err-clause-owns : goal.returns-in-Err-clause-owns
 returns-in-Err-clause-owns g c =
     c.law_admitted_keeps_all.ensures (Err c.in-Err.refusal) (state_of c.args.seat.now c.args.binder.now) (state_of c.admit_into.new.seat c.admit_into.new.binder) c.in-Err.ensures.run
+
+pub returns-in-Err-clause-clean : goal.returns-in-Err-clause-clean
+returns-in-Err-clause-clean g c =
+    c.law_refused_drawn.ensures c.in-Err.refusal (state_of c.args.seat.now c.args.binder.now) (state_of c.admit_into.new.seat c.admit_into.new.binder) c.in-Err.ensures.run

@@ -1,4 +1,4 @@
-use Rattle.std.proofs.Common.{subst}
+use Rattle.std.proofs.Common.{refl, subst}
 use Rattle.std.specs.Prelude.{Option}
 use Rattle.rtsp_record.specs.declared.holdings.Thing.{Thing}
 use Rattle.rtsp_book.specs.Receipts.{filled}
@@ -7,7 +7,11 @@ use Rattle.rtsp_book.specs.declared.steps.Step.TheVariants as step
 use Rattle.rtsp_lock.specs.Calls.{seat_view, Acted}
 use Rattle.rtsp_admit.specs.Binder.{Released}
 use Rattle.rtsp_admit.specs.Runs.{state_of}
+use Rattle.rtsp_lock.proofs.Naming.{names_none}
 use Rattle.rtsp_admit.proofs.admission.admit_into.Goals as goal
+
+pub act_into-requires-clause-names : goal.act_into-requires-clause-names
+act_into-requires-clause-names g c = names_none g.N.Numbers.drawn _ _ refl
 
 pub returns-in-Err-clause-run : goal.returns-in-Err-clause-run
 returns-in-Err-clause-run g c = record {

@@ -1,8 +1,25 @@
-use Rattle.std.proofs.Common.{subst, Ok, Err}
+use Rattle.std.proofs.Common.{◌∙◌, ap, subst, Ok, Err}
 use Rattle.rtsp_book.specs.declared.steps.Step.{Step}
 use Rattle.rtsp_lock.specs.Calls.{seat_view, Acted}
 use Rattle.rtsp_admit.specs.Runs.{state_of}
+use Rattle.rtsp_lock.specs.Numbers.{admission_of}
+use Rattle.rtsp_lock.proofs.Naming.{names_used, use_still}
 use Rattle.rtsp_admit.proofs.admission.complete.Goals as goal
+
+pub hold_rate-requires-clause-number : goal.hold_rate-requires-clause-number
+hold_rate-requires-clause-number g c =
+    use_still g.N.Numbers.drawn (seat_view c.args.seat.now) (seat_view c.open.new.seat) c.args.ask.now.admission c.open.ensures.drawn c.requires.number
+
+pub address-requires-clause-number : goal.address-requires-clause-number
+address-requires-clause-number g c =
+    use_still g.N.Numbers.drawn (seat_view c.args.seat.now) (seat_view c.hold_rate.new.seat) c.args.ask.now.admission (c.hold_rate.ensures.drawn ∙ c.open.ensures.drawn) c.requires.number
+
+pub act_into-requires-clause-names : goal.act_into-requires-clause-names
+act_into-requires-clause-names g c =
+    let v = seat_view c.address.new.seat in
+    let drawn = c.address.ensures.drawn ∙ (c.hold_rate.ensures.drawn ∙ c.open.ensures.drawn) in
+    names_used g.N.Numbers.drawn v c.commit_step.result c.args.ask.now.admission (ap admission_of c.commit_step.ensures)
+    (use_still g.N.Numbers.drawn (seat_view c.args.seat.now) v c.args.ask.now.admission drawn c.requires.number)
 
 pub returns-in-Ok-act_into-clause-ok : goal.returns-in-Ok-act_into-clause-ok
 returns-in-Ok-act_into-clause-ok g c = record {

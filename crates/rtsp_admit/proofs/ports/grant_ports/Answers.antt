@@ -1,10 +1,15 @@
 use Rattle.std.proofs.Common.{◌∙◌, ◌∷◌, subst, sym, arith}
 use Rattle.rtsp_record.specs.Rules.{IsAddress}
 use Rattle.rtsp_lock.specs.Calls.{seat_view}
+use Rattle.rtsp_lock.proofs.Naming.{use_still}
 use Rattle.rtsp_admit.specs.Runs.{state_of}
 use Rattle.rtsp_admit.proofs.Breaking.{is_ports}
 use Rattle.rtsp_admit.proofs.Choosing.{held_from, tries_above}
 use Rattle.rtsp_admit.proofs.ports.grant_ports.Goals as goal
+
+pub try_ports-requires-clause-number : goal.try_ports-requires-clause-number
+try_ports-requires-clause-number g c =
+    use_still g.N.Numbers.drawn (seat_view c.args.seat.now) (seat_view c.loop-first.seat) c.args.ask.now.admission c.loop-first.invariant.drawn c.requires.number
 
 pub returns-in-Bound-clause-ok : goal.returns-in-Bound-clause-ok
 returns-in-Bound-clause-ok g c =
@@ -28,6 +33,7 @@ loop-first-preserved g c =
     let same = c.try_ports.ensures.same in
     record {
       same = (same.0 ∙ was.same.0, same.1 ∙ was.same.1);
+      drawn = c.try_ports.ensures.drawn ∙ was.drawn;
       tried = c.in-Returned.first ∷ was.tried;
       tries = record {
         start = c.loop-first.from;

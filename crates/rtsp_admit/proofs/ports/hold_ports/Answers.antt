@@ -3,7 +3,14 @@ use Rattle.rtsp_book.specs.declared.steps.Step.{Step}
 use Rattle.rtsp_lock.specs.Calls.{seat_view, Acted}
 use Rattle.rtsp_admit.specs.Steps.{first_port_in}
 use Rattle.rtsp_admit.proofs.Choosing.{ports_held, some_held}
+use Rattle.rtsp_lock.specs.Numbers.{admission_of}
+use Rattle.rtsp_lock.proofs.Naming.{names_used}
+use Rattle.rtsp_admit.proofs.Keeping.{names_ports}
 use Rattle.rtsp_admit.proofs.ports.hold_ports.Goals as goal
+
+pub act_into-requires-clause-names : goal.act_into-requires-clause-names
+act_into-requires-clause-names g c =
+    names_used g.N.Numbers.drawn (seat_view c.args.seat.now) c.hold_step.result c.args.ask.now.admission (ap admission_of c.hold_step.ensures ∙ names_ports c.args.ask.now c.args.kind c.args.from) c.requires.number
 
 pub unreachable-requires : goal.unreachable-requires
 unreachable-requires g c =

@@ -4,7 +4,11 @@ use Rattle.rtsp_record.specs.declared.phases.Phase.{Phase}
 use Rattle.rtsp_state.specs.Answer.{step_answer}
 use Rattle.rtsp_traits.specs.Devices.{Settled}
 use Rattle.rtsp_engine.specs.Conducting.{played}
+use Rattle.rtsp_lock.proofs.Naming.{names_none}
 use Rattle.rtsp_engine.proofs.conducting.conduct_step.Goals as goal
+
+pub act_step-requires-clause-names : goal.act_step-requires-clause-names
+act_step-requires-clause-names g c = names_none g.N.Numbers.drawn _ c.args.plan.now.step c.requires.names
 
 pub returns-in-Ok-clause-ok : goal.returns-in-Ok-clause-ok
 returns-in-Ok-clause-ok g c =

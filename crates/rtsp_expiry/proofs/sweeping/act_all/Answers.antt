@@ -3,8 +3,12 @@ use Rattle.rtsp_admit.specs.Runs.{state_of}
 use Rattle.rtsp_book.specs.declared.refusals.Refusal.{Refusal}
 use Rattle.rtsp_lock.specs.Calls.{seat_view, Acted}
 use Rattle.rtsp_expiry.specs.Sweeps.{session_in}
-use Rattle.rtsp_expiry.proofs.Finding.{only_nothing}
+use Rattle.rtsp_lock.proofs.Naming.{names_none}
+use Rattle.rtsp_expiry.proofs.Finding.{only_nothing, names_no_number}
 use Rattle.rtsp_expiry.proofs.sweeping.act_all.Goals as goal
+
+pub act_into-requires-clause-names : goal.act_into-requires-clause-names
+act_into-requires-clause-names g c = names_none g.N.Numbers.drawn _ c.args.step.now (names_no_number c.args.step.now c.requires.step)
 
 pub loop-ended-preserved : goal.loop-ended-preserved
 loop-ended-preserved g c =

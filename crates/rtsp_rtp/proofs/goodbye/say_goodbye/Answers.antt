@@ -1,5 +1,6 @@
-use Rattle.std.proofs.Common.{◌∙◌, ℕ, List, slice_index_or, subst}
+use Rattle.std.proofs.Common.{None, ◌∙◌, ℕ, List, slice_index_or, subst}
 use Rattle.rtsp_rtp.specs.declared.source.Source.{Source}
+use Rattle.rtsp_content.specs.declared.packing.Packing.TheVariants.{Single}
 use Rattle.rtsp_rtp.proofs.Leaving.{said_more, said_all}
 use Rattle.rtsp_rtp.proofs.goodbye.say_goodbye.Goals as goal
 
@@ -8,7 +9,7 @@ loop-source-preserved g c = λ u rest.
     let sends = g.S.ControlSink.sends in
     let xs = c.args.sources.now in
     let i = c.loop-source.source-index in
-    let d : Source = record { track = 0; payload_type = 0; octets = 0; ticks = 0; ssrc = 0; seq = 0; rtptime = 0 } in
+    let d : Source = record { track = 0; payload_type = 0; packing = Single; octets = 0; ticks = 0; ssrc = 0; seq = 0; rtptime = 0 } in
     let said = subst (λ (p : List ℕ). sends c.loop-source.sink (slice_index_or xs i d).track p c.send_control.new.self) (c.put_whole.ensures ∙ c.goodbye.ensures) c.send_control.ensures in
     c.loop-source.invariant u (said_more sends xs i d c.loop-source.sink c.send_control.new.self u c.loop-source-test.true said rest)
 

@@ -19,3 +19,9 @@ returns-clause-owns g c own = (c.law_served_cleanly.ensures.ended _ c.serve_turn
 
 pub returns-clause-cleanly : goal.returns-clause-cleanly
 returns-clause-cleanly g c own = (c.law_served_cleanly.ensures.ended _ c.serve_turns.result _ _ own c.serve_turns.ensures.served).0
+
+pub returns-clause-alone : goal.returns-clause-alone
+returns-clause-alone g c is = (c.law_served_drawn.ensures.ended _ c.serve_turns.result _ _ is c.serve_turns.ensures.served).1
+
+pub returns-clause-drawn : goal.returns-clause-drawn
+returns-clause-drawn g c is = (c.law_served_drawn.ensures.ended _ c.serve_turns.result _ _ is c.serve_turns.ensures.served).0

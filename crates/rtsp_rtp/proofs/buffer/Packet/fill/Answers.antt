@@ -1,4 +1,4 @@
-use Rattle.std.proofs.Common.{◌≡◌, ◌∙◌, refl, arith, ◌-◌, ◌+◌, ◌≤◌, length}
+use Rattle.std.proofs.Common.{◌≡◌, ◌∙◌, refl, ◌-◌, ◌+◌, ◌≤◌, length}
 use Rattle.std.proofs.lemmas.Result.{on_ok_weaker}
 use Rattle.rtsp_content.specs.declared.limits.TheConstants.{MAX_OCTETS}
 use Rattle.rtsp_rtp.specs.Packets.{header_of}
@@ -9,15 +9,15 @@ pub returns-clause-ok : goal.returns-clause-ok
 returns-clause-ok g c =
     let header = header_of c.args.source.now c.args.sent in
     let y = c.put_header.new.buffer in
-    let fits : c.from-octets.result ≤ MAX_OCTETS = omega (arith, c.requires, c.from-octets.ensures) in
-    let full : length c.octets.new.out ≡ c.from-octets.result =
-    c.octets.auto.out ∙ payload_room y c.from-octets.result (wide c.self.inside.buffer header y c.self.told refl c.put_header.ensures) fits
+    let fits : c.args.source.now.octets ≤ MAX_OCTETS = c.requires in
+    let full : length c.octets.new.out ≡ c.args.source.now.octets =
+    c.octets.auto.out ∙ payload_room y c.args.source.now.octets (wide c.self.inside.buffer header y c.self.told refl c.put_header.ensures) fits
     in
     on_ok_weaker c.octets.result
     (λ took. record {
       payload = c.octets.new.out;
-      full = full ∙ c.from-octets.ensures;
+      full = full;
       took = took;
-      packet = placed c.self.inside.buffer header y c.octets.new.out (16 + c.from-octets.result - 16) c.from-octets.result c.self.told refl c.put_header.ensures full fits;
+      packet = placed c.self.inside.buffer header y c.octets.new.out (16 + c.args.source.now.octets - 16) c.args.source.now.octets c.self.told refl c.put_header.ensures full fits;
     })
     c.octets.ensures.ok

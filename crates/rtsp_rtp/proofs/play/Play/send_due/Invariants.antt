@@ -1,4 +1,4 @@
-use Rattle.std.proofs.Common.{◌≤◌, ◌-◌, ◌*◌, max, take, length}
+use Rattle.std.proofs.Common.{◌≡◌, ◌≤◌, ◌-◌, ◌*◌, max, take, length}
 use Rattle.rtsp_record.specs.Moments.{due}
 use Rattle.rtsp_rtp.specs.Turns.{unsent_at, AllSent}
 use Rattle.rtsp_rtp.specs.Progress.{phase_of, sent_at, IsPlaced, pacing_of}
@@ -14,7 +14,8 @@ invariant-loop-sources g l =
       placed : IsPlaced n l.at;
       begun : from ≤ now;
       within : now ≤ max from (due (phase_of l.self) l.self.unit_ms l.moment * n);
-      sent : AllSent g.S.Sink.calls (phase_of l.self) (take (now - from) (unsent_at (pacing_of l.self l.fn.at) l.moment)) l.fn.sink l.sink;
+      room : length l.room ≡ length l.fn.room;
+      sent : AllSent g.S.Sink.calls (phase_of l.self) l.self.unit_ms (take (now - from) (unsent_at (pacing_of l.self l.fn.at l.fn.states) l.moment)) l.fn.states l.states l.fn.sink l.sink;
     }
 
 abbrev pub decreases-loop-sources : goal.decreases-loop-sources
