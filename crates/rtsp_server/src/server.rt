@@ -13,7 +13,7 @@ use rtsp_content::{Operation, Table};
 use rtsp_lock::{BookHandle, LockBook};
 use rtsp_log::Event;
 use rtsp_status::StatusServer;
-use rtsp_threads::{OwnStatus, PoolEnd, Scribe, StopBell, close_book};
+use rtsp_threads::{OwnStatus, OwnUsage, PoolEnd, Scribe, StopBell, close_book};
 use std::alloc::Global;
 use std::fs::File;
 use std::io::{Eprint, Write};
@@ -49,6 +49,14 @@ fn open_scribe<R: Files<File = File>>(
     match operation.journal() {
         Some(files) => Ok(Some(Scribe::open(rt, alloc, files)?)),
         None => Ok(None),
+    }
+}
+
+// What the system says of the process, where figures are shown.
+fn usage_for<R: Files<File = File>>(rt: &R, status: &Option<StatusServer>) -> Option<OwnUsage> {
+    match status {
+        Some(_) => OwnUsage::open(rt).ok(),
+        None => None,
     }
 }
 
@@ -217,6 +225,7 @@ impl Server {
         start.is_short = !(parts.start_readers(rt) && parts.start_scribe(rt, scribe, written));
         let beside = Beside {
             signals: OwnStatus::open(rt).ok(),
+            usage: usage_for(rt, &status),
             status,
             handle: shown,
             last,

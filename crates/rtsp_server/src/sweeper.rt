@@ -28,7 +28,7 @@ fn end_expired<R: Wait + Net + rt::Clock>(
             break;
         };
         shared.end_place(rt, session);
-        shared.log.event(rt, Event::Expired { session });
+        shared.tell_expired(rt, session);
         ended = ended.saturating_add(1);
     }
     ended
@@ -110,6 +110,7 @@ pub(crate) fn run_sweeper<R: Wait + Net + rt::Clock>(
             shared.ends.note();
             shared.counters.expired(ended);
         }
+        shared.tell_untold(rt, &mut handle);
         let has_ended = shared.ends.take();
         if has_ended && let Some(places) = &shared.session_shares {
             give_back_ended(rt, places, &mut handle);

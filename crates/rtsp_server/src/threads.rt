@@ -14,7 +14,7 @@ use rtsp_log::{Event, LogWriter, SleepPause, StderrSink};
 use rtsp_pacing::{PacerParts, PacerPlays, PacerRoom, pace};
 use rtsp_sockets::{Media, Reader};
 use rtsp_status::StatusServer;
-use rtsp_threads::{OwnStatus, PoolEnd, STANDING_LIMIT, StopBell, end_expired, run_pool};
+use rtsp_threads::{OwnStatus, OwnUsage, PoolEnd, STANDING_LIMIT, StopBell, end_expired, run_pool};
 use std::alloc::Global;
 use std::fs::File;
 use std::io::{Eprint, Write};
@@ -80,6 +80,7 @@ impl Drop for Start {
 pub(crate) struct Beside {
     pub(crate) signals: Option<OwnStatus>,
     pub(crate) status: Option<StatusServer>,
+    pub(crate) usage: Option<OwnUsage>,
     pub(crate) handle: BookHandle,
     // The handle of the book that is left at the end.
     pub(crate) last: BookHandle,
@@ -104,12 +105,13 @@ pub(crate) struct OnePacer {
 }
 
 // The body of the thread that shows the figures, where that is wanted. It is lent no more than it needs.
-fn show<R: Wait + rt::Clock>(
+fn show<R: Wait + Net + rt::Clock>(
     rt: &R,
     alloc: Global,
     table: &Table,
     shared: &Shared,
     status: Option<StatusServer>,
+    usage: Option<OwnUsage>,
     handle: BookHandle,
 ) {
     if let Some(mut status) = status {
@@ -118,6 +120,7 @@ fn show<R: Wait + rt::Clock>(
             shared,
             table,
             handle,
+            usage,
             nothing: Vec::new(alloc),
         };
         status.run(rt, &mut figures, &shared.halt);
@@ -158,6 +161,7 @@ impl Parts {
                 bell,
                 decisions: &shared.decisions,
                 counters: &shared.counters,
+                audience: &shared.audience,
                 log: &shared.log,
                 begun: shared.begun,
             };
@@ -172,10 +176,10 @@ impl Parts {
 
     // The body of the thread that looks for signals. Where the system doesn't tell of them, it is said.
     fn watch<R: Wait + rt::Clock>(&self, rt: &R, status: Option<OwnStatus>) {
-        match status {
-            Some(status) => watch_signals(rt, &status, self),
-            None => self.shared.log.event(rt, Event::NoSignals),
+        if status.is_none() {
+            self.shared.log.event(rt, Event::NoSignals);
         }
+        watch_signals(rt, status.as_ref(), self);
     }
 
     // Waits until all lanes have begun. Where some haven't when they should have, these have no thread;
@@ -239,6 +243,7 @@ impl Parts {
     fn finish<R: Wait + Net + rt::Clock>(&self, rt: &R, last: &mut BookHandle) -> Option<Doubt> {
         let mut binder = self.shared.unbinder(rt);
         end_expired(rt, last, &mut binder, u64::MAX);
+        self.shared.tell_stopped(rt);
         self.stop_scribe(rt);
         self.leave_readers(rt);
         self.leave_scribe(rt)
@@ -267,13 +272,14 @@ impl Parts {
             let Beside {
                 signals,
                 status,
+                usage,
                 handle,
                 mut last,
             } = beside;
             let (table, shared) = (&self.table, &*self.shared);
             let watches = scope.spawn(move || self.watch(rt, signals)).is_ok();
             let shows = scope
-                .spawn(move || show(rt, alloc, table, shared, status, handle))
+                .spawn(move || show(rt, alloc, table, shared, status, usage, handle))
                 .is_ok();
             if !(watches && shows) {
                 self.stop_for_want_of_threads(rt);

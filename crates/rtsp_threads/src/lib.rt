@@ -4,7 +4,7 @@
 //! from, `gate` says which are let in, `activity` when one was heard of, and `timed_reader` ends a visit
 //! to it. `pool` runs a thread for each lane, whatever a lane does, and `holdings` is what their book is
 //! opened over. `lane_shares` is what an
-//! address may have of the sessions, `leaving` ends sessions. `relieving` keeps the journal from filling:
+//! address may have of the sessions, `leaving` and `ending` end sessions. `relieving` keeps the journal from filling:
 //! `room_looks` says when a lane looks for room in it, `room_wait` for how long it is waited for.
 //! `scribe` writes the journal to files, and `scribe_bell` wakes it. `signals` and `stop_bell` are how
 //! threads are asked to end.
@@ -14,12 +14,14 @@
 mod acceptor;
 mod activity;
 mod descriptors;
+mod ending;
 mod gate;
 mod holdings;
 mod lane_shares;
 mod leaving;
 mod limits;
 mod pool;
+mod process;
 mod relieving;
 mod room_looks;
 mod room_wait;
@@ -32,6 +34,7 @@ mod timed_reader;
 pub use acceptor::{Accepted, Acceptor};
 pub use activity::Activity;
 pub use descriptors::{connections_for, descriptor_limit};
+pub use ending::end_session;
 pub use gate::Gate;
 pub use holdings::whole_of;
 pub use lane_shares::{LaneShares, end_place, give_back_ended};
@@ -43,6 +46,7 @@ pub use limits::{
     SWEEP_EVERY, SWEEP_SESSIONS, TURN_EVERY, TURN_TIME, VISIT_TIME,
 };
 pub use pool::{Lane, LaneTurn, PoolEnd, run_pool};
+pub use process::{OwnUsage, Usage};
 pub use relieving::{ask_for_room, make_room};
 pub use room_looks::RoomLooks;
 pub use room_wait::RoomWait;
