@@ -3,6 +3,7 @@ use Rattle.std.specs.Prelude.{ℕ, List, codes, Option, Some, None, Ok, Err}
 use Rattle.toml.specs.Data.{Members, get_member}
 use Rattle.rtsp_content.specs.declared.fault.TableFault.TheVariants.{NotToml}
 use Rattle.rtsp_content.specs.declared.keys.Form.TheVariants.{Folder, Address}
+use Rattle.rtsp_content.specs.declared.limits.TheConstants.{MAX_DRAIN, DEFAULT_DRAIN}
 use Rattle.rtsp_content.specs.Fault.{Read}
 use Rattle.rtsp_text.specs.Results.{◌>>=◌}
 use Rattle.rtsp_content.specs.Keys.{table_in, flag_at, number_at_or, optional_text_at}

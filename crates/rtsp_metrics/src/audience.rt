@@ -26,10 +26,15 @@ pub struct Viewing {
     pub since: u64,
 }
 
+/// The first eight digits of a session's id.
+pub fn first_digits(id: u128) -> u32 {
+    (id >> 96) as u32
+}
+
 impl Viewing {
     /// The first eight digits of the id.
     pub fn digits(&self) -> u32 {
-        (self.id >> 96) as u32
+        first_digits(self.id)
     }
 }
 
@@ -115,6 +120,7 @@ impl Rows {
         None
     }
 
+    // Notes whether a session lives. Whether it was missing before, too.
     fn note_living(&mut self, session: u64, lives: bool) -> bool {
         let Some(row) = self.by_number.get_mut(&session) else {
             return false;

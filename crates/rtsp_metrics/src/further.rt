@@ -22,8 +22,6 @@ pub struct ProcessFigures {
 pub struct WritingFigures {
     /// Whether the last turn wrote all that there was, and no write is held up.
     pub is_written: bool,
-    /// How many milliseconds ago all was written.
-    pub behind_ms: u64,
 }
 
 /// A presentation, and what was played of it.
@@ -79,14 +77,6 @@ fn write_writing(out: &mut Vec<u8>, of: &WritingFigures) -> Result<(), AllocErro
         None,
         b"Whether the journal's file takes what there is: 1 or 0.",
         &[Figure::Count(b"", u64::from(of.is_written))],
-    )?;
-    write_family(
-        out,
-        b"rtspd_journal_behind_seconds",
-        b"gauge",
-        Some(b"seconds"),
-        b"How long ago all of the journal was written.",
-        &[Figure::Seconds(b"", of.behind_ms)],
     )
 }
 

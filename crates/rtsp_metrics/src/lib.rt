@@ -25,7 +25,7 @@ mod snapshot;
 mod viewer_text;
 
 pub use answer_counters::AnswerCounters;
-pub use audience::{Audience, Viewer, Viewing};
+pub use audience::{Audience, Viewer, Viewing, first_digits};
 pub use counters::Counters;
 pub use figures::metrics_text;
 pub use film_rows::film_section;

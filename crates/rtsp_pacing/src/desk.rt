@@ -246,9 +246,9 @@ impl<R: Wait + Clock, N: Numbers> PacerDesk<'_, R, N> {
     }
 
     // Tells that a port of a session's player refuses all packets, once for each session.
-    pub(crate) fn tell_refusing(&mut self, session: u64) {
+    pub(crate) fn tell_refusing(&mut self, number: u64, session: SessionName) {
         self.forget_told();
-        if self.refusing.note(session) {
+        if self.refusing.note(number) {
             let event = Event::PortRefuses { session };
             self.parts.log.event(self.rt, event);
         }

@@ -129,7 +129,7 @@ impl PacedPlay {
         let play = PacedPlay {
             asked,
             presentation: place,
-            watched: Watched::by(desk, view),
+            watched: Watched::by(desk, view, place),
             pacer,
             ways: Ways::of(desk.rt, &desk.parts, view),
             stage: Stage::Sending,
@@ -200,7 +200,7 @@ impl PacedPlay {
     ) {
         let is_refused = self.ways.is_any_spared(moment);
         if is_refused && !self.is_refused {
-            desk.tell_refusing(self.session());
+            desk.tell_refusing(self.session(), self.name());
         }
         self.is_refused = is_refused;
     }

@@ -1,8 +1,9 @@
 //! The drain of a server, for an upgrade that cuts nobody off.
 
 use crate::shared::Shared;
+use crate::stopping::StopTimes;
+use rtsp_lock::BookHandle;
 use rtsp_log::Event;
-use rtsp_threads::STOP_LIMIT;
 use std::rt;
 use std::sync::Wait;
 use std::sync::atomic::{AtomicU64, Ordering};
@@ -56,18 +57,28 @@ impl Shared {
         }
     }
 
-    /// Has the lanes end, where the server is drained and no session is known to live, or it was waited
-    /// for them long enough.
-    pub(crate) fn follow_drain<R: Wait + rt::Clock>(&self, rt: &R, now: u64) {
+    // Whether no session lives, and the end of each is told.
+    fn is_empty<R: Wait>(&self, rt: &R, handle: &mut BookHandle) -> bool {
+        handle.tally(rt).sessions == 0 && self.audience.next(rt, 0).is_none()
+    }
+
+    /// Has the lanes end, where the server is drained and no session lives any more, or it was waited for
+    /// them long enough.
+    pub(crate) fn follow_drain<R: Wait + rt::Clock>(
+        &self,
+        rt: &R,
+        handle: &mut BookHandle,
+        now: u64,
+    ) {
         let Some(until) = self.draining.until() else {
             return;
         };
         if self.lanes.stop_by().is_some() {
             return;
         }
-        if until <= now || self.audience.next(rt, 0).is_none() {
+        if until <= now || self.is_empty(rt, handle) {
             self.log.event(rt, Event::Drained);
-            self.begin_stop(rt, now.saturating_add(STOP_LIMIT));
+            self.begin_stop(rt, StopTimes::after_first(now));
         }
     }
 }

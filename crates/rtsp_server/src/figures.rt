@@ -2,9 +2,9 @@
 
 use crate::channels::Channels;
 use crate::further::further;
-use crate::naming::{named, viewing_of};
 use crate::operating::{end_by_operator, sessions_text, standing};
 use crate::service::Service;
+use crate::session_names::{named, viewing_of};
 use crate::shared::Shared;
 use rtsp_content::Table;
 use rtsp_engine::Asker;

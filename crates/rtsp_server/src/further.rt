@@ -34,10 +34,9 @@ fn process(shared: &Shared, usage: Option<&OwnUsage>) -> Option<ProcessFigures> 
 }
 
 fn writing<R: Wait + rt::Clock>(rt: &R, shared: &Shared) -> Option<WritingFigures> {
-    let bell = shared.scribe.as_ref()?;
+    shared.scribe.as_ref()?;
     Some(WritingFigures {
         is_written: is_journal_written(rt, shared),
-        behind_ms: bell.behind_ms(rt).unwrap_or(0),
     })
 }
 

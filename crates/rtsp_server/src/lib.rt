@@ -40,6 +40,7 @@ mod readers;
 mod recorded;
 mod server;
 mod service;
+mod session_names;
 mod shared;
 mod socket_lane;
 mod stopping;

@@ -310,7 +310,8 @@ fn open_pacers<R: Wait>(
 }
 
 // The descriptors that whoever runs the server has besides: for the log, for those who look at the
-// figures and for the account of what the process used, and for a file of the journal, the next one and their folder.
+// figures and for the account of what the process has used, and for a file of the journal, the next one
+// and their folder.
 fn kept_for(operation: &Operation) -> u64 {
     let shown = if operation.status().is_some() {
         PEERS as u64 + 2

@@ -2,14 +2,9 @@
 
 use rtsp_engine::Asker;
 use rtsp_log::SessionName;
-use rtsp_metrics::{Audience, Transport, Viewing};
+use rtsp_metrics::{Audience, Transport, Viewing, first_digits};
 use rtsp_watch::Told;
 use std::sync::Wait;
-
-// The first eight digits of an id.
-fn first_digits(id: u128) -> u32 {
-    (id >> 96) as u32
-}
 
 /// The session that an answer names, or that the request has ended.
 pub(crate) fn named<R: Wait>(rt: &R, audience: &Audience, told: &Told<'_>) -> Option<SessionName> {

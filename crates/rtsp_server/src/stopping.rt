@@ -21,7 +21,7 @@ pub(crate) struct StopTimes {
 
 impl StopTimes {
     /// Those of a stop that is asked for once.
-    fn after_first(now: u64) -> StopTimes {
+    pub(crate) fn after_first(now: u64) -> StopTimes {
         let hang_up = now.saturating_add(STOP_LIMIT);
         StopTimes {
             hang_up,
@@ -62,20 +62,13 @@ fn follow<R: Wait + rt::Clock>(rt: &R, asked: Option<StopAsked>, shared: &Shared
 
 /// Looks from time to time whether the process is asked to end, and then has the lanes hang up:
 /// within `STOP_LIMIT`, or at once where it is asked twice. Where such signals aren't held back the
-/// system ends the process by itself. A drain is followed, too.
-pub(crate) fn watch_signals<R: Wait + rt::Clock>(
-    rt: &R,
-    status: Option<&OwnStatus>,
-    parts: &Parts,
-) {
+/// system ends the process by itself.
+pub(crate) fn watch_signals<R: Wait + rt::Clock>(rt: &R, status: &OwnStatus, parts: &Parts) {
     for _ in rt.forever() {
         if parts.over.wait(rt, Duration::from_millis(SIGNALS_EVERY)) {
             break;
         }
         let now = parts.shared.now(rt);
-        if let Some(status) = status {
-            follow(rt, status.stop_asked(), &parts.shared, now);
-        }
-        parts.shared.follow_drain(rt, now);
+        follow(rt, status.stop_asked(), &parts.shared, now);
     }
 }

@@ -115,7 +115,7 @@ fn show<R: Wait + Net + rt::Clock>(
     handle: BookHandle,
 ) {
     if let Some(mut status) = status {
-        let mut figures = Figures {
+        let figures = Figures {
             rt,
             shared,
             table,
@@ -123,7 +123,7 @@ fn show<R: Wait + Net + rt::Clock>(
             usage,
             nothing: Vec::new(alloc),
         };
-        status.run(rt, &mut figures, &shared.halt);
+        status.run(rt, figures, &shared.halt);
     }
 }
 
@@ -176,10 +176,10 @@ impl Parts {
 
     // The body of the thread that looks for signals. Where the system doesn't tell of them, it is said.
     fn watch<R: Wait + rt::Clock>(&self, rt: &R, status: Option<OwnStatus>) {
-        if status.is_none() {
-            self.shared.log.event(rt, Event::NoSignals);
+        match status {
+            Some(status) => watch_signals(rt, &status, self),
+            None => self.shared.log.event(rt, Event::NoSignals),
         }
-        watch_signals(rt, status.as_ref(), self);
     }
 
     // Waits until all lanes have begun. Where some haven't when they should have, these have no thread;

@@ -3,6 +3,11 @@
 ghost use Rattle.std.specs.Prelude.{◌≡◌, ◌↔◌, ℕ, Bool, List, IsTrue, codes};
 ghost use Rattle.rtsp_status.specs.Asking.{IsLook, Asks};
 
+use rtsp_text::{hex_number, number_of, split_once};
+
+// The most digits of a session's number.
+const DIGITS: usize = 19;
+
 /// Which session is meant: by its number, and by the first eight digits of its id where these are
 /// given, too.
 #[derive(Clone, Copy, PartialEq, Eq)]
@@ -30,9 +35,13 @@ pub(crate) enum Asked {
     Ready,
     Agent,
     Sessions,
+    // The same, which isn't for whoever asks from there.
+    Hidden,
     Drain,
     End(SessionMeant),
-    // It isn't for whoever asks from there.
+    // The end of what is no session.
+    NoSession,
+    // A change, which isn't for whoever asks from there.
     Forbidden,
     Nothing,
     NotAllowed,
@@ -44,40 +53,50 @@ fn is_look(method: &str) -> bool
     method == "GET" || method == "HEAD"
 }
 
-// Which session a path ends, as /sessions/28/end or /sessions/28:1f2e3d4c/end.
-fn session_of(path: &str) -> Option<SessionMeant> {
-    let name = path.strip_prefix("/sessions/")?.strip_suffix("/end")?;
-    let (number, digits) = match name.split_once(':') {
-        Some((number, digits)) if digits.len() == 8 => {
-            (number, Some(u32::from_str_radix(digits, 16).ok()?))
-        }
-        Some(_) => return None,
+// The first eight digits of an id.
+fn first_digits(text: &[u8]) -> Option<u32> {
+    if text.len() != 8 {
+        return None;
+    }
+    u32::try_from(hex_number(text)?).ok()
+}
+
+// The session of a name, as 28 or 28:1f2e3d4c.
+fn session_named(name: &[u8]) -> Option<SessionMeant> {
+    let (number, digits) = match split_once(name, b':') {
+        Some((number, digits)) => (number, Some(first_digits(digits)?)),
         None => (name, None),
     };
     Some(SessionMeant {
-        number: number.parse::<u64>().ok()?,
+        number: number_of(number, DIGITS)?,
         digits,
     })
 }
 
-fn looked_at(path: &str, nearness: Nearness, is_open: bool) -> Asked
-    ensures { (method : List ℕ) → IsLook method → Asks method path.now nearness is_open result }
+// The name of the session that a path ends, as /sessions/28/end.
+fn name_in(path: &str) -> Option<&str> {
+    path.strip_prefix("/sessions/")?.strip_suffix("/end")
+}
+
+fn looked_at(path: &str, nearness: Nearness, is_open: bool, is_plain: bool) -> Asked
+    ensures { (method : List ℕ) → IsLook method → Asks method path.now nearness is_open is_plain result }
 {
     match path {
+        "/metrics" if is_plain => Asked::Plain,
         "/metrics" => Asked::Metrics,
         "/" => Asked::Page,
         "/healthz" => Asked::Health,
         "/ready" => Asked::Ready,
         "/agent" => Asked::Agent,
         "/sessions" if is_open || nearness == Nearness::Loopback => Asked::Sessions,
-        "/sessions" => Asked::Forbidden,
+        "/sessions" => Asked::Hidden,
         _ => Asked::Nothing,
     }
 }
 
 // What changes something is taken from this machine alone.
 fn posted_to(path: &str, nearness: Nearness) -> Asked
-    ensures { (is_open : Bool) → Asks (codes "POST") path.now nearness is_open result }
+    ensures { (is_open is_plain : Bool) → Asks (codes "POST") path.now nearness is_open is_plain result }
 {
     if nearness == Nearness::Elsewhere {
         return Asked::Forbidden;
@@ -85,18 +104,27 @@ fn posted_to(path: &str, nearness: Nearness) -> Asked
     if path == "/drain" {
         return Asked::Drain;
     }
-    match session_of(path) {
-        Some(session) => Asked::End(session),
+    match name_in(path) {
+        Some(name) => match session_named(name.as_bytes()) {
+            Some(session) => Asked::End(session),
+            None => Asked::NoSession,
+        },
         None => Asked::NotAllowed,
     }
 }
 
 /// What a request of this method for this path asks for, which comes from there.
-pub(crate) fn asked_by(method: &str, path: &str, nearness: Nearness, is_open: bool) -> Asked
-    ensures { Asks method.now path.now nearness is_open result }
+pub(crate) fn asked_by(
+    method: &str,
+    path: &str,
+    nearness: Nearness,
+    is_open: bool,
+    is_plain: bool,
+) -> Asked
+    ensures { Asks method.now path.now nearness is_open is_plain result }
 {
     if is_look(method) {
-        return looked_at(path, nearness, is_open);
+        return looked_at(path, nearness, is_open, is_plain);
     }
     match method {
         "POST" => posted_to(path, nearness),

@@ -5,7 +5,7 @@ use crate::halt::Halt;
 use crate::limits::{HEAD, LIFE, PEERS};
 use crate::peer::{Peer, nearness_of};
 use crate::service::StatusService;
-use crate::shown::{Further, Shown};
+use crate::shown::Further;
 use crate::standing::Standing;
 use crate::watch::{EVENTS, Watch};
 use http_server::{Config, Connection};
@@ -190,65 +190,49 @@ impl StatusServer {
         }
     }
 
-    fn visit<S: Source>(&mut self, source: &mut S, shown: &Shown, key: usize) {
+    fn visit<S: Source>(&mut self, service: &mut StatusService<S>, key: usize) {
         let Some(peer) = self.peers.get_mut(key) else {
             return;
         };
-        let mut service = StatusService {
-            alloc: self.alloc,
-            shown,
-            source,
-            nearness: peer.nearness(),
-            is_open: self.is_open,
-        };
-        if peer.visit(&mut service) {
+        service.nearness = peer.nearness();
+        if peer.visit(service) {
             self.end(key);
         }
     }
 
     // Visits those of which the system tells, and lets in those that wait.
-    fn turn<S: Source>(&mut self, source: &mut S, shown: &Shown, now: u64) {
+    fn turn<S: Source>(&mut self, service: &mut StatusService<S>, now: u64) {
         for place in 0..EVENTS {
             let Some(token) = self.watch.token_at(place) else {
                 break;
             };
             if token != LISTENER {
-                self.visit(source, shown, token.0);
+                self.visit(service, token.0);
             }
         }
         self.accept_all(now);
         self.sweep(now);
     }
 
-    // Shows what there is now.
-    fn look<S: Source>(&self, source: &mut S, shown: &mut Shown) {
-        let snapshot = source.snapshot();
-        if let Ok(further) = source.further(self.alloc)
-            && let Ok(fresh) = Shown::of(self.alloc, &snapshot, &further, source.standing())
-        {
-            *shown = fresh;
-        }
-    }
-
     // One wait and what comes of it. The snapshot is taken before any request is answered from it;
     // where there is no memory for its texts, what was shown last is shown again.
-    fn serve_once<S: Source>(&mut self, source: &mut S, shown: &mut Shown, now: u64) {
+    fn serve_once<S: Source>(&mut self, service: &mut StatusService<S>, now: u64) {
         if !self.watch.is_quiet() {
-            self.look(source, shown);
+            service.look();
         }
-        self.turn(source, shown, now);
+        self.turn(service, now);
     }
 
     /// Serves until it is told to end. Each turn shows what `source` has then.
-    pub fn run<R: Wait + Clock, S: Source>(&mut self, rt: &R, source: &mut S, halt: &Halt) {
-        let mut shown = Shown::nothing(self.alloc);
+    pub fn run<R: Wait + Clock, S: Source>(&mut self, rt: &R, source: S, halt: &Halt) {
+        let mut service = StatusService::new(self.alloc, source, self.is_open);
         for _ in rt.forever() {
             self.watch.wait(Duration::from_millis(LOOK));
             if halt.is_halted() {
                 break;
             }
             let now = self.now(rt);
-            self.serve_once(source, &mut shown, now);
+            self.serve_once(&mut service, now);
         }
     }
 }

@@ -1,9 +1,9 @@
 //! What is answered.
 
-ghost use Rattle.std.specs.Prelude.{◌≡◌, [], OnOk, OnErr};
+ghost use Rattle.std.specs.Prelude.{◌≡◌, [], IsTrue, OnOk, OnErr, codes};
 ghost use Rattle.http.specs.Request.{head_of};
-ghost use Rattle.http_uri.specs.Uri.{uri_path};
-ghost use Rattle.rtsp_status.specs.Asking.{Answers, Fills, IsCode, IsBody};
+ghost use Rattle.http_header.specs.HeaderMap.{ContainsKey};
+ghost use Rattle.rtsp_status.specs.Asking.{IsLook, Changes, Answers, Fills};
 
 use crate::asked::{Asked, Nearness, asked_by};
 use crate::server::Source;
@@ -16,11 +16,11 @@ use std::alloc::{AllocError, Global};
 
 /// Answers requests by what is shown, and has the source do what is asked of it.
 #[derive(Drop)]
-pub struct StatusService<'a, S> {
+pub struct StatusService<S> {
     pub alloc: Global,
-    pub shown: &'a Shown,
-    pub source: &'a mut S,
-    /// From where the requests come.
+    pub shown: Shown,
+    pub source: S,
+    /// From where the request comes that is answered next.
     pub nearness: Nearness,
     /// Whether players' addresses are shown to all.
     pub is_open: bool,
@@ -49,7 +49,10 @@ fn prefers_plain(accepted: &str) -> bool {
     has_plain
 }
 
-fn wants_plain(request: &Request<Bytes>) -> bool {
+// Whether the older format is asked for, which is for those who say what they accept.
+fn wants_plain(request: &Request<Bytes>) -> bool
+    ensures { IsTrue result → ContainsKey (head_of request.now).headers (codes "accept") }
+{
     match request.headers().get("accept") {
         Some(value) => match value.to_str() {
             Ok(accepted) => prefers_plain(accepted),
@@ -140,11 +143,11 @@ fn fill(response: &mut Response, asked: Asked, shown: &Shown) -> Result<(), Allo
         Asked::Agent => write_text(response, HeaderValue::from_static(PLAIN), &shown.agent),
         Asked::Sessions => describe(response, HeaderValue::from_static(JSON)),
         Asked::Drain | Asked::End(_) => Ok(()),
-        Asked::Forbidden => {
+        Asked::Hidden | Asked::Forbidden => {
             response.status = StatusCode::FORBIDDEN;
             Ok(())
         }
-        Asked::Nothing => {
+        Asked::NoSession | Asked::Nothing => {
             response.status = StatusCode::NOT_FOUND;
             Ok(())
         }
@@ -152,13 +155,35 @@ fn fill(response: &mut Response, asked: Asked, shown: &Shown) -> Result<(), Allo
     }
 }
 
-impl<S: Source> StatusService<'_, S> {
+impl<S: Source> StatusService<S> {
+    /// Shows nothing yet.
+    pub fn new(alloc: Global, source: S, is_open: bool) -> StatusService<S> {
+        StatusService {
+            alloc,
+            shown: Shown::nothing(alloc),
+            source,
+            nearness: Nearness::Elsewhere,
+            is_open,
+        }
+    }
+
+    /// Shows what there is now, where there is memory for it.
+    pub fn look(&mut self) {
+        let snapshot = self.source.snapshot();
+        let standing = self.source.standing();
+        if let Ok(further) = self.source.further(self.alloc)
+            && let Ok(fresh) = Shown::of(self.alloc, &snapshot, &further, standing)
+        {
+            self.shown = fresh;
+        }
+    }
+
     // Has the source do what is asked of it, once the response is filled. A refusal does nothing.
     fn act(&mut self, asked: Asked, response: &mut Response) -> Result<(), AllocError>
-        requires { Fills self.old.shown.now asked response.old }
+        requires { Fills self.old.shown asked response.old }
         ensures shown { self.new.shown ≡ self.old.shown }
-        ensures filled { OnOk result (IsCode self.old.shown.now asked response.new.status
-            × IsBody self.old.shown.now asked response.new.body.items) }
+        ensures same { ¬ Changes asked → self.new ≡ self.old }
+        ensures filled { OnOk result (Fills self.old.shown asked response.new) }
         ensures err { OnErr result (self.new ≡ self.old) }
     {
         match asked {
@@ -178,10 +203,10 @@ impl<S: Source> StatusService<'_, S> {
     }
 }
 
-impl<S: Source> Service for StatusService<'_, S> {
+impl<S: Source> Service for StatusService<S> {
     ghost answers = { λ old request response new.
-        Answers old.shown.now old.nearness old.is_open (head_of request).method (uri_path (head_of request).uri) response
-        × (new.shown ≡ old.shown) };
+        Answers old.shown old.nearness old.is_open (head_of request) response
+        × (new.shown ≡ old.shown) × (IsLook (head_of request).method → new ≡ old) };
 
     fn call(
         &mut self,
@@ -189,11 +214,9 @@ impl<S: Source> Service for StatusService<'_, S> {
         response: &mut Response,
     ) -> Result<(), AllocError> {
         let (method, path) = (request.method().as_str(), request.uri().path());
-        let asked = match asked_by(method, path, self.nearness, self.is_open) {
-            Asked::Metrics if wants_plain(request) => Asked::Plain,
-            asked => asked,
-        };
-        fill(response, asked, self.shown)?;
+        let is_plain = wants_plain(request);
+        let asked = asked_by(method, path, self.nearness, self.is_open, is_plain);
+        fill(response, asked, &self.shown)?;
         self.act(asked, response)
     }
 }

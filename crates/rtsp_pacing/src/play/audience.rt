@@ -1,8 +1,10 @@
 //! What is counted of a play for its session and for its presentation.
 
-use super::{PacedPlay, presentation_of};
+use super::PacedPlay;
 use crate::desk::PacerDesk;
+use crate::packet_count::PacketCount;
 use rtsp_book::SessionView;
+use rtsp_lock::Numbers;
 use rtsp_log::SessionName;
 use rtsp_metrics::{SessionCounts, Transport};
 use std::sync::{Arc, Wait};
@@ -16,7 +18,7 @@ pub(super) struct Watched {
     counts: Option<Arc<SessionCounts>>,
 }
 
-// What the packets of a session's streams go over. All of them go over the same.
+// What a session's packets go over: the connection where one of its streams does.
 fn transport_of(view: &SessionView) -> Transport {
     let admissions = view.admissions();
     for place in 0..admissions.len() {
@@ -30,28 +32,30 @@ fn transport_of(view: &SessionView) -> Transport {
 }
 
 impl Watched {
-    // A play of this session begins.
-    pub(super) fn by<R: Wait>(desk: &PacerDesk<'_, R>, view: &SessionView) -> Watched {
+    // A play of this presentation begins, by this session.
+    pub(super) fn by<R: Wait, N: Numbers>(
+        desk: &PacerDesk<'_, R, N>,
+        view: &SessionView,
+        presentation: u16,
+    ) -> Watched {
         Watched {
-            presentation: presentation_of(view).unwrap_or(0),
+            presentation,
             transport: transport_of(view),
             counts: desk.parts.audience.play(desk.rt, view.session()),
         }
     }
 
-    // Counts the packets of a turn, of which the first was so many milliseconds late.
-    pub(super) fn count<R>(
+    // Counts what came of the packets of a turn, of which the first was so many milliseconds late.
+    pub(super) fn count<R, N: Numbers>(
         &self,
-        desk: &PacerDesk<'_, R>,
-        packets: u64,
-        bytes: u64,
-        lost: u64,
+        desk: &PacerDesk<'_, R, N>,
+        count: &PacketCount,
         late: u64,
     ) {
         let audience = desk.parts.audience;
-        audience.sent(self.presentation, self.transport, bytes);
+        audience.sent(self.presentation, self.transport, count.bytes);
         if let Some(counts) = &self.counts {
-            counts.add(packets, lost, late);
+            counts.add(count.sent, count.lost, late);
         }
     }
 }
