@@ -83,7 +83,11 @@ const ASKED: &str = "\
     POST /sessions/28:0a1b2c3d/end HTTP/1.1 -> HTTP/1.1 200 OK\r\n..\r\n\r\n|\
     POST /sessions/28:0a1b2c3e/end HTTP/1.1 -> HTTP/1.1 404 ..\r\n\r\n|\
     POST /sessions/29/end HTTP/1.1 -> HTTP/1.1 404 ..\r\n\r\n|\
-    POST /sessions/28:0a1b/end HTTP/1.1 -> HTTP/1.1 405 ..\r\n\r\n|\
+    POST /sessions/28:0a1b/end HTTP/1.1 -> HTTP/1.1 404 ..\r\n\r\n|\
+    POST /sessions/28:+a1b2c3d/end HTTP/1.1 -> HTTP/1.1 404 ..\r\n\r\n|\
+    POST /sessions/+28/end HTTP/1.1 -> HTTP/1.1 404 ..\r\n\r\n|\
+    POST /sessions//end HTTP/1.1 -> HTTP/1.1 404 ..\r\n\r\n|\
+    POST /sessions/28 HTTP/1.1 -> HTTP/1.1 405 ..\r\n\r\n|\
     POST / HTTP/1.1 -> HTTP/1.1 405 ..allow: GET, HEAD\r\n|\
     POST / HTTP/1.1\r\nContent-Length: 9 -> HTTP/1.1 413 ..\r\n|\
     no request -> HTTP/1.1 400 ..\r\n";
@@ -120,7 +124,7 @@ fn each_request_has_its_answer(rt: HostRuntime) -> Result<(), Fail> {
     let halt = Halt::new();
     let (_, wrong) = thread::join(
         &rt,
-        || server.run(&rt, &mut SomeFigures, &halt),
+        || server.run(&rt, SomeFigures, &halt),
         || {
             let wrong = first_wrong(&rt, address);
             halt.halt();

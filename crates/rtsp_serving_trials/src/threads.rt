@@ -227,9 +227,9 @@ fn is_stopped<R: Wait + Clock>(rt: &R, bell: &ScribeBell) -> bool {
 fn a_scribe_is_asked_and_stopped(rt: HostRuntime) {
     let bell = ScribeBell::new(true);
     assert!(rt; is_asked(&rt, &bell));
-    bell.note(&rt, false);
+    bell.note(false);
     let was_stuck = bell.is_stuck();
-    bell.note(&rt, true);
+    bell.note(true);
     assert!(rt; was_stuck && !bell.is_stuck() && is_stopped(&rt, &bell));
 }
 

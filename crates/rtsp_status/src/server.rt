@@ -29,7 +29,7 @@ const LISTENER: Token = Token(usize::MAX);
 const LOOK: u64 = 250;
 
 /// Whoever tells what there is to show, and does what is asked for.
-pub trait Source {
+pub trait Source: Drop {
     fn snapshot(&mut self) -> Snapshot;
 
     /// What is shown beside it.
