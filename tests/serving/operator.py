@@ -146,6 +146,13 @@ def shown_by(figures: Dict[str, float]) -> Dict[str, status_page.Rows]:
     def total(family: str) -> Tuple[int]:
         return (of[f"{family}_total"],)
 
+    def film(name: str) -> Tuple[int, int, int, int]:
+        over = [f"presentation={name},transport={it}" for it in ("UDP", "TCP")]
+        watched, plays = (sum(of[f"rtspd_presentation_{it},{way}"] for way in over) for it in ("sessions", "plays_total"))
+        udp, tcp = (of[f"rtspd_presentation_sent_bytes_total,{it}"] // 1_000_000 for it in over)
+        return watched, plays, udp, tcp
+
+    films = {it.split(",")[1].partition("=")[2] for it in of if it.startswith("rtspd_presentation_")}
     classes = "2xx", "3xx", "4xx", "5xx"
     methods = {it[len("rtspd_requests_total,method=") : it.rindex(",")] for it in of if it.startswith("rtspd_requests")}
     return {
@@ -159,6 +166,7 @@ def shown_by(figures: Dict[str, float]) -> Dict[str, status_page.Rows]:
             "Journal, kept for ends": journal("owed"),
             "Connections": held("rtspd_connections"),
         },
+        "Films": {it: film(it) for it in films},
         "Answers": {
             it: tuple(of[f"rtspd_requests_total,method={it},class={number}"] for number in classes) for it in methods
         },
@@ -179,7 +187,6 @@ def figures_at_rest(port: int) -> Tuple[Dict[str, float], Dict[str, status_page.
         before = at_rest(figures(port))
         page = status_page.read(ask(port, path="/")[1])
         if before == at_rest(figures(port)):
-            del page["Films"]
             return before, page
 
 
@@ -225,7 +232,7 @@ def the_page_shows_the_figures(checks: Checks) -> None:
         }
         checks.same("what was to be counted, and wasn't", set(), wanted - is_moved)
         shown = {name for rows in page.values() for name in rows}
-        checks.same("rows", 8 + 9 + len(REFUSALS) + len(LATE) + len(COUNTS), len(shown))
+        checks.same("rows", 8 + 1 + 9 + len(REFUSALS) + len(LATE) + len(COUNTS), len(shown))
         player.close()
         talk.close()
 
