@@ -40,6 +40,10 @@ Asks method path near is_open plain asks.Forbidden = (method ≡ codes "POST") �
 Asks method path near is_open plain asks.Nothing = IsLook method × IsNothing path
 Asks method path near is_open plain asks.NotAllowed = ¬ IsLook method
 
+-- a request of this method, from there, may change something
+abbrev pub MayChange : List ℕ → Nearness → Type 0
+MayChange method near = (method ≡ codes "POST") × (near ≡ Loopback)
+
 -- what changes something
 abbrev pub Changes : Asked → Type 0
 Changes asks.Drain = ⊤

@@ -3,7 +3,7 @@
 ghost use Rattle.std.specs.Prelude.{◌≡◌, [], IsTrue, OnOk, OnErr, codes};
 ghost use Rattle.http.specs.Request.{head_of};
 ghost use Rattle.http_header.specs.HeaderMap.{ContainsKey};
-ghost use Rattle.rtsp_status.specs.Asking.{IsLook, Changes, Answers, Fills};
+ghost use Rattle.rtsp_status.specs.Asking.{MayChange, Changes, Answers, Fills};
 
 use crate::asked::{Asked, Nearness, asked_by};
 use crate::server::Source;
@@ -206,7 +206,7 @@ impl<S: Source> StatusService<S> {
 impl<S: Source> Service for StatusService<S> {
     ghost answers = { λ old request response new.
         Answers old.shown old.nearness old.is_open (head_of request) response
-        × (new.shown ≡ old.shown) × (IsLook (head_of request).method → new ≡ old) };
+        × (new.shown ≡ old.shown) × (¬ MayChange (head_of request).method old.nearness → new ≡ old) };
 
     fn call(
         &mut self,
