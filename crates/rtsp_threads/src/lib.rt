@@ -3,11 +3,11 @@
 //! `limits` has the numbers, `descriptors` what the system allows. `acceptor` is where connections come
 //! from, `gate` says which are let in, `activity` when one was heard of, and `timed_reader` ends a visit
 //! to it. `pool` runs a thread for each lane, whatever a lane does, and `holdings` is what their book is
-//! opened over. `lane_shares` is what an
-//! address may have of the sessions, `leaving` and `ending` end sessions. `relieving` keeps the journal from filling:
-//! `room_looks` says when a lane looks for room in it, `room_wait` for how long it is waited for.
-//! `scribe` writes the journal to files, and `scribe_bell` wakes it. `signals` and `stop_bell` are how
-//! threads are asked to end.
+//! opened over. `lane_shares` is what an address may have of the sessions, `leaving` and `ending` end
+//! sessions. `relieving` keeps the journal from filling: `room_looks` says when a lane looks for room in
+//! it, `room_wait` for how long it is waited for.
+//! `scribe` writes the journal to files, `scribe_bell` wakes it, and `file_requests` are new files for it.
+//! `signals` and `stop_bell` are how threads are asked to end, `process` what the system says of them.
 
 #![tactic(auto)]
 
@@ -15,6 +15,7 @@ mod acceptor;
 mod activity;
 mod descriptors;
 mod ending;
+mod file_requests;
 mod gate;
 mod holdings;
 mod lane_shares;
@@ -35,6 +36,7 @@ pub use acceptor::{Accepted, Acceptor};
 pub use activity::Activity;
 pub use descriptors::{connections_for, descriptor_limit};
 pub use ending::end_session;
+pub use file_requests::FileRequests;
 pub use gate::Gate;
 pub use holdings::whole_of;
 pub use lane_shares::{LaneShares, end_place, give_back_ended};
