@@ -138,6 +138,7 @@ def requests_of_the_status_listener(checks: Checks) -> None:
         name = sessions(port)[0]["session"].encode()
         for what, request, status in (
             ("a body", b"POST /drain" + head + b"Content-Length: 1\r\n\r\n", b"413"),
+            ("a page of a browser", b"POST /drain" + head + b"Origin: http://h\r\n\r\n", b"403"),
             ("a body of an end", b"POST /sessions/" + name + b"/end" + head + b"Content-Length: 1\r\n\r\n", b"413"),
             ("a session without a name", b"POST /sessions//end" + head + b"\r\n", b"404"),
             ("a name that is none", b"POST /sessions/+1/end" + head + b"\r\n", b"404"),

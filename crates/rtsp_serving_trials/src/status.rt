@@ -78,6 +78,8 @@ const ASKED: &str = "\
     GET /agent -> ready 85%\n..ready 85%\n|\
     GET /sessions HTTP/1.1 -> HTTP/1.1 200 OK\r\n..\r\n\r\n[]\n|\
     POST /drain HTTP/1.1 -> HTTP/1.1 200 OK\r\n..\r\n\r\n|\
+    POST /drain HTTP/1.1\r\nOrigin: http://h -> HTTP/1.1 403 ..\r\n\r\n|\
+    GET /sessions HTTP/1.1\r\nOrigin: http://h -> HTTP/1.1 403 ..\r\n\r\n|\
     GET /drain HTTP/1.1 -> HTTP/1.1 404 ..\r\n\r\n|\
     POST /sessions/28/end HTTP/1.1 -> HTTP/1.1 200 OK\r\n..\r\n\r\n|\
     POST /sessions/28:0a1b2c3d/end HTTP/1.1 -> HTTP/1.1 200 OK\r\n..\r\n\r\n|\

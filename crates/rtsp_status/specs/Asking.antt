@@ -77,8 +77,11 @@ abbrev pub Fills : Shown → Asked → Response → Type 0
 Fills shown asked r = IsCode shown asked r.status × IsBody shown asked r.body.items
 
 -- The answer to a request of this head, from there, where this is shown. The older text is for those who say what they
--- accept.
-pub record Answers (shown : Shown) (near : Nearness) (is_open : Bool) (head : Parts) (r : Response) : Type 0 where
+-- accept, and what a page of a browser asks for counts as from elsewhere.
+pub record Answers (shown : Shown) (from : Nearness) (is_open : Bool) (head : Parts) (r : Response) : Type 0 where
+  pub near : Nearness
+  pub nearer : near ≡ Loopback → from ≡ Loopback
+  pub page : (near ≡ from) ⊎ ContainsKey head.headers (codes "origin")
   pub plain : Bool
   pub accepts : plain ≡ true → ContainsKey head.headers (codes "accept")
   pub asked : Asked

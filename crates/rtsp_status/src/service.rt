@@ -1,6 +1,6 @@
 //! What is answered.
 
-ghost use Rattle.std.specs.Prelude.{◌≡◌, [], IsTrue, OnOk, OnErr, codes};
+ghost use Rattle.std.specs.Prelude.{◌≡◌, ◌⊎◌, [], IsTrue, OnOk, OnErr, codes};
 ghost use Rattle.http.specs.Request.{head_of};
 ghost use Rattle.http_header.specs.HeaderMap.{ContainsKey};
 ghost use Rattle.rtsp_status.specs.Asking.{MayChange, Changes, Answers, Fills};
@@ -59,6 +59,19 @@ fn wants_plain(request: &Request<Bytes>) -> bool
             Err(_) => false,
         },
         None => false,
+    }
+}
+
+// From where a request counts as coming. One that names an origin is a page's, which a browser shows that
+// is near: whose page it is isn't known.
+fn nearness_of(request: &Request<Bytes>, from: Nearness) -> Nearness
+    ensures nearer { result ≡ Nearness.Loopback → from ≡ Nearness.Loopback }
+    ensures page { (result ≡ from) ⊎ ContainsKey (head_of request.now).headers (codes "origin") }
+{
+    if request.headers().contains_key("origin") {
+        Nearness::Elsewhere
+    } else {
+        from
     }
 }
 
@@ -214,8 +227,9 @@ impl<S: Source> Service for StatusService<S> {
         response: &mut Response,
     ) -> Result<(), AllocError> {
         let (method, path) = (request.method().as_str(), request.uri().path());
+        let nearness = nearness_of(request, self.nearness);
         let is_plain = wants_plain(request);
-        let asked = asked_by(method, path, self.nearness, self.is_open, is_plain);
+        let asked = asked_by(method, path, nearness, self.is_open, is_plain);
         fill(response, asked, &self.shown)?;
         self.act(asked, response)
     }
