@@ -131,6 +131,9 @@ def a_server_whose_journal_waits_is_not_ready(checks: Checks) -> None:
         checks.same("ready", (503, "not ready\n"), asked(port, "GET", "/ready"))
         checks.same("to HAProxy's agent-check", b"drain\n", agent_says(port))
         checks.same("the figure", 0, figures(port)["rtspd_journal_is_written"])
+        time.sleep(2.0)
+        behind = figures(port)["rtspd_journal_behind_seconds"]
+        checks.that("how far behind", 2.0 <= behind < 9.0, behind)
         disk.mend()
         time.sleep(LATE)
         checks.same("ready again", (200, "ready\n"), asked(port, "GET", "/ready"))

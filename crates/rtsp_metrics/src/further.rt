@@ -22,6 +22,8 @@ pub struct ProcessFigures {
 pub struct WritingFigures {
     /// Whether the last turn wrote all that there was, and no write is held up.
     pub is_written: bool,
+    /// How many milliseconds ago that was seen to be so.
+    pub behind_ms: u64,
 }
 
 /// A presentation, and what was played of it.
@@ -77,6 +79,14 @@ fn write_writing(out: &mut Vec<u8>, of: &WritingFigures) -> Result<(), AllocErro
         None,
         b"Whether the journal's file takes what there is: 1 or 0.",
         &[Figure::Count(b"", u64::from(of.is_written))],
+    )?;
+    write_family(
+        out,
+        b"rtspd_journal_behind_seconds",
+        b"gauge",
+        Some(b"seconds"),
+        b"How long ago it was seen to.",
+        &[Figure::Seconds(b"", of.behind_ms)],
     )
 }
 

@@ -11,6 +11,7 @@ use rtsp_threads::OwnUsage;
 use std::alloc::{AllocError, Global};
 use std::rt;
 use std::sync::Wait;
+use std::sync::atomic::Ordering;
 
 // What was played of a presentation over a transport.
 fn played(shared: &Shared, film: u16, over: Transport) -> FilmFigures {
@@ -35,8 +36,10 @@ fn process(shared: &Shared, usage: Option<&OwnUsage>) -> Option<ProcessFigures> 
 
 fn writing<R: Wait + rt::Clock>(rt: &R, shared: &Shared) -> Option<WritingFigures> {
     shared.scribe.as_ref()?;
+    let written_at = shared.written_at.load(Ordering::Relaxed);
     Some(WritingFigures {
         is_written: is_journal_written(rt, shared),
+        behind_ms: shared.now(rt).saturating_sub(written_at),
     })
 }
 

@@ -11,12 +11,20 @@ use std::alloc::{AllocError, Global};
 use std::net::Net;
 use std::rt;
 use std::sync::Wait;
+use std::sync::atomic::Ordering;
 
 /// Whether the journal is written, where it is to be.
 pub(crate) fn is_journal_written<R: Wait + rt::Clock>(rt: &R, shared: &Shared) -> bool {
     match &shared.scribe {
         Some(bell) => !bell.is_stuck() && !bell.is_held_for(rt, HELD_TOLD_AFTER),
         None => true,
+    }
+}
+
+/// A sweep looks whether the journal is written, at this moment.
+pub(crate) fn note_writing<R: Wait + rt::Clock>(rt: &R, shared: &Shared, now: u64) {
+    if is_journal_written(rt, shared) {
+        shared.written_at.store(now, Ordering::Relaxed);
     }
 }
 

@@ -23,6 +23,7 @@ use rtsp_threads::{
 };
 use std::alloc::{AllocError, Global};
 use std::net::Ipv4Addr;
+use std::sync::atomic::AtomicU64;
 use std::sync::{Arc, Mutex, Wait};
 use std::time::Instant;
 use std::{io, rt};
@@ -78,6 +79,8 @@ pub(crate) struct Shared {
     pub(crate) watermark: Mutex<Watermark>,
     pub(crate) ends: EndNote,
     pub(crate) draining: Draining,
+    /// When a sweep saw last that the journal is written, where it is to be.
+    pub(crate) written_at: AtomicU64,
     pub(crate) lanes: AllLanes,
     pub(crate) decisions: Decisions,
 }
@@ -106,6 +109,7 @@ impl Drop for Shared {
             watermark: _watermark,
             ends: _ends,
             draining: _draining,
+            written_at: _written_at,
             lanes: _lanes,
             decisions: _decisions,
         } = self;
@@ -182,6 +186,7 @@ impl Shared {
             watermark: Mutex::new(watermark),
             ends: EndNote::new(),
             draining: Draining::new(of.operation.drain()),
+            written_at: AtomicU64::new(0),
             lanes: AllLanes::new(alloc),
             decisions: Decisions::open(alloc, usize::from(numbers.workers))?,
         })

@@ -1,6 +1,7 @@
 //! The thread that ends sessions whose time is over, and keeps the journal from growing beyond what
 //! lives.
 
+use crate::operating::note_writing;
 use crate::shared::Shared;
 use rtsp_lock::BookHandle;
 use rtsp_log::{Event, Log};
@@ -106,6 +107,7 @@ pub(crate) fn run_sweeper<R: Wait + Net + rt::Clock>(
         let moment = begin_sweep(rt, &shared.watermark, now);
         tell_media_failure(rt, &shared.counters, &shared.log);
         held.tell(rt, shared);
+        note_writing(rt, shared, now);
         shared.ports.forget_taken(rt);
         let ended = end_expired(rt, &mut handle, &mut binder, shared, moment);
         if ended > 0 {
