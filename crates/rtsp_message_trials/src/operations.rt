@@ -18,13 +18,7 @@ type Status = (Option<&'static str>, bool, u64);
 
 // A configuration, what it says of the journal's files, whether there is a log, what it says of the
 // status listener, and which connections begin with a header.
-type Said = (
-    &'static str,
-    Option<Files>,
-    bool,
-    Status,
-    &'static [u32],
-);
+type Said = (&'static str, Option<Files>, bool, Status, &'static [u32]);
 
 // What isn't said.
 const NO_STATUS: Status = (None, false, 300);
