@@ -35,14 +35,6 @@ pub struct FilmLine<'a> {
     pub tcp: FilmFigures,
 }
 
-/// What further lines tell.
-#[derive(Clone, Copy)]
-pub struct Further<'a> {
-    pub process: Option<ProcessFigures>,
-    pub writing: Option<WritingFigures>,
-    pub films: &'a [FilmLine<'a>],
-}
-
 fn write_process(out: &mut Vec<u8>, of: &ProcessFigures) -> Result<(), AllocError> {
     let seconds = Some(&b"seconds"[..]);
     write_family(
@@ -91,10 +83,10 @@ fn write_writing(out: &mut Vec<u8>, of: &WritingFigures) -> Result<(), AllocErro
 }
 
 // A count of a presentation over a transport.
-fn write_film<'a>(
+fn write_film(
     out: &mut Vec<u8>,
-    figure: &'a [u8],
-    film: &'a [u8],
+    figure: &[u8],
+    film: &[u8],
     over: Transport,
     count: u64,
 ) -> Result<(), AllocError> {
@@ -147,16 +139,21 @@ fn write_bytes(out: &mut Vec<u8>, films: &[FilmLine<'_>]) -> Result<(), AllocErr
 }
 
 /// The lines of these figures, as OpenMetrics 1.0 has them.
-pub fn further_text(alloc: Global, of: &Further<'_>) -> Result<Vec<u8>, AllocError> {
+pub fn further_text(
+    alloc: Global,
+    process: Option<ProcessFigures>,
+    writing: Option<WritingFigures>,
+    films: &[FilmLine<'_>],
+) -> Result<Vec<u8>, AllocError> {
     let mut text = Vec::new(alloc);
-    if let Some(process) = &of.process {
+    if let Some(process) = &process {
         write_process(&mut text, process)?;
     }
-    if let Some(writing) = &of.writing {
+    if let Some(writing) = &writing {
         write_writing(&mut text, writing)?;
     }
-    write_sessions(&mut text, of.films)?;
-    write_plays(&mut text, of.films)?;
-    write_bytes(&mut text, of.films)?;
+    write_sessions(&mut text, films)?;
+    write_plays(&mut text, films)?;
+    write_bytes(&mut text, films)?;
     Ok(text)
 }

@@ -3,8 +3,7 @@
 use crate::operating::is_journal_written;
 use crate::shared::Shared;
 use rtsp_metrics::{
-    FilmFigures, FilmLine, Further as Figures, ProcessFigures, Transport, WritingFigures,
-    film_section, further_text,
+    FilmFigures, FilmLine, ProcessFigures, Transport, WritingFigures, film_section, further_text,
 };
 use rtsp_status::Further;
 use rtsp_threads::OwnUsage;
@@ -58,13 +57,10 @@ pub(crate) fn further<R: Wait + rt::Clock>(
             tcp: played(shared, film, Transport::Tcp),
         })?;
     }
-    let figures = Figures {
-        process: process(shared, usage),
-        writing: writing(rt, shared),
-        films: &films,
-    };
+    let process = process(shared, usage);
+    let writing = writing(rt, shared);
     Ok(Further {
-        lines: further_text(alloc, &figures)?,
+        lines: further_text(alloc, process, writing, &films)?,
         section: film_section(alloc, &films)?,
     })
 }
