@@ -83,10 +83,10 @@ fn write_writing(out: &mut Vec<u8>, of: &WritingFigures) -> Result<(), AllocErro
 }
 
 // A count of a presentation over a transport.
-fn write_film(
+fn write_film<'a>(
     out: &mut Vec<u8>,
-    figure: &[u8],
-    film: &[u8],
+    figure: &'a [u8],
+    film: &'a [u8],
     over: Transport,
     count: u64,
 ) -> Result<(), AllocError> {
