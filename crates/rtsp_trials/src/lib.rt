@@ -10,6 +10,8 @@ mod conversations;
 #[cfg(test)]
 mod devices;
 #[cfg(test)]
+mod explanations;
+#[cfg(test)]
 mod failures;
 #[cfg(test)]
 mod pools;
