@@ -2,7 +2,8 @@
 //! that a program ends with.
 //!
 //! The definitions of `specs/` read in this order: CommandLine (the words, as a command of `clap`,
-//! and what they ask for), Help (the words that ask about the program itself), Exits (the status of each end).
+//! and what they ask for), Help (the words that ask about the program itself), Exits (the status of each
+//! end).
 
 #![tactic(auto)]
 

@@ -34,7 +34,8 @@ impl<'a> Explainer<'a> {
         }
     }
 
-    // Where a key stands, or the head of its table where it isn't there: the path, the line if it is known, the key.
+    // Where a key stands, or the head of its table where it isn't there: the path, the line if it is
+    // known, the key.
     fn at(&self, place: Place, key: &str, is_there: bool) -> Result<String, AllocError> {
         let line = line_of(self.text, place, if is_there { key } else { "" });
         let mut at = String::from_str(self.alloc, self.path)?;

@@ -7,6 +7,8 @@ use crate::rules::{Class, Rule};
 pub(crate) enum Presence {
     Required,
     Optional,
+    /// It is this number then.
+    Default(i64),
 }
 
 /// A key of a table.
@@ -20,7 +22,7 @@ pub(crate) struct Key {
 }
 
 /// `[server]`.
-pub(crate) const SERVER: [Key; 18] = [
+pub(crate) const SERVER: [Key; 19] = [
     Key {
         name: "first_port",
         rule: Rule::Even(1_024, 65_535),
@@ -48,25 +50,25 @@ pub(crate) const SERVER: [Key; 18] = [
     Key {
         name: "timeout",
         rule: Rule::Number(1, 86_400),
-        presence: Presence::Optional,
+        presence: Presence::Default(60),
         what: "seconds that a session lives without a request",
     },
     Key {
         name: "renewal_step",
         rule: Rule::Number(1, 86_399_999),
-        presence: Presence::Optional,
+        presence: Presence::Default(1),
         what: "milliseconds by which a renewal moves the end of a session at least",
     },
     Key {
         name: "journal",
         rule: Rule::Number(1, 1_000_000),
-        presence: Presence::Optional,
+        presence: Presence::Default(1_000_000),
         what: "entries of the journal with those owed",
     },
     Key {
         name: "workers",
         rule: Rule::Number(1, 64),
-        presence: Presence::Optional,
+        presence: Presence::Default(4),
         what: "threads that serve connections",
     },
     Key {
@@ -129,10 +131,16 @@ pub(crate) const SERVER: [Key; 18] = [
         presence: Presence::Optional,
         what: "an IPv4 address and a port, as 127.0.0.1:9554",
     },
+    Key {
+        name: "proxy",
+        rule: Rule::Addresses(16),
+        presence: Presence::Optional,
+        what: "of balancers, whose connections begin with a header",
+    },
 ];
 
 /// `[[presentation]]`.
-pub(crate) const PRESENTATION: [Key; 3] = [
+pub(crate) const PRESENTATION: [Key; 4] = [
     Key {
         name: "name",
         rule: Rule::Text(Class::Name, 64),
@@ -151,10 +159,16 @@ pub(crate) const PRESENTATION: [Key; 3] = [
         presence: Presence::Required,
         what: "milliseconds that a unit lasts",
     },
+    Key {
+        name: "starts",
+        rule: Rule::Starts(20_000),
+        presence: Presence::Optional,
+        what: "units at which a play may begin",
+    },
 ];
 
 /// `[[presentation.track]]`.
-pub(crate) const TRACK: [Key; 10] = [
+pub(crate) const TRACK: [Key; 12] = [
     Key {
         name: "name",
         rule: Rule::Text(Class::Name, 64),
@@ -186,8 +200,20 @@ pub(crate) const TRACK: [Key; 10] = [
         what: "clock ticks per second",
     },
     Key {
+        name: "packets",
+        rule: Rule::Number(1, 256),
+        presence: Presence::Optional,
+        what: "packets in a unit at most",
+    },
+    Key {
+        name: "packing",
+        rule: Rule::OneOf("slots", "equal"),
+        presence: Presence::Optional,
+        what: "\"slots\" or \"equal\"",
+    },
+    Key {
         name: "octets",
-        rule: Rule::Number(1, 1_400),
+        rule: Rule::Number(1, 120_000),
         presence: Presence::Required,
         what: "bytes of media in a unit",
     },

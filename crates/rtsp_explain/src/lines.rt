@@ -76,9 +76,11 @@ fn place_after(place: Place, presentations: &mut usize, name: &str, is_item: boo
     Place::Unknown
 }
 
-/// The line, counted from 1, of a key in a table, or of the table's head where the key is empty, or is the table's name; none where it isn't
-/// written there by itself, as in a table within one line.
+/// The line, counted from 1, of a key in a table, or of the table's head where the key is empty or is the
+/// table's name; none where it isn't written there by itself, as in a table within one line.
 pub fn line_of(text: &str, wanted: Place, key: &str) -> Option<usize> {
+    // What may stand before a text to say that it is UTF-8.
+    let text = text.strip_prefix("\u{feff}").unwrap_or(text);
     let mut place = Place::Document;
     let mut presentations = 0;
     let mut open = None;

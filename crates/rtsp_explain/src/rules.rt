@@ -1,5 +1,6 @@
 //! What a value has to be.
 
+use crate::lists::{addresses_fault, starts_fault};
 use crate::numbers::grouped;
 use std::alloc::{AllocError, Global};
 use toml::Value;
@@ -19,6 +20,10 @@ pub(crate) enum Rule {
     Text(Class, usize),
     /// Any text.
     Any,
+    /// A list of 1 to so many IPv4 addresses.
+    Addresses(usize),
+    /// A list of 1 to so many ascending numbers, the first 0.
+    Starts(usize),
 }
 
 /// The bytes that a text may have.
@@ -73,6 +78,11 @@ impl Rule {
             }
             Rule::Flag => format!(in alloc; "true or false: {what}"),
             Rule::OneOf(..) | Rule::Text(..) | Rule::Any => String::from_str(alloc, what),
+            Rule::Addresses(most) => format!(in alloc; "1 to {most} IPv4 addresses ({what})"),
+            Rule::Starts(most) => {
+                let most = grouped(alloc, i64::try_from(most).unwrap_or(i64::MAX))?;
+                format!(in alloc; "1 to {most} ascending numbers, the first 0 ({what})")
+            }
         }
     }
 
@@ -111,6 +121,18 @@ impl Rule {
                     return of_kind(alloc, value, "a text: ", wanted.as_str());
                 };
                 self.text_fault(alloc, text, wanted.as_str())
+            }
+            Rule::Addresses(most) => {
+                let Some(items) = value.as_array() else {
+                    return of_kind(alloc, value, "", wanted.as_str());
+                };
+                addresses_fault(alloc, items.as_slice(), most, wanted.as_str())
+            }
+            Rule::Starts(most) => {
+                let Some(items) = value.as_array() else {
+                    return of_kind(alloc, value, "", wanted.as_str());
+                };
+                starts_fault(alloc, items.as_slice(), most, wanted.as_str())
             }
         }
     }

@@ -1,7 +1,7 @@
 //! What tracks take of the uplink, and what sessions may want of the journal.
 
-use crate::explaining::number_in;
 use crate::findings::Explainer;
+use crate::keys::{PRESENTATION, SERVER, TRACK};
 use crate::lines::Place;
 use crate::numbers::grouped;
 use std::alloc::AllocError;
@@ -10,40 +10,51 @@ use toml::Table;
 // What the RTP, UDP and IPv4 headers of a packet take, which are counted into a stream's rate.
 const HEADER_OCTETS: i64 = 40;
 
-/// The numbers by which a track's rate is judged.
-#[derive(Clone, Copy)]
-pub(crate) struct Numbers {
-    uplink: Option<i64>,
-    unit_ms: Option<i64>,
-    octets: Option<i64>,
-}
+// The bits per second of a stream's sender reports, which it has where units have several packets.
+const REPORT_RATE: i64 = 576;
 
-impl Numbers {
-    pub(crate) fn of(server: Option<&Table>, presentation: &Table, track: &Table) -> Numbers {
-        Numbers {
-            uplink: server.and_then(|server| number_in(server, "uplink")),
-            unit_ms: number_in(presentation, "unit_ms"),
-            octets: number_in(track, "octets"),
-        }
-    }
-
-    // The bits per second of the track.
-    fn rate(self) -> Option<i64> {
-        let octets = self.octets?.saturating_add(HEADER_OCTETS);
-        let unit_ms = self.unit_ms?;
-        let bits = octets.saturating_mul(8000);
-        let more = bits.saturating_add(unit_ms.saturating_sub(1));
-        more.checked_div(unit_ms)
-    }
+// The bits per second of a track, where what it goes by is right.
+fn rate_of(
+    explainer: &Explainer<'_>,
+    presentation: &Table,
+    track: &Table,
+) -> Result<Option<i64>, AllocError> {
+    let (Some(unit_ms), Some(octets)) = (
+        explainer.right_number(&PRESENTATION, presentation, "unit_ms")?,
+        explainer.right_number(&TRACK, track, "octets")?,
+    ) else {
+        return Ok(None);
+    };
+    let (packets, reports) = match track.get("packets") {
+        None => (Some(1), 0),
+        Some(_) => (
+            explainer.right_number(&TRACK, track, "packets")?,
+            REPORT_RATE,
+        ),
+    };
+    let Some(packets) = packets else {
+        return Ok(None);
+    };
+    let bytes = octets.saturating_add(packets.saturating_mul(HEADER_OCTETS));
+    let bits = bytes.saturating_mul(8000);
+    let rate = bits
+        .saturating_add(unit_ms.saturating_sub(1))
+        .checked_div(unit_ms);
+    Ok(rate.map(|rate| rate.saturating_add(reports)))
 }
 
 /// Notes a track that takes more than the uplink has.
 pub(crate) fn explain_rate(
     explainer: &mut Explainer<'_>,
-    numbers: Numbers,
+    server: &Table,
+    presentation: &Table,
+    track: &Table,
     place: Place,
 ) -> Result<(), AllocError> {
-    let (Some(rate), Some(uplink)) = (numbers.rate(), numbers.uplink) else {
+    let (Some(rate), Some(uplink)) = (
+        rate_of(explainer, presentation, track)?,
+        explainer.right_number(&SERVER, server, "uplink")?,
+    ) else {
         return Ok(());
     };
     if rate <= uplink {
@@ -62,11 +73,13 @@ pub(crate) fn explain_journal(
     server: &Table,
     tracks: usize,
 ) -> Result<(), AllocError> {
-    let Some(sessions) = number_in(server, "sessions") else {
+    let (Some(sessions), Some(journal), Some(workers)) = (
+        explainer.right_number(&SERVER, server, "sessions")?,
+        explainer.right_number(&SERVER, server, "journal")?,
+        explainer.right_number(&SERVER, server, "workers")?,
+    ) else {
         return Ok(());
     };
-    let journal = number_in(server, "journal").unwrap_or(1_000_000);
-    let workers = number_in(server, "workers").unwrap_or(4);
     let tracks = i64::try_from(tracks).unwrap_or(0);
     let each = tracks.saturating_mul(9).saturating_add(11);
     let lanes = workers.saturating_add(1).saturating_mul(1000);
@@ -81,7 +94,8 @@ pub(crate) fn explain_journal(
         grouped(explainer.alloc, least)?,
     );
     let why = format!(in explainer.alloc;
-        "is {is}; `serve` with sessions = {many}, {tracks} track{s} each and workers = {workers} wants {wants}, else players may be refused 503 for what others do"
+        "is {is}; `serve` with sessions = {many}, {tracks} track{s} each and workers = {workers} \
+        wants {wants}, else players may be refused 503 for what others do"
     )?;
     explainer.note(Place::Server, "journal", why.as_str())
 }

@@ -10,8 +10,6 @@ mod conversations;
 #[cfg(test)]
 mod devices;
 #[cfg(test)]
-mod explanations;
-#[cfg(test)]
 mod failures;
 #[cfg(test)]
 mod pools;

@@ -1,5 +1,6 @@
 //! Why there is no server, for whoever started it.
 
+use crate::checking::do_clash;
 use crate::running::read_operation;
 use crate::serving::address_of;
 use rtsp_command_line::{CommandLine, Exit, USAGE, read_words};
@@ -11,9 +12,9 @@ use std::net::{Net, TcpListener, TcpStream};
 use std::os::unix::fs::OpenOptionsExt;
 use std::rt::Files;
 
-/// Tells on standard error, after the line of an exit of `serve`, which file, key or address it was and why, as another
-/// look finds it; of `check`, why its file can't be read; and after that of a bad command line, which address is none,
-/// and the usage. Of other command lines and exits there is no more to tell.
+/// Tells on standard error, after the line of an exit of `serve`, which file, key or address it was and
+/// why, as another look finds it; of `check`, why its file can't be read; and after that of a bad command
+/// line, which address is none, and the usage. Of other command lines and exits there is no more to tell.
 pub fn tell_reasons<
     R: Files<File = File> + AllocGlobal + Net<Listener = TcpListener, Stream = TcpStream> + Eprint,
 >(rt: &R, words: &[&str], exit: Exit) {
@@ -28,6 +29,7 @@ pub fn tell_reasons<
         Ok(Some(CommandLine::Serve { config, listen, .. })) => {
             let has_told = tell_of_files(rt, config)
                 || tell_of_operation(rt, config)
+                || tell_of_clash(rt, config, listen)
                 || tell_of_address(rt, listen);
             if !has_told {
                 let _ = eprintln!(rt;
@@ -59,7 +61,8 @@ fn tell_of_words<R: AllocGlobal + Eprint>(rt: &R, words: &[&str]) {
     let _ = eprint!(rt; "{USAGE}");
 }
 
-// Tells what a configuration is refused for: each key with its line, or in a word where no key is known to be wrong.
+// Tells what a configuration is refused for: each key with its line, or in a word where no key is known
+// to be wrong.
 fn tell_of_faults<R: AllocGlobal + Eprint>(rt: &R, config: &str, text: &[u8], fault: TableFault) {
     if fault != TableFault::OutOfMemory
         && let Ok(findings) = explain(rt.alloc(), config, text)
@@ -196,6 +199,25 @@ fn tell_of_status<R: Net<Listener = TcpListener, Stream = TcpStream> + Eprint>(
         return true;
     }
     tell_of_address(rt, Some(address))
+}
+
+// Tells that the figures are to be shown where the server listens, if they are.
+fn tell_of_clash<R: Files<File = File> + AllocGlobal + Eprint>(
+    rt: &R,
+    config: &str,
+    listen: Option<&str>,
+) -> bool {
+    let Ok(operation) = read_operation(rt, config) else {
+        return false;
+    };
+    let (Ok(status), Ok(address)) = (address_of(operation.status()), address_of(listen)) else {
+        return false;
+    };
+    let is_told = operation.status().is_some() && do_clash(status, address);
+    if is_told {
+        let _ = eprintln!(rt; "rtspd: {status}: `serve` listens at {address}");
+    }
+    is_told
 }
 
 // Tells why the address can't be listened on, if it can't.

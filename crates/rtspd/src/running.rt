@@ -48,8 +48,8 @@ pub fn run_words<R: Files + AllocGlobal + Wait, I: Read + Drop, O: Write + Drop>
     exit_of(ended)
 }
 
-/// Runs any command line: `serve` by sockets and threads, `check`, a call for help, and others as `run_words`
-/// does. The log of `serve` goes to the stream of errors.
+/// Runs any command line: `serve` by sockets and threads, `check`, a call for help, and others as
+/// `run_words` does. The log of `serve` goes to the stream of errors.
 pub fn run_program<
     R: Files<File = File>
         + AllocGlobal
