@@ -1,5 +1,5 @@
 -- The words that are a call for help.
-use Rattle.std.specs.Prelude.{true, false, List, [], ◌∷◌, codes, Bool, Option, Some, None, bytes_eq, if◌then◌else◌, ◌||◌, ◌&&◌}
+use Rattle.std.specs.Prelude.{List, [], ◌∷◌, codes, Bool, Option, Some, None, bytes_eq, if◌then◌else◌, ◌||◌, ◌&&◌}
 use Rattle.clap.specs.Words.{Text}
 use Rattle.rtsp_command_line.specs.declared.help.Help.{Help}
 use Rattle.rtsp_command_line.specs.declared.help.Help.TheVariants.{Usage, Version}

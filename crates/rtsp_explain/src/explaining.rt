@@ -78,11 +78,7 @@ impl Explainer<'_> {
                 Ok(None)
             }
             None => {
-                self.missing(
-                    Place::Document,
-                    "server",
-                    "it has to be a table [server]",
-                )?;
+                self.missing(Place::Document, "server", "it has to be a table [server]")?;
                 Ok(None)
             }
         }

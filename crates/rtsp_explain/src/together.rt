@@ -183,7 +183,10 @@ impl Explainer<'_> {
         if octets <= MOST_PACKET {
             return Ok(());
         }
-        let (octets, most) = (grouped(self.alloc, octets)?, grouped(self.alloc, MOST_PACKET)?);
+        let (octets, most) = (
+            grouped(self.alloc, octets)?,
+            grouped(self.alloc, MOST_PACKET)?,
+        );
         let unit = grouped(self.alloc, MOST_UNIT)?;
         let why = format!(in self.alloc;
             "is {octets}; one packet has at most {most}, and with packets a unit {unit}"
@@ -191,12 +194,7 @@ impl Explainer<'_> {
         self.fault(place, "octets", why.as_str())
     }
 
-    fn equal_packets(
-        &mut self,
-        octets: i64,
-        packets: i64,
-        place: Place,
-    ) -> Result<(), AllocError> {
+    fn equal_packets(&mut self, octets: i64, packets: i64, place: Place) -> Result<(), AllocError> {
         let most = MOST_PACKET.saturating_mul(packets);
         let is_shared = octets.checked_rem(packets) == Some(0);
         if octets <= most && is_shared {

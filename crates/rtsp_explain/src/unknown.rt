@@ -43,12 +43,12 @@ fn add_owner(owners: &mut String, is_owner: bool, head: &str) -> Result<(), Allo
 fn owners_of(alloc: Global, name: &str) -> Result<String, AllocError> {
     let mut owners = String::new(alloc);
     add_owner(&mut owners, has_key(&SERVER, name), "[server]")?;
-    add_owner(&mut owners, has_key(&PRESENTATION, name), "[[presentation]]")?;
     add_owner(
         &mut owners,
-        has_key(&TRACK, name),
-        "[[presentation.track]]",
+        has_key(&PRESENTATION, name),
+        "[[presentation]]",
     )?;
+    add_owner(&mut owners, has_key(&TRACK, name), "[[presentation.track]]")?;
     Ok(owners)
 }
 

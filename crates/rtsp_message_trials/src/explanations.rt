@@ -128,10 +128,7 @@ const WORDS: [(&str, &str); 20] = [
         "PACKETS",
         "it has to be 1 to 256 (packets in a unit at most)",
     ),
-    (
-        "SHARED",
-        "it has to be a multiple of packets, which is 2",
-    ),
+    ("SHARED", "it has to be a multiple of packets, which is 2"),
     (
         "EQUAL",
         "2 equal packets have at most 2,800 & RATE 1,153,376 ABOVE",

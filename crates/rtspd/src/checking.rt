@@ -130,6 +130,7 @@ fn look_at_track<R: Files<File = File>>(
             Exit::BadConfiguration,
             wrong_length(alloc, path, length, units, octets)?,
         ),
+        Err(error) if error.kind() == ErrorKind::OutOfMemory => return Err(AllocError),
         Err(error) if error.kind() == ErrorKind::NotFound => (
             Exit::DeviceFailed,
             format!(in alloc; "there is no file {path}")?,
@@ -232,6 +233,7 @@ fn look_at_folder<R: Files<File = File> + AllocGlobal>(
         return Ok(());
     };
     let why = match error.kind() {
+        ErrorKind::OutOfMemory => return Err(AllocError),
         ErrorKind::NotFound => format!(in report.alloc; "there is no folder {folder}")?,
         _ => format!(in report.alloc; "{folder}: {error}")?,
     };

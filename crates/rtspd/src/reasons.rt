@@ -173,7 +173,9 @@ pub(crate) fn folder_fault<R: Files<File = File> + AllocGlobal>(
     rt: &R,
     folder: &str,
 ) -> Option<io::Error> {
-    let path = format!(in rt.alloc(); "{folder}/.tried-by-rtspd").ok()?;
+    let Ok(path) = format!(in rt.alloc(); "{folder}/.tried-by-rtspd") else {
+        return Some(io::Error::from(ErrorKind::OutOfMemory));
+    };
     let made = OpenOptions::new()
         .write(true)
         .create_new(true)
