@@ -28,15 +28,20 @@ impl fmt::Display for Place {
     }
 }
 
+// A name without spaces and quotes around it.
+fn bare(name: &str) -> &str {
+    name.trim().trim_matches('"').trim_matches('\'')
+}
+
 // The name in a table's head, and whether the table is one of a list.
 fn head_of(line: &str) -> Option<(&str, bool)> {
     if let Some(rest) = line.strip_prefix("[[") {
         let (name, _) = rest.split_once("]]")?;
-        return Some((name.trim(), true));
+        return Some((bare(name), true));
     }
     let rest = line.strip_prefix("[")?;
     let (name, _) = rest.split_once("]")?;
-    Some((name.trim(), false))
+    Some((bare(name), false))
 }
 
 // What ends a text that begins here and goes on over further lines.
@@ -103,7 +108,7 @@ pub fn line_of(text: &str, wanted: Place, key: &str) -> Option<usize> {
         let Some((name, value)) = line.split_once("=") else {
             continue;
         };
-        if place == wanted && name.trim().trim_matches('"') == key {
+        if place == wanted && bare(name) == key {
             return Some(index.saturating_add(1));
         }
         open = left_open(value.trim());

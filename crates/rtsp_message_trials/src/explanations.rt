@@ -197,7 +197,7 @@ const PLACES: &str = "\u{feff}# pairs = 1
 title = '''
 pairs = 2
 [server] '''
-[ server ]
+[ 'server' ]
 \"pairs\" = 3
 media = \"\"\"
 pairs = 4 \"\"\"
