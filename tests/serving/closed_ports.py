@@ -69,7 +69,7 @@ def a_port_that_stays_closed(checks: Checks) -> None:
         renewed = talk.ask("GET_PARAMETER", server.uri, [("Session", session)])
         checks.same("the renewal", 200, renewed.status)
         checks.same("packets to the port, once the session is renewed", 5, packets_within(port, AGAIN_WITHIN, 5))
-        told = rb"warning a port of the player of session \d+ refuses all packets: none is sent there for a minute"
+        told = rb"warning a port of the player of session \d+:[0-9a-f]{8} refuses all packets: none is sent there for a minute"
         is_told(checks, server, "of the port", told)
         checks.same("how often", 1, server.told.count(told))
         for connection in talk, beside:

@@ -124,14 +124,15 @@ def a_session_that_expires_is_told(checks: Checks) -> None:
         left = [it.session for it in leases(talk, f"{server.uri}/a", 2)]
         ended = lease(talk, f"{server.uri}/a")
         talk.ask("TEARDOWN", server.uri, [("Session", ended.session)])
-        is_told(checks, server, "the sessions expire", rb"info session \d+ expired", 20.0)
+        is_told(checks, server, "the sessions expire", rb"info session \d+:[0-9a-f]{8} of 127\.0\.0\.1 ended by expiry: .*", 20.0)
         time.sleep(1.5)
         last = lease(talk, f"{server.uri}/a")
         numbers = session_numbers(server, [*left, last.session])
         stops(checks, server)
         talk.close()
-        told = [it for it in server.told.events() if it.endswith(b" expired")]
-        checks.same("those that expired, the least first", [b"info session %d expired" % it for it in numbers[:2]], told)
+        told = [it for it in server.told.events() if b" ended by expiry: " in it]
+        found = [int(re.match(rb"info session (\d+):", it)[1]) for it in told]
+        checks.same("those that expired, the least first", numbers[:2], found)
 
 
 @serving_test(limit=30)

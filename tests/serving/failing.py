@@ -243,9 +243,9 @@ def sessions_end_without_memory(checks: Checks) -> None:
         checks.that("that came of the hang-up", time.monotonic() < began + timeout - 1)
         checks.same("and later", at_rest + 1, server.descriptors_fall_to(at_rest + 1, timeout + 2.0))
         checks.same("pairs of sessions that expired are free", [True] * 2, [is_free(socket.SOCK_DGRAM, it.port) for it in made])
-        # The lines of the log that would tell of those that expired want some, two each at most.
+        # The lines of the log that would tell of those that ended want some, two each at most.
         asked = faults.asked("memory")
-        checks.that("no memory is taken for it", asked <= 2 * len(made), asked)
+        checks.that("no memory is taken for it", asked <= 2 * (len(made) + 2), asked)
         faults.stop()
         gone = [it.session for it in [*made, mixed]] + [player.session or ""]
         checks.same("sessions that live", [], [it for it in gone if is_alive(silent, server.uri, it)])

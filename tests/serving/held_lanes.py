@@ -135,7 +135,7 @@ def a_left_play_outlives_a_stop(checks: Checks) -> None:
 
 # For how long players don't read of whom it is told, in seconds.
 UNREAD = 4.0
-LOSES = rb"warning session (\d+) lost frames, (\d+) so far: its player reads too slowly"
+LOSES = rb"warning session (\d+):[0-9a-f]{8} lost frames, (\d+) so far: its player reads too slowly"
 
 
 def told_of(server: Telling, before: int) -> List[Tuple[int, int]]:
@@ -180,7 +180,7 @@ def dropped_frames_are_told(checks: Checks) -> None:
         player.close()
 
 
-WITHOUT_MEMORY = rb"warning session \d+ lost frames, \d+ so far: no more is lent to what waits, or there is no memory"
+WITHOUT_MEMORY = rb"warning session \d+:[0-9a-f]{8} lost frames, \d+ so far: no more is lent to what waits, or there is no memory"
 
 
 @serving_test(limit=60, is_timed=True)

@@ -27,13 +27,14 @@ REFUSALS = {
     "Other": "other",
 }
 LATE = {f"Within {ms} ms": str(ms / 1000) for ms in (1, 2, 5, 10, 20, 40, 100, 400)}
+LATE.update({f"Within {seconds} s": f"{seconds}.0" for seconds in (1, 4, 10)})
 COUNTS = {
     "Packets sent": "packets_sent",
     "Packets lost": "packets_lost",
     "Connections let in": "connections_accepted",
     "Connections closed at once": "connections_refused",
     "Headers refused": "headers_refused",
-    "Media not read": "media_failures",
+    "Reads of films that failed": "media_failures",
     "Sessions expired": "sessions_expired",
     "Journal shortened": "journal_shortenings",
     "Log lines dropped": "log_lines_dropped",
@@ -47,7 +48,7 @@ ASKED = [
     *[("SETUP", "/a", (OVER_UDP,))] * 3,
     ("RECORD", "", ()),
 ]
-ACCESS = re.compile(rb'\S+Z access 127\.0\.0\.1 (\d+) "([^"]*)" "([^"]*)" (\d+) ([0-9a-f]{8}|-)\n')
+ACCESS = re.compile(rb'\S+Z access 127\.0\.0\.1 (\d+) "([^"]*)" "([^"]*)" (\d+) (?:(\d+):)?(?:(\d+):)?([0-9a-f]{8}|-)\n')
 
 
 def shown_at() -> Tuple[int, str]:
@@ -87,9 +88,12 @@ def figures_of_a_server(checks: Checks) -> None:
         set_up_all(player)
         held = figures(port)
         checks.same("sessions", 1, held["rtspd_sessions"])
-        checks.same("the uplink that is held", SHORT.whole_rate, held["rtspd_uplink_bits_per_second,state=held"])
-        rate = held["rtspd_uplink_bits_per_second,state=held"] + held["rtspd_uplink_bits_per_second,state=free"]
+        uplink = "rtspd_uplink_bytes_per_second,state="
+        checks.same("the uplink that is held", SHORT.whole_rate, 8 * held[f"{uplink}held"])
+        rate = 8 * (held[f"{uplink}held"] + held[f"{uplink}free"])
         checks.same("held and free is the whole", 8 * SHORT.whole_rate, rate)
+        film = f"presentation={SHORT.name},transport="
+        checks.same("sessions by film", [1, 0], [held[f"rtspd_presentation_sessions,{film}{it}"] for it in ("UDP", "TCP")])
         checks.same("connections", 1, held["rtspd_connections,state=held"])
         checks.same("pairs of ports", (2, 6), tuple(held[f"rtspd_port_pairs,state={it}"] for it in ("held", "free")))
         checks.same("ports", (4, 12), tuple(held[f"rtspd_ports,state={it}"] for it in ("held", "free")))
@@ -98,6 +102,9 @@ def figures_of_a_server(checks: Checks) -> None:
         time.sleep(1.5)
         after = figures(port)
         checks.same("packets", 50, after["rtspd_packets_sent_total"])
+        checks.same("plays by film", 1, after[f"rtspd_presentation_plays_total,{film}UDP"])
+        checks.that("bytes by film", after[f"rtspd_presentation_sent_bytes_total,{film}UDP"] > 50 * 12, after)
+        checks.that("time and memory", after["process_cpu_seconds_total"] >= 0 and after["process_resident_memory_bytes"] > 1e6, after)
         checks.same("lateness counts each packet", 50, after["rtspd_packet_lateness_seconds_count"])
         status, page = ask(port, path="/")
         checks.same("the page's status", 200, status)
@@ -121,6 +128,8 @@ def figures_of_a_server(checks: Checks) -> None:
 def shown_by(figures: Dict[str, float]) -> Dict[str, status_page.Rows]:
     """What the page has to show beside these figures."""
     of = {name: int(value) for name, value in figures.items() if not name.endswith("_sum")}
+    # Bytes have three decimals, so bits are whole.
+    of.update({name: int(8 * value) for name, value in figures.items() if name.startswith("rtspd_uplink_")})
 
     def held(family: str) -> Tuple[int, int]:
         part = of[f"{family},state=held"]
@@ -137,19 +146,27 @@ def shown_by(figures: Dict[str, float]) -> Dict[str, status_page.Rows]:
     def total(family: str) -> Tuple[int]:
         return (of[f"{family}_total"],)
 
+    def film(name: str) -> Tuple[int, int, int, int]:
+        over = [f"presentation={name},transport={it}" for it in ("UDP", "TCP")]
+        watched, plays = (sum(of[f"rtspd_presentation_{it},{way}"] for way in over) for it in ("sessions", "plays_total"))
+        udp, tcp = (of[f"rtspd_presentation_sent_bytes_total,{it}"] // 1_000_000 for it in over)
+        return watched, plays, udp, tcp
+
+    films = {it.split(",")[1].partition("=")[2] for it in of if it.startswith("rtspd_presentation_")}
     classes = "2xx", "3xx", "4xx", "5xx"
     methods = {it[len("rtspd_requests_total,method=") : it.rindex(",")] for it in of if it.startswith("rtspd_requests")}
     return {
         "Now": {
             "Seconds since it began": (of["rtspd_uptime_seconds"],),
             "Sessions": (of["rtspd_sessions"],),
-            "Uplink, bit/s": held("rtspd_uplink_bits_per_second"),
+            "Uplink, bit/s": held("rtspd_uplink_bytes_per_second"),
             "Pairs of ports": held("rtspd_port_pairs"),
             "Ports": held("rtspd_ports"),
-            "Journal, written": journal("written"),
-            "Journal, owed": journal("owed"),
+            "Journal, used": journal("written"),
+            "Journal, kept for ends": journal("owed"),
             "Connections": held("rtspd_connections"),
         },
+        "Films": {it: film(it) for it in films},
         "Answers": {
             it: tuple(of[f"rtspd_requests_total,method={it},class={number}"] for number in classes) for it in methods
         },
@@ -159,12 +176,17 @@ def shown_by(figures: Dict[str, float]) -> Dict[str, status_page.Rows]:
     }
 
 
+def at_rest(figures: Dict[str, float]) -> Dict[str, float]:
+    """Without what the process itself uses."""
+    return {name: value for name, value in figures.items() if not name.startswith("process_")}
+
+
 def figures_at_rest(port: int) -> Tuple[Dict[str, float], Dict[str, status_page.Rows]]:
     """The figures and the page of one moment: nothing but the time changed from the figures before to those after."""
     while True:
-        before = figures(port)
+        before = at_rest(figures(port))
         page = status_page.read(ask(port, path="/")[1])
-        if before == figures(port):
+        if before == at_rest(figures(port)):
             return before, page
 
 
@@ -210,7 +232,7 @@ def the_page_shows_the_figures(checks: Checks) -> None:
         }
         checks.same("what was to be counted, and wasn't", set(), wanted - is_moved)
         shown = {name for rows in page.values() for name in rows}
-        checks.same("rows", 8 + 9 + len(REFUSALS) + len(LATE) + len(COUNTS), len(shown))
+        checks.same("rows", 8 + 1 + 9 + len(REFUSALS) + len(LATE) + len(COUNTS), len(shown))
         player.close()
         talk.close()
 
@@ -256,7 +278,9 @@ def lines_of_the_log(checks: Checks) -> None:
         checks.same("the status", 0, server.ends(8))
     lines = [it for it in map(ACCESS.fullmatch, server.log) if it]
     checks.same("who asked what", asked, [(it[2], it[3], it[4]) for it in lines])
-    checks.same("eight digits of the session", session[:8].encode(), lines[0][5] if lines else None)
+    checks.same("eight digits of the session", session[:8].encode(), lines[0][6] if lines else None)
+    checks.same("its name where it is set up and where it ends", lines[0].groups()[4:], lines[-1].groups()[4:])
+    checks.that("which has its number", lines[0][5] is not None, server.log)
     checks.that("and no more of them", not any(session.encode() in it for it in server.log))
     checks.that("its start is told", any(b" info started with 1 presentations" in it for it in server.log), server.log[:2])
     checks.that("its stop is told", any(b"info a signal came" in it for it in server.log), server.log[-1:])

@@ -50,8 +50,8 @@ journal-000001.txt, 4 entries, in files
 uplink [#.......................................] 80,000 of 100,000,000 bit/s
 1 session, 0 playing, 1 pair of channels
 
-address    session  phase  where                bit/s  holds
-127.0.0.1        2  Ready  tone 0.0 of 10.0 s  80,000  channels 0-1
+address       session  phase  where                bit/s  holds
+127.0.0.1  2:00000000  Ready  tone 0.0 of 10.0 s  80,000  channels 0-1
 4
 rtspd-whole-lines: left out 8 bytes
 <svg

@@ -10,7 +10,10 @@ ROWS = {
     "answers": re.compile(r"<tr><th>([^<]+)" + rf"<td class=n>{NUMBER}" * 4),
 }
 SECTION = re.compile(r"<h2>([^<]+)</h2>\n<table>\n((?:<tr>.*\n)*)</table>\n")
-HEADS = "<tr><th><td class=n>2xx<td class=n>3xx<td class=n>4xx<td class=n>5xx"
+HEADS = {
+    "<tr><th><td class=n>2xx<td class=n>3xx<td class=n>4xx<td class=n>5xx",
+    "<tr><th><td class=n>watched now<td class=n>plays<td class=n>MB, UDP<td class=n>MB, TCP",
+}
 LAST = '<p>The same as text: <a href="/metrics">/metrics</a>\n</html>\n'
 
 Rows = Dict[str, Tuple[int, ...]]
@@ -48,7 +51,7 @@ def read(text: str) -> Dict[str, Rows]:
         raise Malformed(SECTION.sub("", rest))
     found: Dict[str, Rows] = {}
     for section in SECTION.finditer(rest):
-        lines = [it for it in section[2].splitlines() if it != HEADS]
+        lines = [it for it in section[2].splitlines() if it not in HEADS]
         found[section[1]] = dict(map(row, lines))
         if len(found[section[1]]) != len(lines):
             raise Malformed(f"two rows of one name in {section[1]}")

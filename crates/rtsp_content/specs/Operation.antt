@@ -3,9 +3,10 @@ use Rattle.std.specs.Prelude.{ℕ, List, codes, Option, Some, None, Ok, Err}
 use Rattle.toml.specs.Data.{Members, get_member}
 use Rattle.rtsp_content.specs.declared.fault.TableFault.TheVariants.{NotToml}
 use Rattle.rtsp_content.specs.declared.keys.Form.TheVariants.{Folder, Address}
+use Rattle.rtsp_content.specs.declared.limits.TheConstants.{MAX_DRAIN, DEFAULT_DRAIN}
 use Rattle.rtsp_content.specs.Fault.{Read}
 use Rattle.rtsp_text.specs.Results.{◌>>=◌}
-use Rattle.rtsp_content.specs.Keys.{table_in, flag_at, optional_text_at}
+use Rattle.rtsp_content.specs.Keys.{table_in, flag_at, number_at_or, optional_text_at}
 use Rattle.rtsp_content.specs.MediaPath.{media_folder}
 use Rattle.rtsp_content.specs.Balancers.{balancers_of}
 use Rattle.rtsp_content.specs.JournalFiles.{files_of}
@@ -20,7 +21,9 @@ operation_of path ms = do
   access_log ← flag_at (codes "access_log") server
   status ← optional_text_at (codes "status") Address server
   proxy ← balancers_of server
-  Ok (record { journal = journal; access_log = access_log; status = status; proxy = proxy })
+  status_open ← flag_at (codes "status_open") server
+  drain ← number_at_or (codes "drain") 1 MAX_DRAIN DEFAULT_DRAIN server
+  Ok (record { journal = journal; access_log = access_log; status = status; proxy = proxy; status_open = status_open; drain = drain })
 
 -- the same of a text, by what TOML makes of it
 abbrev pub operation_of_document : List ℕ → Option Members → Read OperationValue

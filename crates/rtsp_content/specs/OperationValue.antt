@@ -7,3 +7,5 @@ pub record OperationValue : Type 0 where
   pub access_log : Bool
   pub status : Option (List ℕ)
   pub proxy : List ℕ
+  pub status_open : Bool
+  pub drain : ℕ

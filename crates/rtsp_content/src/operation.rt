@@ -10,7 +10,8 @@ ghost use Rattle.rtsp_content.specs.Operation.{operation_of, operation_of_docume
 use crate::balancers::read_balancers;
 use crate::fault::TableFault;
 use crate::journal_files::{JournalFiles, read_files};
-use crate::keys::{Form, flag_at, optional_text_at, table_at};
+use crate::keys::{Form, flag_at, number_at_or, optional_text_at, table_at};
+use crate::limits::{DEFAULT_DRAIN, MAX_DRAIN};
 use crate::media_path::media_folder;
 use std::alloc::Global;
 use std::marker::Model;
@@ -23,6 +24,8 @@ pub struct Operation {
     access_log: bool,
     status: Option<String>,
     proxy: Vec<u32>,
+    status_open: bool,
+    drain: u64,
 }
 
 impl Model for Operation {
@@ -45,11 +48,15 @@ fn read_operation(alloc: Global, table: &Table, path: &str) -> Result<Operation,
     let access_log = flag_at(server, "access_log")?;
     let status = optional_text_at(alloc, server, "status", Form::Address)?;
     let proxy = read_balancers(alloc, server)?;
+    let status_open = flag_at(server, "status_open")?;
+    let drain = number_at_or(server, "drain", 1, MAX_DRAIN, DEFAULT_DRAIN)?;
     Ok(Operation {
         journal,
         access_log,
         status,
         proxy,
+        status_open,
+        drain,
     })
 }
 
@@ -100,5 +107,19 @@ impl Operation {
         ensures { result.now ≡ self.now.proxy }
     {
         self.proxy.as_slice()
+    }
+
+    /// Whether players' addresses are shown there to all, and not to this machine alone.
+    pub fn status_open(&self) -> bool
+        ensures { result ≡ self.now.status_open }
+    {
+        self.status_open
+    }
+
+    /// For how many seconds at most plays go on where the server is drained.
+    pub fn drain(&self) -> u64
+        ensures { result ≡ self.now.drain }
+    {
+        self.drain
     }
 }

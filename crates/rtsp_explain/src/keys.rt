@@ -22,7 +22,7 @@ pub(crate) struct Key {
 }
 
 /// `[server]`.
-pub(crate) const SERVER: [Key; 19] = [
+pub(crate) const SERVER: [Key; 21] = [
     Key {
         name: "first_port",
         rule: Rule::Even(1_024, 65_535),
@@ -132,10 +132,22 @@ pub(crate) const SERVER: [Key; 19] = [
         what: "an IPv4 address and a port, as 127.0.0.1:9554",
     },
     Key {
+        name: "status_open",
+        rule: Rule::Flag,
+        presence: Presence::Optional,
+        what: "players' addresses are shown there to all",
+    },
+    Key {
         name: "proxy",
         rule: Rule::Addresses(16),
         presence: Presence::Optional,
         what: "of balancers, whose connections begin with a header",
+    },
+    Key {
+        name: "drain",
+        rule: Rule::Number(1, 86_400),
+        presence: Presence::Optional,
+        what: "seconds for which plays go on at most where the server is drained",
     },
 ];
 

@@ -180,6 +180,12 @@ timeout = 60 | journal_when_full = \"keep\" | taken
 timeout = 60 | journal_when_full = \"Keep\" | bad value
 timeout = 60 | access_log = true | taken
 timeout = 60 | access_log = \"yes\" | bad value
+timeout = 60 | status_open = true | taken
+timeout = 60 | status_open = 1 | bad value
+timeout = 60 | drain = 1 | taken
+timeout = 60 | drain = 0 | bad value
+timeout = 60 | drain = 86400 | taken
+timeout = 60 | drain = 86401 | bad value
 timeout = 60 | status = \"127.0.0.1:9554\" | taken
 timeout = 60 | status = \"localhost:9554\" | bad value
 timeout = 60 | status = \"255.255.255.255:65535\" | taken

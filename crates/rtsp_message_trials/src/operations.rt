@@ -12,38 +12,40 @@ fn read(alloc: Global, text: &str) -> Result<Operation, TableFault> {
 // they are full.
 type Files = (&'static str, u32, bool, WhenFull);
 
-// A configuration, what it says of the journal's files, whether there is a log, where the figures are
-// shown, and which connections begin with a header.
-type Said = (
-    &'static str,
-    Option<Files>,
-    bool,
-    Option<&'static str>,
-    &'static [u32],
-);
+// Where the figures are shown, whether players' addresses are shown there to all, and for how many seconds
+// plays go on where the server is drained.
+type Status = (Option<&'static str>, bool, u64);
+
+// A configuration, what it says of the journal's files, whether there is a log, what it says of the
+// status listener, and which connections begin with a header.
+type Said = (&'static str, Option<Files>, bool, Status, &'static [u32]);
+
+// What isn't said.
+const NO_STATUS: Status = (None, false, 300);
 
 const SAID: [Said; 4] = [
-    ("[server]\n", None, false, None, &[]),
+    ("[server]\n", None, false, NO_STATUS, &[]),
     (
         "[server]\nproxy = [\"10.77.0.1\", \"127.0.0.1\"]\n",
         None,
         false,
-        None,
+        NO_STATUS,
         &[0x0a4d_0001, 0x7f00_0001],
     ),
     (
         "[server]\njournal_files = \"/var/lib/rtspd\"\n",
         Some(("/var/lib/rtspd", 1000, false, WhenFull::Keep)),
         false,
-        None,
+        NO_STATUS,
         &[],
     ),
     (
         "[server]\njournal_files = \"history\"\njournal_period = 250\njournal_sync = true\n\
-        journal_when_full = \"lose\"\naccess_log = true\nstatus = \"127.0.0.1:9554\"\n",
+        journal_when_full = \"lose\"\naccess_log = true\nstatus = \"127.0.0.1:9554\"\n\
+        status_open = true\ndrain = 7\n",
         Some(("/etc/rtspd/history", 250, true, WhenFull::Lose)),
         true,
-        Some("127.0.0.1:9554"),
+        (Some("127.0.0.1:9554"), true, 7),
         &[],
     ),
 ];
@@ -61,6 +63,14 @@ fn are_said(files: Option<&JournalFiles>, said: Option<Files>) -> bool {
     }
 }
 
+fn shown_by(operation: &Operation) -> (Option<&str>, bool, u64) {
+    (
+        operation.status(),
+        operation.status_open(),
+        operation.drain(),
+    )
+}
+
 impl Row for Said {
     fn holds(&self, alloc: Global) -> bool {
         let (text, files, log, status, proxy) = *self;
@@ -68,7 +78,7 @@ impl Row for Said {
             Ok(operation) => {
                 are_said(operation.journal(), files)
                     && operation.access_log() == log
-                    && operation.status() == status
+                    && shown_by(&operation) == status
                     && operation.proxy() == proxy
             }
             Err(_) => false,

@@ -16,6 +16,10 @@ appended r old mid new a b e h = on_ok_weaker r (λ p. p ∙ ap (λ (t : List �
 pub appended_last : {E : Type 0} (r : Result (Unit {0}) E) (mid new a : List ℕ) → OnOk r (new ≡ mid ++ a) → OnOk r (new ≡ mid ++ (a ++ []))
 appended_last r mid new a h = on_ok_weaker r (λ p. p ∙ ap (λ (t : List ℕ). mid ++ t) (sym (append_nil a))) h
 
+-- three texts, one behind another
+pub behind : (a b c : List ℕ) → (a ++ b) ++ c ≡ a ++ (b ++ c)
+behind a b c = append_assoc a b c
+
 -- the lines of figures, and of further ones
 pub sample_lines-append : (name : List ℕ) (a b : List Sample) → sample_lines name (a ++ b) ≡ sample_lines name a ++ sample_lines name b
 sample_lines-append name [] b = refl

@@ -1,5 +1,5 @@
 -- Families of figures, and their text (OpenMetrics 1.0).
-use Rattle.std.specs.Prelude.{ℕ, ◌/◌, List, [], ◌∷◌, ◌++◌, Option, Some, None, codes, decimal}
+use Rattle.std.specs.Prelude.{ℕ, ◌/◌, ◌%◌, ◌*◌, List, [], ◌∷◌, ◌++◌, Option, Some, None, codes, decimal}
 use Rattle.std.specs.List.{concat}
 use Rattle.rtsp_text.specs.Decimal.{three_digits}
 use Rattle.rtsp_metrics.specs.declared.snapshot.Held.{Held}
@@ -45,13 +45,17 @@ abbrev pub families_text : List Family → List ℕ
 families_text [] = []
 families_text (f ∷ families) = family_text f ++ families_text families
 
--- the whole text
-abbrev pub exposition : List Family → List ℕ
-exposition families = families_text families ++ codes "# EOF\n"
+-- the whole text, with the lines of further families
+abbrev pub exposition : List Family → List ℕ → List ℕ
+exposition families further = families_text families ++ (further ++ codes "# EOF\n")
 
 -- seconds with three decimals
 abbrev pub seconds_text : ℕ → List ℕ
 seconds_text ms = decimal (ms / 1000) ++ (codes "." ++ three_digits ms)
+
+-- bits in bytes, with three decimals, which is exact
+abbrev pub eighths_text : ℕ → List ℕ
+eighths_text bits = decimal (bits / 8) ++ (codes "." ++ three_digits (bits % 8 * 125))
 
 -- one value that goes up and down
 abbrev pub gauge : List ℕ → Option (List ℕ) → List ℕ → ℕ → Family

@@ -5,10 +5,11 @@ use Rattle.rtsp_metrics.specs.declared.snapshot.BookFigures.{BookFigures}
 use Rattle.rtsp_metrics.specs.declared.snapshot.ByMethod.{ByMethod}
 use Rattle.rtsp_metrics.specs.declared.snapshot.ByOutcome.{ByOutcome}
 use Rattle.rtsp_metrics.specs.declared.snapshot.Counts.{Counts}
+use Rattle.rtsp_metrics.specs.declared.snapshot.Held.{Held}
 use Rattle.rtsp_metrics.specs.declared.snapshot.Lateness.{Lateness}
 use Rattle.rtsp_metrics.specs.declared.snapshot.Refusals.{Refusals}
 use Rattle.rtsp_metrics.specs.declared.snapshot.Snapshot.{Snapshot}
-use Rattle.rtsp_metrics.specs.Families.{Sample, Family, gauge, counter, held_and_free, exposition, seconds_text}
+use Rattle.rtsp_metrics.specs.Families.{Sample, Family, gauge, counter, held_and_free, exposition, seconds_text, eighths_text}
 
 -- a figure that a label marks
 abbrev pub labelled : List ℕ → ℕ → Sample
@@ -31,11 +32,24 @@ journal_family b =
       samples = labelled (codes "{state=\"written\"}") b.entries ∷ labelled (codes "{state=\"owed\"}") b.owed ∷ labelled (codes "{state=\"free\"}") b.room ∷ [];
     }
 
+-- the uplink, in bytes
+unfoldable pub uplink_family : Held → Family
+uplink_family rate =
+    record {
+      name = codes "rtspd_uplink_bytes_per_second";
+      kind = codes "gauge";
+      unit = Some (codes "bytes_per_second");
+      help = codes "The uplink, as sessions hold it.";
+      samples =
+          record { mark = codes "{state=\"held\"}"; value = eighths_text rate.held } ∷
+          record { mark = codes "{state=\"free\"}"; value = eighths_text rate.free } ∷ [];
+    }
+
 -- what the book has
 unfoldable pub book_families : BookFigures → List Family
 book_families b =
     gauge (codes "rtspd_sessions") None (codes "Sessions that live.") b.sessions ∷
-    held_and_free (codes "rtspd_uplink_bits_per_second") (Some (codes "bits_per_second")) (codes "The uplink, as sessions hold it.") b.rate ∷
+    uplink_family b.rate ∷
     held_and_free (codes "rtspd_port_pairs") None (codes "Pairs of UDP ports: free where both ports are.") b.pairs ∷
     held_and_free (codes "rtspd_ports") None (codes "UDP ports, as sessions hold them.") b.ports ∷
     journal_family b ∷ []
@@ -105,9 +119,13 @@ early_buckets n =
 abbrev pub early : Lateness → ℕ
 early n = n.within_1_ms + n.within_2_ms + n.within_5_ms + n.within_10_ms
 
+-- the packets that were at most 400 ms late
+abbrev pub soon : Lateness → ℕ
+soon n = early n + n.within_20_ms + n.within_40_ms + n.within_100_ms + n.within_400_ms
+
 -- all packets
 abbrev pub all_packets : Lateness → ℕ
-all_packets n = early n + n.within_20_ms + n.within_40_ms + n.within_100_ms + n.within_400_ms + n.later
+all_packets n = soon n + n.within_1_s + n.within_4_s + n.within_10_s + n.later
 
 -- the packets that were at most so late: from 20 ms on; and all
 abbrev pub late_buckets : Lateness → List Sample
@@ -115,7 +133,10 @@ late_buckets n =
     labelled (codes "_bucket{le=\"0.02\"}") (early n + n.within_20_ms) ∷
     labelled (codes "_bucket{le=\"0.04\"}") (early n + n.within_20_ms + n.within_40_ms) ∷
     labelled (codes "_bucket{le=\"0.1\"}") (early n + n.within_20_ms + n.within_40_ms + n.within_100_ms) ∷
-    labelled (codes "_bucket{le=\"0.4\"}") (early n + n.within_20_ms + n.within_40_ms + n.within_100_ms + n.within_400_ms) ∷
+    labelled (codes "_bucket{le=\"0.4\"}") (soon n) ∷
+    labelled (codes "_bucket{le=\"1.0\"}") (soon n + n.within_1_s) ∷
+    labelled (codes "_bucket{le=\"4.0\"}") (soon n + n.within_1_s + n.within_4_s) ∷
+    labelled (codes "_bucket{le=\"10.0\"}") (soon n + n.within_1_s + n.within_4_s + n.within_10_s) ∷
     labelled (codes "_bucket{le=\"+Inf\"}") (all_packets n) ∷
     labelled (codes "_count") (all_packets n) ∷ []
 
@@ -161,5 +182,5 @@ families s =
     server_families s ++ (book_families s.book ++ (traffic_families s.counts ++ (answer_families s.counts ++ keeping_families s.counts)))
 
 -- the text of all figures
-unfoldable pub metrics_text : Snapshot → List ℕ
-metrics_text s = exposition (families s)
+unfoldable pub metrics_text : Snapshot → List ℕ → List ℕ
+metrics_text s further = exposition (families s) further

@@ -8,7 +8,7 @@ use Rattle.rtsp_metrics.specs.declared.snapshot.Counts.{Counts}
 use Rattle.rtsp_metrics.specs.declared.snapshot.Lateness.{Lateness}
 use Rattle.rtsp_metrics.specs.declared.snapshot.Refusals.{Refusals}
 use Rattle.rtsp_metrics.specs.declared.snapshot.Snapshot.{Snapshot}
-use Rattle.rtsp_metrics.specs.Figures.{early, all_packets}
+use Rattle.rtsp_metrics.specs.Figures.{early, soon, all_packets}
 
 -- a number with a comma before each three digits, of which it has at most so many
 unfoldable pub groups : ℕ → ℕ → List ℕ
@@ -51,8 +51,8 @@ server_rows s =
     bar_row (codes "Uplink, bit/s") s.book.rate.held (s.book.rate.held + s.book.rate.free) ∷
     bar_row (codes "Pairs of ports") s.book.pairs.held (s.book.pairs.held + s.book.pairs.free) ∷
     bar_row (codes "Ports") s.book.ports.held (s.book.ports.held + s.book.ports.free) ∷
-    bar_row (codes "Journal, written") s.book.entries (s.book.entries + s.book.owed + s.book.room) ∷
-    bar_row (codes "Journal, owed") s.book.owed (s.book.entries + s.book.owed + s.book.room) ∷
+    bar_row (codes "Journal, used") s.book.entries (s.book.entries + s.book.owed + s.book.room) ∷
+    bar_row (codes "Journal, kept for ends") s.book.owed (s.book.entries + s.book.owed + s.book.room) ∷
     bar_row (codes "Connections") s.connections.held (s.connections.held + s.connections.free) ∷ [])
 
 -- the answers by method, with a row of heads
@@ -87,7 +87,10 @@ lateness_rows n =
     bar_row (codes "Within 20 ms") (early n + n.within_20_ms) all ∷
     bar_row (codes "Within 40 ms") (early n + n.within_20_ms + n.within_40_ms) all ∷
     bar_row (codes "Within 100 ms") (early n + n.within_20_ms + n.within_40_ms + n.within_100_ms) all ∷
-    bar_row (codes "Within 400 ms") (early n + n.within_20_ms + n.within_40_ms + n.within_100_ms + n.within_400_ms) all ∷ [])
+    bar_row (codes "Within 400 ms") (soon n) all ∷
+    bar_row (codes "Within 1 s") (soon n + n.within_1_s) all ∷
+    bar_row (codes "Within 4 s") (soon n + n.within_1_s + n.within_4_s) all ∷
+    bar_row (codes "Within 10 s") (soon n + n.within_1_s + n.within_4_s + n.within_10_s) all ∷ [])
 
 -- the other counts
 abbrev pub count_rows : Counts → List ℕ
@@ -96,16 +99,17 @@ count_rows n =
     number_row (codes "Packets sent") n.packets.sent ∷ number_row (codes "Packets lost") n.packets.lost ∷
     number_row (codes "Connections let in") n.connections.accepted ∷ number_row (codes "Connections closed at once") n.connections.refused ∷
     number_row (codes "Headers refused") n.connections.headers_refused ∷
-    number_row (codes "Media not read") n.media_failures ∷
+    number_row (codes "Reads of films that failed") n.media_failures ∷
     number_row (codes "Sessions expired") n.expired ∷ number_row (codes "Journal shortened") n.shortenings ∷
     number_row (codes "Log lines dropped") n.log_lines_dropped ∷ [])
 
--- the figures behind what every such page begins with
-unfoldable pub page_text : List ℕ → Snapshot → List ℕ
-page_text head s =
+-- the figures behind what every such page begins with, and a further section behind the first
+unfoldable pub page_text : List ℕ → Snapshot → List ℕ → List ℕ
+page_text head s further =
     concat (
     head ∷
     section_text (codes "Now") (server_rows s) ∷
+    further ∷
     section_text (codes "Answers") (request_rows s.counts.requests) ∷
     section_text (codes "Refused") (refusal_rows s.counts.refusals) ∷
     section_text (codes "How late packets were sent") (lateness_rows s.counts.lateness) ∷

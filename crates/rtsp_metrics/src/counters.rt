@@ -14,6 +14,9 @@ struct LatenessCounters {
     within_40_ms: Counter,
     within_100_ms: Counter,
     within_400_ms: Counter,
+    within_1_s: Counter,
+    within_4_s: Counter,
+    within_10_s: Counter,
     later: Counter,
     sum_ms: Counter,
 }
@@ -29,6 +32,9 @@ impl LatenessCounters {
             within_40_ms: Counter::new(),
             within_100_ms: Counter::new(),
             within_400_ms: Counter::new(),
+            within_1_s: Counter::new(),
+            within_4_s: Counter::new(),
+            within_10_s: Counter::new(),
             later: Counter::new(),
             sum_ms: Counter::new(),
         }
@@ -44,6 +50,9 @@ impl LatenessCounters {
             21..=40 => &self.within_40_ms,
             41..=100 => &self.within_100_ms,
             101..=400 => &self.within_400_ms,
+            401..=1_000 => &self.within_1_s,
+            1_001..=4_000 => &self.within_4_s,
+            4_001..=10_000 => &self.within_10_s,
             _ => &self.later,
         }
     }
@@ -58,6 +67,9 @@ impl LatenessCounters {
             within_40_ms: self.within_40_ms.read(),
             within_100_ms: self.within_100_ms.read(),
             within_400_ms: self.within_400_ms.read(),
+            within_1_s: self.within_1_s.read(),
+            within_4_s: self.within_4_s.read(),
+            within_10_s: self.within_10_s.read(),
             later: self.later.read(),
             sum_ms: self.sum_ms.read(),
         }

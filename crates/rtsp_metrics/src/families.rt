@@ -2,7 +2,7 @@
 
 ghost use Rattle.std.specs.Prelude.{◌≡◌, ◌++◌, OnOk, Some, None, decimal};
 ghost use Rattle.rtsp_text.specs.Slices.{held};
-ghost use Rattle.rtsp_metrics.specs.Families.{head_text, sample_line, family_text, gauge, counter, held_and_free, sample_lines, seconds_text, unit_line};
+ghost use Rattle.rtsp_metrics.specs.Families.{head_text, sample_line, family_text, gauge, counter, held_and_free, sample_lines, seconds_text, eighths_text, unit_line};
 ghost use Rattle.rtsp_metrics.specs.FigureLines.{figure_line};
 ghost use Rattle.rtsp_metrics.specs.Figures.{method_samples, request_mark};
 ghost use Rattle.std.specs.List.{flat_map};
@@ -22,6 +22,8 @@ pub(crate) enum Figure<'a> {
     Answers(&'a [u8], ByOutcome),
     /// Milliseconds, told in seconds.
     Seconds(&'a [u8], u64),
+    /// Bits, told in bytes.
+    Eighths(&'a [u8], u64),
 }
 
 // The line of a unit, if there is one.
@@ -68,6 +70,18 @@ fn write_seconds(out: &mut Vec<u8>, name: &[u8], mark: &[u8], ms: u64) -> Result
     append_all(
         out,
         &[name, mark, b" ", seconds.as_bytes(), b".", &decimals, b"\n"],
+    )
+}
+
+fn write_eighths(out: &mut Vec<u8>, name: &[u8], mark: &[u8], bits: u64) -> Result<(), AllocError>
+    ensures { OnOk result (out.new.items ≡ out.old.items ++ sample_line name.now mark.now (eighths_text bits)) }
+{
+    let mut bytes = Buffer::new();
+    let bytes = bytes.format(bits / 8);
+    let decimals = three_digits(bits % 8 * 125);
+    append_all(
+        out,
+        &[name, mark, b" ", bytes.as_bytes(), b".", &decimals, b"\n"],
     )
 }
 
@@ -121,6 +135,7 @@ fn write_figure(out: &mut Vec<u8>, name: &[u8], figure: &Figure) -> Result<(), A
         Figure::Sum(mark, sum) => write_sample(out, name, mark, *sum),
         Figure::Answers(method, of) => write_answers(out, name, method, of),
         Figure::Seconds(mark, ms) => write_seconds(out, name, mark, *ms),
+        Figure::Eighths(mark, bits) => write_eighths(out, name, mark, *bits),
     }
 }
 

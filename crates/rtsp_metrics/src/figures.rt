@@ -4,10 +4,10 @@
 ghost use Rattle.std.specs.Prelude.{◌≡◌, ◌++◌, IfOk, OnOk};
 ghost use Rattle.rtsp_metrics.specs.Families.{family_text, families_text};
 ghost use Rattle.rtsp_metrics.specs.Figures.{server_families, book_families, traffic_families, answer_families, keeping_families};
-ghost use Rattle.rtsp_metrics.specs.Figures.{journal_family, requests_family, refusals_family, lateness_family, families, metrics_text};
+ghost use Rattle.rtsp_metrics.specs.Figures.{journal_family, uplink_family, requests_family, refusals_family, lateness_family, families, metrics_text};
 
 use crate::families::{Figure, write_counter, write_family, write_gauge, write_held};
-use crate::snapshot::{BookFigures, ByMethod, Counts, Lateness, Refusals, Snapshot};
+use crate::snapshot::{BookFigures, ByMethod, Counts, Held, Lateness, Refusals, Snapshot};
 use std::alloc::{AllocError, Global};
 
 fn write_server(out: &mut Vec<u8>, of: &Snapshot) -> Result<(), AllocError>
@@ -49,6 +49,26 @@ fn write_journal(out: &mut Vec<u8>, of: &BookFigures) -> Result<(), AllocError>
     )
 }
 
+// The uplink, whose bits are told in bytes, as figures of Prometheus are.
+#[tactic(auto, unfolding(crate::specs::Figures::uplink_family))]
+fn write_uplink(out: &mut Vec<u8>, of: &Held) -> Result<(), AllocError>
+    ensures { OnOk result (out.new.items ≡ out.old.items ++ family_text (uplink_family of.now)) }
+{
+    let help = b"The uplink, as sessions hold it.";
+    let figures = [
+        Figure::Eighths(b"{state=\"held\"}", of.held),
+        Figure::Eighths(b"{state=\"free\"}", of.free),
+    ];
+    write_family(
+        out,
+        b"rtspd_uplink_bytes_per_second",
+        b"gauge",
+        Some(b"bytes_per_second"),
+        help,
+        &figures,
+    )
+}
+
 fn write_book(out: &mut Vec<u8>, of: &BookFigures) -> Result<(), AllocError>
     ensures { OnOk result (out.new.items ≡ out.old.items ++ families_text (book_families of.now)) }
 {
@@ -59,13 +79,7 @@ fn write_book(out: &mut Vec<u8>, of: &BookFigures) -> Result<(), AllocError>
         b"Sessions that live.",
         of.sessions,
     )?;
-    write_held(
-        out,
-        b"rtspd_uplink_bits_per_second",
-        Some(b"bits_per_second"),
-        b"The uplink, as sessions hold it.",
-        &of.rate,
-    )?;
+    write_uplink(out, &of.rate)?;
     let pairs = b"Pairs of UDP ports: free where both ports are.";
     write_held(out, b"rtspd_port_pairs", None, pairs, &of.pairs)?;
     let ports = b"UDP ports, as sessions hold them.";
@@ -119,7 +133,10 @@ fn write_lateness(out: &mut Vec<u8>, of: &Lateness) -> Result<(), AllocError>
     let forty = twenty + u128::from(of.within_40_ms);
     let hundred = forty + u128::from(of.within_100_ms);
     let four_hundred = hundred + u128::from(of.within_400_ms);
-    let all = four_hundred + u128::from(of.later);
+    let second = four_hundred + u128::from(of.within_1_s);
+    let four_seconds = second + u128::from(of.within_4_s);
+    let ten_seconds = four_seconds + u128::from(of.within_10_s);
+    let all = ten_seconds + u128::from(of.later);
     let help = b"How late RTP packets were sent.";
     let figures = [
         Figure::Sum(b"_bucket{le=\"0.001\"}", one),
@@ -130,6 +147,9 @@ fn write_lateness(out: &mut Vec<u8>, of: &Lateness) -> Result<(), AllocError>
         Figure::Sum(b"_bucket{le=\"0.04\"}", forty),
         Figure::Sum(b"_bucket{le=\"0.1\"}", hundred),
         Figure::Sum(b"_bucket{le=\"0.4\"}", four_hundred),
+        Figure::Sum(b"_bucket{le=\"1.0\"}", second),
+        Figure::Sum(b"_bucket{le=\"4.0\"}", four_seconds),
+        Figure::Sum(b"_bucket{le=\"10.0\"}", ten_seconds),
         Figure::Sum(b"_bucket{le=\"+Inf\"}", all),
         Figure::Sum(b"_count", all),
         Figure::Seconds(b"_sum", of.sum_ms),
@@ -205,13 +225,14 @@ fn write_families(out: &mut Vec<u8>, of: &Snapshot) -> Result<(), AllocError>
     write_keeping(out, &of.counts)
 }
 
-/// The figures as OpenMetrics 1.0 has them.
-#[tactic(auto, unfolding(crate::specs::Figures::metrics_text))]
-pub fn metrics_text(alloc: Global, of: &Snapshot) -> Result<Vec<u8>, AllocError>
-    ensures { IfOk result (λ text. text.items ≡ metrics_text of.now) }
+/// The figures as OpenMetrics 1.0 has them, with the lines of further families before the end.
+#[tactic(auto, using(crate::proofs::Appended::behind), unfolding(crate::specs::Figures::metrics_text))]
+pub fn metrics_text(alloc: Global, of: &Snapshot, further: &[u8]) -> Result<Vec<u8>, AllocError>
+    ensures { IfOk result (λ text. text.items ≡ metrics_text of.now further.now) }
 {
     let mut text = Vec::new(alloc);
     write_families(&mut text, of)?;
+    text.extend_from_slice(further)?;
     text.extend_from_slice(b"# EOF\n")?;
     Ok(text)
 }

@@ -7,21 +7,34 @@
 #![tactic(auto)]
 
 mod answer_counters;
+mod audience;
 mod counter;
 mod counters;
 mod families;
 mod figures;
+mod film_rows;
+mod films;
+mod further;
 mod kinds;
 mod media_failures;
 mod page;
+mod plain;
 mod rows;
+mod session_counts;
 mod snapshot;
+mod viewer_text;
 
 pub use answer_counters::AnswerCounters;
+pub use audience::{Audience, Viewer, Viewing, first_digits};
 pub use counters::Counters;
 pub use figures::metrics_text;
+pub use film_rows::film_section;
+pub use films::{FilmFigures, Transport};
+pub use further::{FilmLine, ProcessFigures, WritingFigures, further_text};
 pub use kinds::{Method, Outcome, Refusal};
 pub use page::{PAGE_HEAD, page_text};
+pub use plain::plain_text;
+pub use session_counts::{LATE_MS, SessionCounts, SessionSums};
 pub use snapshot::{
     BookFigures, ByMethod, ByOutcome, Connections, Counts, Held, Lateness, Packets, Refusals,
     Snapshot,

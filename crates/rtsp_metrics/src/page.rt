@@ -17,8 +17,9 @@ pub const PAGE_HEAD: &[u8] = b"<!doctype html><html lang=en><meta charset=utf-8>
 body{font:16px/1.5 system-ui,sans-serif;max-width:48rem;margin:2rem auto;padding:0 1rem}\
 h1{font-size:1.4rem}h2{font-size:1rem;margin:1.6rem 0 .4rem}\
 table{border-collapse:collapse;width:100%}\
-th,td{padding:.1rem .6rem .1rem 0;text-align:left;font-weight:400}th{width:14rem}\
-td.n{text-align:right;font-variant-numeric:tabular-nums}meter{width:16rem;height:1.1rem}\
+th,td{padding:.1rem .6rem .1rem 0;text-align:left;font-weight:400}th{width:30%}\
+td.n{text-align:right;font-variant-numeric:tabular-nums}meter{width:100%;min-width:16rem;height:1.1rem}\
+@media(max-width:30rem){body{margin:1rem auto;font-size:14px}th,td{padding-right:.3rem}meter{min-width:3rem}}\
 </style><h1>rtspd</h1>\n";
 
 const END: &[u8] = b"<p>The same as text: <a href=\"/metrics\">/metrics</a>\n</html>\n";
@@ -43,8 +44,12 @@ fn server_section(alloc: Global, of: &Snapshot) -> Result<Vec<u8>, AllocError>
             Row::Held(b"Uplink, bit/s", book.rate),
             Row::Held(b"Pairs of ports", book.pairs),
             Row::Held(b"Ports", book.ports),
-            Row::Bar(b"Journal, written", u128::from(book.entries), journal(book)),
-            Row::Bar(b"Journal, owed", u128::from(book.owed), journal(book)),
+            Row::Bar(b"Journal, used", u128::from(book.entries), journal(book)),
+            Row::Bar(
+                b"Journal, kept for ends",
+                u128::from(book.owed),
+                journal(book),
+            ),
             Row::Held(b"Connections", of.connections),
         ],
     )
@@ -100,7 +105,10 @@ fn lateness_section(alloc: Global, of: &Lateness) -> Result<Vec<u8>, AllocError>
     let forty = twenty + u128::from(of.within_40_ms);
     let hundred = forty + u128::from(of.within_100_ms);
     let four_hundred = hundred + u128::from(of.within_400_ms);
-    let all = four_hundred + u128::from(of.later);
+    let second = four_hundred + u128::from(of.within_1_s);
+    let four_seconds = second + u128::from(of.within_4_s);
+    let ten_seconds = four_seconds + u128::from(of.within_10_s);
+    let all = ten_seconds + u128::from(of.later);
     section(
         alloc,
         b"How late packets were sent",
@@ -113,6 +121,9 @@ fn lateness_section(alloc: Global, of: &Lateness) -> Result<Vec<u8>, AllocError>
             Row::Bar(b"Within 40 ms", forty, all),
             Row::Bar(b"Within 100 ms", hundred, all),
             Row::Bar(b"Within 400 ms", four_hundred, all),
+            Row::Bar(b"Within 1 s", second, all),
+            Row::Bar(b"Within 4 s", four_seconds, all),
+            Row::Bar(b"Within 10 s", ten_seconds, all),
         ],
     )
 }
@@ -129,7 +140,7 @@ fn count_section(alloc: Global, of: &Counts) -> Result<Vec<u8>, AllocError>
             Row::Number(b"Connections let in", of.connections.accepted),
             Row::Number(b"Connections closed at once", of.connections.refused),
             Row::Number(b"Headers refused", of.connections.headers_refused),
-            Row::Number(b"Media not read", of.media_failures),
+            Row::Number(b"Reads of films that failed", of.media_failures),
             Row::Number(b"Sessions expired", of.expired),
             Row::Number(b"Journal shortened", of.shortenings),
             Row::Number(b"Log lines dropped", of.log_lines_dropped),
@@ -138,8 +149,13 @@ fn count_section(alloc: Global, of: &Counts) -> Result<Vec<u8>, AllocError>
 }
 
 // The figures behind what every page begins with.
-fn page_with(alloc: Global, head: &[u8], of: &Snapshot) -> Result<Vec<u8>, AllocError>
-    ensures { IfOk result (λ text. text.items ≡ page_text head.now of.now) }
+fn page_with(
+    alloc: Global,
+    head: &[u8],
+    of: &Snapshot,
+    further: &[u8],
+) -> Result<Vec<u8>, AllocError>
+    ensures { IfOk result (λ text. text.items ≡ page_text head.now of.now further.now) }
 {
     let server = server_section(alloc, of)?;
     let requests = request_section(alloc, &of.counts.requests)?;
@@ -149,14 +165,16 @@ fn page_with(alloc: Global, head: &[u8], of: &Snapshot) -> Result<Vec<u8>, Alloc
     let mut text = Vec::new(alloc);
     append_all(
         &mut text,
-        &[head, &server, &requests, &refusals, &lateness, &counts, END],
+        &[
+            head, &server, further, &requests, &refusals, &lateness, &counts, END,
+        ],
     )?;
     Ok(text)
 }
 
-/// The figures as a page for a browser: one file, which loads nothing.
-pub fn page_text(alloc: Global, of: &Snapshot) -> Result<Vec<u8>, AllocError>
-    ensures { IfOk result (λ text. text.items ≡ page_text PAGE_HEAD.now of.now) }
+/// The figures as a page for a browser, with a further section: one file, which loads nothing.
+pub fn page_text(alloc: Global, of: &Snapshot, further: &[u8]) -> Result<Vec<u8>, AllocError>
+    ensures { IfOk result (λ text. text.items ≡ page_text PAGE_HEAD.now of.now further.now) }
 {
-    page_with(alloc, PAGE_HEAD, of)
+    page_with(alloc, PAGE_HEAD, of, further)
 }

@@ -37,9 +37,9 @@ fn write_groups(out: &mut Vec<u8>, more: u8, number: u128) -> Result<(), AllocEr
     append_all(out, &[b",", &digits])
 }
 
-// A number with commas.
+/// A number with commas.
 #[tactic(auto, unfolding(crate::specs::Page::grouped))]
-fn grouped(alloc: Global, number: u128) -> Result<Vec<u8>, AllocError>
+pub(crate) fn grouped(alloc: Global, number: u128) -> Result<Vec<u8>, AllocError>
     ensures { IfOk result (λ text. text.items ≡ grouped number) }
 {
     let mut text = Vec::new(alloc);

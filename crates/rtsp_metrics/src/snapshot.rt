@@ -132,6 +132,9 @@ pub struct Lateness {
     pub within_40_ms: u64,
     pub within_100_ms: u64,
     pub within_400_ms: u64,
+    pub within_1_s: u64,
+    pub within_4_s: u64,
+    pub within_10_s: u64,
     pub later: u64,
     /// In milliseconds.
     pub sum_ms: u64,

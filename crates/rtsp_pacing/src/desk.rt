@@ -10,8 +10,8 @@ use crate::told::ToldSessions;
 use rtsp_book::{Refusal, SessionView, Step};
 use rtsp_content::Table;
 use rtsp_lock::{AnyNumbers, BookLock, BookSeat, Name, Numbers};
-use rtsp_log::{Event, FrameLoss, Log};
-use rtsp_metrics::Counters;
+use rtsp_log::{Event, FrameLoss, Log, SessionName};
+use rtsp_metrics::{Audience, Counters};
 use rtsp_npt::UnitLength;
 use rtsp_record::Phase;
 use rtsp_sockets::{Decisions, Media, Outlets, PortTable, RunningClock};
@@ -36,6 +36,8 @@ pub struct PacerParts<'a, N: Numbers = AnyNumbers> {
     pub decisions: &'a Decisions,
     /// What is told of packets is counted there.
     pub counters: &'a Counters,
+    /// What is sent to each session, and of each presentation, is counted there.
+    pub audience: &'a Audience,
     /// Frames that are dropped are told there.
     pub log: &'a Log,
     /// When the server began. Its moments count from there.
@@ -231,9 +233,9 @@ impl<R: Wait, N: Numbers> PacerDesk<'_, R, N> {
 
 impl<R: Wait + Clock, N: Numbers> PacerDesk<'_, R, N> {
     // Tells that frames of a session were dropped, once for each session.
-    pub(crate) fn tell_dropped(&mut self, session: u64, dropped: Dropped) {
+    pub(crate) fn tell_dropped(&mut self, number: u64, session: SessionName, dropped: Dropped) {
         self.forget_told();
-        if self.told.note(session) {
+        if self.told.note(number) {
             let loss = FrameLoss {
                 frames: dropped.frames,
                 cause: dropped.cause,
@@ -244,9 +246,9 @@ impl<R: Wait + Clock, N: Numbers> PacerDesk<'_, R, N> {
     }
 
     // Tells that a port of a session's player refuses all packets, once for each session.
-    pub(crate) fn tell_refusing(&mut self, session: u64) {
+    pub(crate) fn tell_refusing(&mut self, number: u64, session: SessionName) {
         self.forget_told();
-        if self.refusing.note(session) {
+        if self.refusing.note(number) {
             let event = Event::PortRefuses { session };
             self.parts.log.event(self.rt, event);
         }

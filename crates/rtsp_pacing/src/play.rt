@@ -1,11 +1,13 @@
 //! A play that a pacer sends.
 
+mod audience;
 mod ending;
 mod leaving;
 
 ghost use Rattle.std.specs.Prelude.{◌≡◌, ◌<◌, ◌≤◌, ◌↔◌, IsTrue, IfSome, Some, unwrap_or, if◌then◌else◌};
 ghost use Rattle.rtsp_pacing.specs.Beginning.{Begins, IsApart};
 
+use self::audience::Watched;
 use crate::desk::PacerDesk;
 use crate::dropped::Dropped;
 use crate::frame_run::FrameRun;
@@ -41,6 +43,7 @@ pub(crate) struct PacedPlay {
     asked: NewPlay,
     // The place of its presentation.
     presentation: u16,
+    watched: Watched,
     pacer: Pacer,
     ways: Ways,
     stage: Stage,
@@ -126,6 +129,7 @@ impl PacedPlay {
         let play = PacedPlay {
             asked,
             presentation: place,
+            watched: Watched::by(desk, view, place),
             pacer,
             ways: Ways::of(desk.rt, &desk.parts, view),
             stage: Stage::Sending,
@@ -196,7 +200,7 @@ impl PacedPlay {
     ) {
         let is_refused = self.ways.is_any_spared(moment);
         if is_refused && !self.is_refused {
-            desk.tell_refusing(self.session());
+            desk.tell_refusing(self.session(), self.name());
         }
         self.is_refused = is_refused;
     }
@@ -217,14 +221,14 @@ impl PacedPlay {
         };
         if is_due {
             self.dropped = None;
-            desk.tell_dropped(self.session(), dropped);
+            desk.tell_dropped(self.session(), self.name(), dropped);
         }
     }
 
     // Tells of frames that were dropped, where it wasn't: the pacer is at its end.
     pub(crate) fn tell_rest<R: Wait + Clock, N: Numbers>(&self, desk: &mut PacerDesk<'_, R, N>) {
         if let Some(dropped) = self.dropped {
-            desk.tell_dropped(self.session(), dropped);
+            desk.tell_dropped(self.session(), self.name(), dropped);
         }
     }
 
@@ -369,6 +373,7 @@ impl PacedPlay {
         let failed = failures_in(failed, waits);
         self.dropped = Dropped::count(self.dropped, count.dropped);
         desk.count(count.sent, count.lost, failed, late);
+        self.watched.count(desk, &count, late);
         let next = self.pacer.next_due();
         self.last = moment;
         if waits {

@@ -3,7 +3,7 @@
 ghost use Rattle.std.specs.Prelude.{◌≡◌, ◌-◌, if◌then◌else◌};
 
 use crate::frame_run::FrameRun;
-use crate::packet_count::PacketCount;
+use crate::packet_count::{PacketCount, Portion};
 use crate::ways::Ways;
 use crate::went::Went;
 use rtsp_metrics::Counters;
@@ -58,7 +58,8 @@ impl<R: Wait> PacketSink<'_, '_, R> {
         self.put_run();
         if !self.run.add(track, frame) {
             let went = self.put(track, frame);
-            self.count = self.count.with_more(1, went, self.now);
+            let portion = Portion::of_frames(1, frame);
+            self.count = self.count.with_more(portion, went, self.now);
         }
     }
 
@@ -74,7 +75,10 @@ impl<R: Wait> PacketSink<'_, '_, R> {
         let went = ways.put_frames(rt, now, room, track, self.run.as_bytes());
         let count = match went {
             Went::Dropped(_) if frames > 1 => self.put_each(track, frames),
-            _ => self.count.with_more(frames, went, self.now),
+            _ => {
+                let portion = Portion::of_frames(frames, self.run.as_bytes());
+                self.count.with_more(portion, went, self.now)
+            }
         };
         self.count = count;
         self.run.clear();
@@ -90,7 +94,7 @@ impl<R: Wait> PacketSink<'_, '_, R> {
             };
             at = at.saturating_add(frame.len());
             let went = self.put(track, frame);
-            count = count.with_more(1, went, self.now);
+            count = count.with_more(Portion::of_frames(1, frame), went, self.now);
         }
         count
     }
@@ -123,8 +127,9 @@ impl<R: Wait> Sink for PacketSink<'_, '_, R> {
         match self.ways.channel_number(track) {
             Some(number) => self.gather(track, packet.frame(number)),
             None => {
-                let went = self.ways.send_datagram(self.now, track, packet.datagram());
-                self.count = self.count.with_more(1, went, self.now);
+                let datagram = packet.datagram();
+                let went = self.ways.send_datagram(self.now, track, datagram);
+                self.count = self.count.with_more(Portion::one(datagram), went, self.now);
             }
         }
     }

@@ -363,16 +363,33 @@ impl Client {
 
     /// Takes leave of the connection, and of its sessions. By the lane's handle it is looked which of them
     /// live still.
-    pub(crate) fn end<R: Wait + Net>(mut self, rt: &R, shared: &Shared, lane: &mut BookHandle) {
+    pub(crate) fn end<R: Wait + Net + rt::Clock>(
+        mut self,
+        rt: &R,
+        shared: &Shared,
+        lane: &mut BookHandle,
+    ) {
         let Asker { conn, peer } = self.asker;
         self.outlet.close(rt);
         shared.outlets.remove(rt, conn);
-        let mut binder = shared.unbinder(rt);
-        let mut shares = LaneShares::new(rt, shared.session_shares.as_ref(), lane);
-        if take_leave(rt, &mut self.handle, &mut binder, conn, &mut shares) {
+        if self.end_sessions(rt, shared, lane) {
             shared.ends.note();
+            shared.tell_hung_up(rt, conn, lane);
         }
         shared.gate.leave(rt, self.naming.place(peer));
+    }
+
+    // Ends the sessions that have channels of the connection. Whether any may have ended.
+    fn end_sessions<R: Wait + Net>(
+        &mut self,
+        rt: &R,
+        shared: &Shared,
+        lane: &mut BookHandle,
+    ) -> bool {
+        let conn = self.asker.conn;
+        let mut binder = shared.unbinder(rt);
+        let mut shares = LaneShares::new(rt, shared.session_shares.as_ref(), lane);
+        take_leave(rt, &mut self.handle, &mut binder, conn, &mut shares)
     }
 }
 

@@ -267,7 +267,13 @@ impl Clients {
     }
 
     // Takes leave of a connection.
-    fn end<R: Wait + Net>(&mut self, rt: &R, shared: &Shared, handle: &mut BookHandle, key: usize) {
+    fn end<R: Wait + Net + rt::Clock>(
+        &mut self,
+        rt: &R,
+        shared: &Shared,
+        handle: &mut BookHandle,
+        key: usize,
+    ) {
         self.aside.remove(key);
         if let Some(client) = self.roster.remove(key) {
             let fd = client.fd();
@@ -279,7 +285,11 @@ impl Clients {
 
     // Ends all connections, whatever waits for them: first those that are in the queue, since others
     // needn't be looked for there.
-    fn end_all<R: Wait + Net>(&mut self, service: &Service<'_, R>, handle: &mut BookHandle) {
+    fn end_all<R: Wait + Net + rt::Clock>(
+        &mut self,
+        service: &Service<'_, R>,
+        handle: &mut BookHandle,
+    ) {
         for _ in 0..self.roster.ready() {
             if let Some(key) = self.roster.next_ready() {
                 self.end(service.rt, service.shared, handle, key);

@@ -1,18 +1,24 @@
 //! What is counted and shown of a server, for whoever runs it.
 
 use crate::channels::Channels;
+use crate::further::further;
+use crate::operating::{end_by_operator, sessions_text, standing};
 use crate::service::Service;
+use crate::session_names::{named, viewing_of};
 use crate::shared::Shared;
 use rtsp_content::Table;
 use rtsp_engine::Asker;
 use rtsp_lock::{BookHandle, HandOutFault, Mark, Then};
-use rtsp_log::{Access, Event, moment};
+use rtsp_log::{Access, EndCause, Event, moment};
 use rtsp_metrics::{BookFigures, Counts, Held, Method, Snapshot};
 use rtsp_record::Entry;
 use rtsp_sockets::RunningClock;
-use rtsp_status::Source;
+use rtsp_status::{Further, SessionMeant, Source, Standing};
+use rtsp_threads::OwnUsage;
 use rtsp_watch::{Told, Witness};
+use std::alloc::{AllocError, Global};
 use std::cell::Cell;
+use std::net::Net;
 use std::rt;
 use std::sync::Wait;
 
@@ -96,6 +102,53 @@ impl<'a, R: rt::Clock> AnswerCounter<'a, R> {
     }
 }
 
+impl<R: Wait + rt::Clock> AnswerCounter<'_, R> {
+    // Notes which session was begun or has ended.
+    fn note_session(&self, method: Method, told: &Told<'_>) {
+        let Service { rt, shared, .. } = self.service;
+        if method == Method::Teardown {
+            shared.ends.note();
+        }
+        if let Some(viewing) = viewing_of(told, self.asker, self.service.now) {
+            shared.audience.enter(rt, viewing);
+        }
+        if let Some(life) = told.ended {
+            shared.end_place(rt, life.session);
+        }
+        if method == Method::Setup && may_have_opened(told.status) {
+            self.setups.set(self.setups.get().saturating_add(1));
+        }
+    }
+
+    // Tells the log of the answer, and of the session that has ended.
+    fn tell(&self, told: &Told<'_>) {
+        let Service {
+            rt,
+            shared,
+            lines,
+            ..
+        } = self.service;
+        let log = &shared.log;
+        if told.status == OUT_OF_MEMORY {
+            log.event(rt, Event::OutOfMemory);
+        }
+        if log.logs_access() {
+            let access = Access {
+                peer: self.asker.peer,
+                conn: self.asker.conn,
+                method: told.method,
+                uri: told.uri,
+                status: told.status,
+                session: named(rt, &shared.audience, told),
+            };
+            lines.add(rt, log, self.moment, access);
+        }
+        if let Some(life) = told.ended {
+            shared.tell_ended(rt, life.session, EndCause::Teardown);
+        }
+    }
+}
+
 impl<R: Wait + rt::Clock> Witness for AnswerCounter<'_, R> {
     fn asked(&self, method: &[u8]) {
         if is_counting(Method::of(method)) {
@@ -112,10 +165,7 @@ impl<R: Wait + rt::Clock> Witness for AnswerCounter<'_, R> {
     fn answered(&self, told: &Told<'_>) {
         let method = Method::of(told.method);
         let Service {
-            rt,
-            shared,
             answers,
-            lines,
             recorded,
             ..
         } = self.service;
@@ -126,33 +176,11 @@ impl<R: Wait + rt::Clock> Witness for AnswerCounter<'_, R> {
         if !matches!(method, Method::Options | Method::Describe) || told.session().is_some() {
             recorded.note();
         }
-        if method == Method::Teardown {
-            shared.ends.note();
-        }
-        if let Some(session) = told.ended {
-            shared.end_place(rt, session);
-        }
-        if method == Method::Setup && may_have_opened(told.status) {
-            self.setups.set(self.setups.get().saturating_add(1));
-        }
+        self.note_session(method, told);
         if told.status == UNAVAILABLE {
             self.is_unavailable.set(true);
         }
-        let log = &shared.log;
-        if told.status == OUT_OF_MEMORY {
-            log.event(rt, Event::OutOfMemory);
-        }
-        if log.logs_access() {
-            let access = Access {
-                peer: self.asker.peer,
-                conn: self.asker.conn,
-                method: told.method,
-                uri: told.uri,
-                status: told.status,
-                session: told.session(),
-            };
-            lines.add(rt, log, self.moment, access);
-        }
+        self.tell(told);
     }
 }
 
@@ -171,6 +199,8 @@ pub(crate) struct Figures<'a, R> {
     pub(crate) shared: &'a Shared,
     pub(crate) table: &'a Table,
     pub(crate) handle: BookHandle,
+    /// What the system says of the process, where it does.
+    pub(crate) usage: Option<OwnUsage>,
     /// No entry: nothing is handed out to it.
     pub(crate) nothing: Vec<Entry>,
 }
@@ -216,7 +246,7 @@ impl<R: Wait> Figures<'_, R> {
     }
 }
 
-impl<R: Wait + rt::Clock> Source for Figures<'_, R> {
+impl<R: Wait + Net + rt::Clock> Source for Figures<'_, R> {
     fn snapshot(&mut self) -> Snapshot {
         let open = self.shared.gate.open_now();
         Snapshot {
@@ -228,5 +258,25 @@ impl<R: Wait + rt::Clock> Source for Figures<'_, R> {
             book: self.book(),
             counts: self.counts(),
         }
+    }
+
+    fn further(&mut self, alloc: Global) -> Result<Further, AllocError> {
+        further(self.rt, alloc, self.shared, self.usage.as_ref())
+    }
+
+    fn standing(&mut self) -> Standing {
+        standing(self.rt, self.shared, self.book().rate)
+    }
+
+    fn sessions(&self, alloc: Global) -> Result<Vec<u8>, AllocError> {
+        sessions_text(self.rt, alloc, self.shared)
+    }
+
+    fn drain(&mut self) {
+        self.shared.begin_drain(self.rt);
+    }
+
+    fn end(&mut self, session: SessionMeant) -> bool {
+        end_by_operator(self.rt, self.shared, &mut self.handle, session)
     }
 }

@@ -48,6 +48,10 @@ impl Clients {
         stream: TcpStream,
         peer: u32,
     ) {
+        if service.shared.draining.is_begun() {
+            service.shared.counters.turned_away();
+            return;
+        }
         let gate = &service.shared.gate;
         let is_listed = service.shared.balancers.is_listed(peer);
         let naming = Naming::begin(is_listed, service.now);

@@ -243,7 +243,11 @@ fn open_status<R: Net + rt::Clock + RandomSource>(
         return Ok(None);
     };
     match text.parse::<SocketAddrV4>() {
-        Ok(address) => Ok(Some(StatusServer::open(rt, alloc, SocketAddr::V4(address))?)),
+        Ok(address) => {
+            let address = SocketAddr::V4(address);
+            let is_open = operation.status_open();
+            Ok(Some(StatusServer::open(rt, alloc, address, is_open)?))
+        }
         Err(_) => Err(ServerFault::DeviceFailed),
     }
 }
@@ -306,10 +310,11 @@ fn open_pacers<R: Wait>(
 }
 
 // The descriptors that whoever runs the server has besides: for the log, for those who look at the
-// figures, and for a file of the journal, the next one and their folder.
+// figures and for the account of what the process has used, and for a file of the journal, the next one
+// and their folder.
 fn kept_for(operation: &Operation) -> u64 {
     let shown = if operation.status().is_some() {
-        PEERS as u64 + 1
+        PEERS as u64 + 2
     } else {
         0
     };

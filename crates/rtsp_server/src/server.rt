@@ -14,7 +14,7 @@ use rtsp_content::{Operation, Table};
 use rtsp_lock::{BookHandle, LockBook};
 use rtsp_log::Event;
 use rtsp_status::StatusServer;
-use rtsp_threads::{OwnStatus, PoolEnd, StopBell, close_book};
+use rtsp_threads::{OwnStatus, OwnUsage, PoolEnd, StopBell, close_book};
 use std::alloc::Global;
 use std::fs::File;
 use std::io::{Eprint, Write};
@@ -39,6 +39,14 @@ pub struct ServerEnd {
 pub trait Announce: Drop {
     /// Whether it could pass the address on. Where it couldn't, the server ends.
     fn announce(&mut self, address: SocketAddr) -> bool;
+}
+
+// What the system says of the process, where figures are shown.
+fn usage_for<R: Files<File = File>>(rt: &R, status: &Option<StatusServer>) -> Option<OwnUsage> {
+    match status {
+        Some(_) => OwnUsage::open(rt).ok(),
+        None => None,
+    }
 }
 
 impl Parts {
@@ -208,6 +216,7 @@ impl Server {
         start.is_short = !(parts.start_readers(rt) && parts.start_scribe(rt, scribe, written));
         let beside = Beside {
             signals: OwnStatus::open(rt).ok(),
+            usage: usage_for(rt, &status),
             status,
             handle: shown,
             last,

@@ -2,6 +2,8 @@
 
 use crate::all_lanes::AllLanes;
 use crate::balancers::Balancers;
+use crate::draining::Draining;
+use crate::end_lines::EndLines;
 use crate::end_note::EndNote;
 use crate::opening::Opening;
 use crate::stopping::StopTimes;
@@ -9,8 +11,8 @@ use crate::unread::HELD_IN_ALL;
 use mio::net::TcpListener;
 use rtsp_content::{Operation, Server, Table};
 use rtsp_lock::BookHandle;
-use rtsp_log::{BATCH_LINES, Event, HeaderCause, Log};
-use rtsp_metrics::Counters;
+use rtsp_log::{BATCH_LINES, Event, HeaderCause, Log, moment};
+use rtsp_metrics::{Audience, Counters};
 use rtsp_pacing::Bells;
 use rtsp_shares::{ShareTable, Watermark};
 use rtsp_sockets::{Decisions, LENT_IN_ALL, Outlets, PortBinder, PortTable, SharedRoom};
@@ -21,6 +23,7 @@ use rtsp_threads::{
 };
 use std::alloc::{AllocError, Global};
 use std::net::Ipv4Addr;
+use std::sync::atomic::AtomicU64;
 use std::sync::{Arc, Mutex, Wait};
 use std::time::Instant;
 use std::{io, rt};
@@ -64,13 +67,20 @@ pub(crate) struct Shared {
     pub(crate) halt: Halt,
     /// What is counted for whoever runs the server.
     pub(crate) counters: Counters,
+    /// Who watches what.
+    pub(crate) audience: Audience,
     /// What is told to whoever runs the server.
     pub(crate) log: Log,
-    /// From when on moments are counted.
+    pub(crate) end_lines: EndLines,
+    /// From when on moments are counted, and when that was, in milliseconds since 1970.
     pub(crate) begun: Instant,
+    pub(crate) started: u64,
     /// How far the lanes have read, so that connections which were silent up to then are over.
     pub(crate) watermark: Mutex<Watermark>,
     pub(crate) ends: EndNote,
+    pub(crate) draining: Draining,
+    /// When a sweep saw last that the journal is written, where it is to be.
+    pub(crate) written_at: AtomicU64,
     pub(crate) lanes: AllLanes,
     pub(crate) decisions: Decisions,
 }
@@ -91,10 +101,15 @@ impl Drop for Shared {
             scribe: _scribe,
             halt: _halt,
             counters: _counters,
+            audience: _audience,
             log: _log,
+            end_lines: _end_lines,
             begun: _,
+            started: _,
             watermark: _watermark,
             ends: _ends,
+            draining: _draining,
+            written_at: _written_at,
             lanes: _lanes,
             decisions: _decisions,
         } = self;
@@ -147,7 +162,9 @@ impl Shared {
         let gate = Gate::new(alloc, connections, numbers.connections_per_address)?;
         let balancers = Balancers::open(alloc, of.operation.proxy())?;
         let session_shares = session_shares(alloc, numbers)?;
+        let audience = Audience::open(alloc, of.table.presentations().len())?;
         let log = open_log(alloc, of.operation.access_log())?;
+        let end_lines = EndLines::open(alloc, of.table)?;
         Ok(Shared {
             listener,
             gate,
@@ -161,10 +178,15 @@ impl Shared {
             scribe: scribe_bell(of.operation),
             halt: Halt::new(),
             counters: Counters::new(),
+            audience,
             log,
+            end_lines,
             begun,
+            started: moment(rt),
             watermark: Mutex::new(watermark),
             ends: EndNote::new(),
+            draining: Draining::new(of.operation.drain()),
+            written_at: AtomicU64::new(0),
             lanes: AllLanes::new(alloc),
             decisions: Decisions::open(alloc, usize::from(numbers.workers))?,
         })

@@ -21,7 +21,7 @@ pub(crate) struct StopTimes {
 
 impl StopTimes {
     /// Those of a stop that is asked for once.
-    fn after_first(now: u64) -> StopTimes {
+    pub(crate) fn after_first(now: u64) -> StopTimes {
         let hang_up = now.saturating_add(STOP_LIMIT);
         StopTimes {
             hang_up,

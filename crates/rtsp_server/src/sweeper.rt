@@ -1,6 +1,7 @@
 //! The thread that ends sessions whose time is over, and keeps the journal from growing beyond what
 //! lives.
 
+use crate::operating::note_writing;
 use crate::shared::Shared;
 use rtsp_lock::BookHandle;
 use rtsp_log::{Event, Log};
@@ -28,7 +29,7 @@ fn end_expired<R: Wait + Net + rt::Clock>(
             break;
         };
         shared.end_place(rt, session);
-        shared.log.event(rt, Event::Expired { session });
+        shared.tell_expired(rt, session);
         ended = ended.saturating_add(1);
     }
     ended
@@ -83,7 +84,7 @@ fn begin_sweep<R: Wait>(rt: &R, watermark: &Mutex<Watermark>, now: u64) -> u64 {
 /// Ends from time to time the sessions that had expired when all lanes had read what had come, until
 /// it is told to stop. After each sweep places are given back that are kept for sessions of whose end
 /// nobody told. Then it forgets the sessions that have ended, and has those that live
-/// restated where they have done much. So the journal is as long as what lives and what was done since.
+/// restated where they have done much. A drain is followed, too. So the journal is as long as what lives and what was done since.
 /// Where the journal is written to files, the thread that does that shortens it, and this one doesn't.
 /// Ports that others were found to have are tried again from each sweep on.
 pub(crate) fn run_sweeper<R: Wait + Net + rt::Clock>(
@@ -93,6 +94,8 @@ pub(crate) fn run_sweeper<R: Wait + Net + rt::Clock>(
 ) {
     let mut binder = shared.unbinder(rt);
     let mut held = HeldJournal { is_told: false };
+    // Whether a session doesn't live any more of whose end nobody has told.
+    let mut is_any_missing = false;
     for _ in rt.forever() {
         if shared
             .stop_bell
@@ -104,6 +107,7 @@ pub(crate) fn run_sweeper<R: Wait + Net + rt::Clock>(
         let moment = begin_sweep(rt, &shared.watermark, now);
         tell_media_failure(rt, &shared.counters, &shared.log);
         held.tell(rt, shared);
+        note_writing(rt, shared, now);
         shared.ports.forget_taken(rt);
         let ended = end_expired(rt, &mut handle, &mut binder, shared, moment);
         if ended > 0 {
@@ -111,6 +115,11 @@ pub(crate) fn run_sweeper<R: Wait + Net + rt::Clock>(
             shared.counters.expired(ended);
         }
         let has_ended = shared.ends.take();
+        if has_ended || is_any_missing {
+            is_any_missing = shared.tell_untold(rt, &mut handle);
+        }
+        shared.end_lines.hand_over(rt, &shared.log);
+        shared.follow_drain(rt, &mut handle, now);
         if has_ended && let Some(places) = &shared.session_shares {
             give_back_ended(rt, places, &mut handle);
         }

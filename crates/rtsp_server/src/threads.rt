@@ -14,7 +14,7 @@ use rtsp_log::{Event, LogWriter, SleepPause, StderrSink};
 use rtsp_pacing::{PacerParts, PacerPlays, PacerRoom, pace};
 use rtsp_sockets::{Media, Reader};
 use rtsp_status::StatusServer;
-use rtsp_threads::{OwnStatus, PoolEnd, STANDING_LIMIT, StopBell, end_expired, run_pool};
+use rtsp_threads::{OwnStatus, OwnUsage, PoolEnd, STANDING_LIMIT, StopBell, end_expired, run_pool};
 use std::alloc::Global;
 use std::fs::File;
 use std::io::{Eprint, Write};
@@ -83,6 +83,7 @@ impl Drop for Start {
 pub(crate) struct Beside {
     pub(crate) signals: Option<OwnStatus>,
     pub(crate) status: Option<StatusServer>,
+    pub(crate) usage: Option<OwnUsage>,
     pub(crate) handle: BookHandle,
     // The handle of the book that is left at the end.
     pub(crate) last: BookHandle,
@@ -107,23 +108,25 @@ pub(crate) struct OnePacer {
 }
 
 // The body of the thread that shows the figures, where that is wanted. It is lent no more than it needs.
-fn show<R: Wait + rt::Clock>(
+fn show<R: Wait + Net + rt::Clock>(
     rt: &R,
     alloc: Global,
     table: &Table,
     shared: &Shared,
     status: Option<StatusServer>,
+    usage: Option<OwnUsage>,
     handle: BookHandle,
 ) {
     if let Some(mut status) = status {
-        let mut figures = Figures {
+        let figures = Figures {
             rt,
             shared,
             table,
             handle,
+            usage,
             nothing: Vec::new(alloc),
         };
-        status.run(rt, &mut figures, &shared.halt);
+        status.run(rt, figures, &shared.halt);
     }
 }
 
@@ -162,6 +165,7 @@ impl Parts {
                 bell,
                 decisions: &shared.decisions,
                 counters: &shared.counters,
+                audience: &shared.audience,
                 log: &shared.log,
                 begun: shared.begun,
             };
@@ -247,6 +251,7 @@ impl Parts {
     ) -> Option<Doubt> {
         let mut binder = self.shared.unbinder(rt);
         end_expired(rt, last, &mut binder, u64::MAX);
+        self.shared.tell_stopped(rt);
         self.stop_scribe(rt);
         self.leave_readers(rt);
         self.leave_scribe(rt)
@@ -275,13 +280,14 @@ impl Parts {
             let Beside {
                 signals,
                 status,
+                usage,
                 handle,
                 mut last,
             } = beside;
             let (table, shared) = (&self.table, &*self.shared);
             let watches = scope.spawn(move || self.watch(rt, signals)).is_ok();
             let shows = scope
-                .spawn(move || show(rt, alloc, table, shared, status, handle))
+                .spawn(move || show(rt, alloc, table, shared, status, usage, handle))
                 .is_ok();
             if !(watches && shows) {
                 self.stop_for_want_of_threads(rt);

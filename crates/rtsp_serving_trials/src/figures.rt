@@ -66,7 +66,7 @@ const FAMILIES: &str = "\
 # HELP rtspd_uptime_seconds Since the server began.
 rtspd_uptime_seconds 61
 ..
-rtspd_uplink_bits_per_second{state=\"free\"} 8500000
+rtspd_uplink_bytes_per_second{state=\"free\"} 1062500.000
 ..
 rtspd_port_pairs{state=\"held\"} 1
 ..
@@ -84,6 +84,8 @@ rtspd_refusals_total{reason=\"unavailable\"} 2
 rtspd_packet_lateness_seconds_bucket{le=\"0.005\"} 1234567
 rtspd_packet_lateness_seconds_bucket{le=\"0.01\"} 1234570
 ..
+rtspd_packet_lateness_seconds_bucket{le=\"4.0\"} 1234570
+rtspd_packet_lateness_seconds_bucket{le=\"10.0\"} 1234571
 rtspd_packet_lateness_seconds_bucket{le=\"+Inf\"} 1234571
 rtspd_packet_lateness_seconds_count 1234571
 rtspd_packet_lateness_seconds_sum 1244.587
@@ -112,7 +114,7 @@ const ROWS: &str = "\
 
 #[test]
 fn metrics_text_has_the_figures(rt: HostRuntime) -> Result<(), Fail> {
-    let text = metrics_text(rt.alloc(), &snapshot())?;
+    let text = metrics_text(rt.alloc(), &snapshot(), b"")?;
     has_lines(&rt, &text, FAMILIES);
     assert!(rt; text.ends_with(b"# EOF\n"));
     Ok(())
@@ -120,7 +122,7 @@ fn metrics_text_has_the_figures(rt: HostRuntime) -> Result<(), Fail> {
 
 #[test]
 fn page_has_the_same_figures(rt: HostRuntime) -> Result<(), Fail> {
-    has_lines(&rt, &page_text(rt.alloc(), &snapshot())?, ROWS);
+    has_lines(&rt, &page_text(rt.alloc(), &snapshot(), b"")?, ROWS);
     Ok(())
 }
 

@@ -6,6 +6,8 @@
 #![tactic(auto)]
 
 #[cfg(test)]
+mod audience;
+#[cfg(test)]
 mod conversations;
 #[cfg(test)]
 mod crowds;

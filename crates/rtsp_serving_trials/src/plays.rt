@@ -15,7 +15,7 @@ use rtsp_content::Table;
 use rtsp_engine::{Binder, Plays};
 use rtsp_lock::{BookLock, BookSeat, open};
 use rtsp_log::Log;
-use rtsp_metrics::Counters;
+use rtsp_metrics::{Audience, Counters};
 use rtsp_pacing::{Bells, NotedPlays, Paced, PacerParts, PacerPlays, PacerRoom, pace};
 use rtsp_record::{Phase, Whole};
 use rtsp_sockets::{Decisions, Media, Outlet, Outlets, PortBinder, PortTable};
@@ -348,6 +348,7 @@ fn paced<R: Threads + Wait + Clock + AllocGlobal + Sync>(
         stage,
     } = served;
     let counters = Counters::new();
+    let audience = Audience::open(rt.alloc(), 1).ok()?;
     let log = Log::new(rt.alloc(), 1, false).ok()?;
     let parts = PacerParts {
         lock,
@@ -358,6 +359,7 @@ fn paced<R: Threads + Wait + Clock + AllocGlobal + Sync>(
         bell: stage.bells.of(2)?,
         decisions: &stage.decisions,
         counters: &counters,
+        audience: &audience,
         log: &log,
         begun,
     };

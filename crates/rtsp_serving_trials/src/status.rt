@@ -3,7 +3,8 @@
 use crate::figures::snapshot;
 use crate::parts::contains;
 use rtsp_metrics::Snapshot;
-use rtsp_status::{Halt, Source, StatusServer};
+use rtsp_status::{Agent, Further, Halt, SessionMeant, Source, Standing, StatusServer};
+use std::alloc::{AllocError, Global};
 use std::io::{self, Read, Write};
 use std::net::{Ipv4Addr, Net, SocketAddr, SocketAddrV4, TcpStream};
 use std::test::Fail;
@@ -16,6 +17,34 @@ struct SomeFigures;
 impl Source for SomeFigures {
     fn snapshot(&mut self) -> Snapshot {
         snapshot()
+    }
+
+    fn further(&mut self, alloc: Global) -> Result<Further, AllocError> {
+        let mut lines = Vec::new(alloc);
+        lines.extend_from_slice(b"# TYPE more counter\n# HELP more Of it.\nmore_total 1\n")?;
+        Ok(Further {
+            lines,
+            section: Vec::new(alloc),
+        })
+    }
+
+    fn standing(&mut self) -> Standing {
+        Standing {
+            is_ready: true,
+            agent: Agent::Free(85),
+        }
+    }
+
+    fn sessions(&self, alloc: Global) -> Result<Vec<u8>, AllocError> {
+        let mut text = Vec::new(alloc);
+        text.extend_from_slice(b"[]\n")?;
+        Ok(text)
+    }
+
+    fn drain(&mut self) {}
+
+    fn end(&mut self, session: SessionMeant) -> bool {
+        session.number == 28 && session.digits.unwrap_or(0x0a1b_2c3d) == 0x0a1b_2c3d
     }
 }
 
@@ -40,6 +69,27 @@ const ASKED: &str = "\
     GET / HTTP/1.1 -> HTTP/1.1 200 OK\r\n..<tr><th>Sessions<td><td class=n>3\n|\
     HEAD / HTTP/1.1 -> HTTP/1.1 200 OK\r\n..\r\n\r\n|\
     GET /x HTTP/1.1 -> HTTP/1.1 404 ..\r\n\r\n|\
+    GET /metrics HTTP/1.1 -> HTTP/1.1 200 OK\r\n..\nmore_total 1\n# EOF\n|\
+    GET /metrics HTTP/1.1\r\nAccept: text/plain -> HTTP/1.1 200 OK\r\n..# TYPE more_total counter\n# HELP more_total Of it.\nmore_total 1\n|\
+    GET /healthz HTTP/1.1 -> HTTP/1.1 200 OK\r\n..\r\n\r\nok\n|\
+    GET /ready HTTP/1.1 -> HTTP/1.1 200 OK\r\n..\r\n\r\nready\n|\
+    OPTIONS / HTTP/1.1 -> HTTP/1.1 200 OK\r\n..\r\n\r\nready\n|\
+    GET /agent HTTP/1.1 -> HTTP/1.1 200 OK\r\n..\r\n\r\nready 85%\n|\
+    GET /agent -> ready 85%\n..ready 85%\n|\
+    GET /sessions HTTP/1.1 -> HTTP/1.1 200 OK\r\n..\r\n\r\n[]\n|\
+    POST /drain HTTP/1.1 -> HTTP/1.1 200 OK\r\n..\r\n\r\n|\
+    POST /drain HTTP/1.1\r\nOrigin: http://h -> HTTP/1.1 403 ..\r\n\r\n|\
+    GET /sessions HTTP/1.1\r\nOrigin: http://h -> HTTP/1.1 403 ..\r\n\r\n|\
+    GET /drain HTTP/1.1 -> HTTP/1.1 404 ..\r\n\r\n|\
+    POST /sessions/28/end HTTP/1.1 -> HTTP/1.1 200 OK\r\n..\r\n\r\n|\
+    POST /sessions/28:0a1b2c3d/end HTTP/1.1 -> HTTP/1.1 200 OK\r\n..\r\n\r\n|\
+    POST /sessions/28:0a1b2c3e/end HTTP/1.1 -> HTTP/1.1 404 ..\r\n\r\n|\
+    POST /sessions/29/end HTTP/1.1 -> HTTP/1.1 404 ..\r\n\r\n|\
+    POST /sessions/28:0a1b/end HTTP/1.1 -> HTTP/1.1 404 ..\r\n\r\n|\
+    POST /sessions/28:+a1b2c3d/end HTTP/1.1 -> HTTP/1.1 404 ..\r\n\r\n|\
+    POST /sessions/+28/end HTTP/1.1 -> HTTP/1.1 404 ..\r\n\r\n|\
+    POST /sessions//end HTTP/1.1 -> HTTP/1.1 404 ..\r\n\r\n|\
+    POST /sessions/28 HTTP/1.1 -> HTTP/1.1 405 ..\r\n\r\n|\
     POST / HTTP/1.1 -> HTTP/1.1 405 ..allow: GET, HEAD\r\n|\
     POST / HTTP/1.1\r\nContent-Length: 9 -> HTTP/1.1 413 ..\r\n|\
     no request -> HTTP/1.1 400 ..\r\n";
@@ -71,12 +121,12 @@ fn first_wrong<R: Net<Stream = TcpStream> + AllocGlobal>(
 #[test]
 fn each_request_has_its_answer(rt: HostRuntime) -> Result<(), Fail> {
     let any = SocketAddr::V4(SocketAddrV4::new(Ipv4Addr::LOCALHOST, 0));
-    let mut server = StatusServer::open(&rt, rt.alloc(), any)?;
+    let mut server = StatusServer::open(&rt, rt.alloc(), any, false)?;
     let address = server.address()?;
     let halt = Halt::new();
     let (_, wrong) = thread::join(
         &rt,
-        || server.run(&rt, &mut SomeFigures, &halt),
+        || server.run(&rt, SomeFigures, &halt),
         || {
             let wrong = first_wrong(&rt, address);
             halt.halt();

@@ -1,17 +1,19 @@
 //! The thread that serves.
 
+use crate::asked::SessionMeant;
 use crate::halt::Halt;
 use crate::limits::{HEAD, LIFE, PEERS};
-use crate::peer::Peer;
+use crate::peer::{Peer, nearness_of};
 use crate::service::StatusService;
-use crate::shown::Shown;
+use crate::shown::Further;
+use crate::standing::Standing;
 use crate::watch::{EVENTS, Watch};
 use http_server::{Config, Connection};
 use mio::net::{TcpListener, TcpStream};
 use mio::{Interest, Token};
 use rtsp_metrics::Snapshot;
 use slab::Slab;
-use std::alloc::Global;
+use std::alloc::{AllocError, Global};
 use std::hash::RandomState;
 use std::io;
 use std::net::{Net, SocketAddr};
@@ -26,9 +28,23 @@ const LISTENER: Token = Token(usize::MAX);
 // How often the server looks whether it is to end, and whether a connection has lasted too long.
 const LOOK: u64 = 250;
 
-/// Whoever tells what there is to show.
-pub trait Source {
+/// Whoever tells what there is to show, and does what is asked for.
+pub trait Source: Drop {
     fn snapshot(&mut self) -> Snapshot;
+
+    /// What is shown beside it.
+    fn further(&mut self, alloc: Global) -> Result<Further, AllocError>;
+
+    fn standing(&mut self) -> Standing;
+
+    /// Who watches what, as JSON.
+    fn sessions(&self, alloc: Global) -> Result<Vec<u8>, AllocError>;
+
+    /// No more connections are to be let in, and the server ends once nothing plays any more.
+    fn drain(&mut self);
+
+    /// Ends a session. Whether there was such a one.
+    fn end(&mut self, session: SessionMeant) -> bool;
 }
 
 /// A server that listens.
@@ -39,6 +55,7 @@ pub struct StatusServer {
     watch: Watch,
     peers: Slab<Peer>,
     begun: Instant,
+    is_open: bool,
 }
 
 // Written out, so that whoever lets go of it makes one call, and not one for each of its parts.
@@ -51,6 +68,7 @@ impl Drop for StatusServer {
             watch: _watch,
             peers: _peers,
             begun: _begun,
+            is_open: _,
         } = self;
     }
 }
@@ -73,11 +91,13 @@ fn config() -> Config {
 }
 
 impl StatusServer {
-    /// Listens at an address. An error where it is taken, or where there is no descriptor.
+    /// Listens at an address. Players' addresses are shown to all where `is_open`, else to this machine
+    /// alone. An error where the address is taken, or where there is no descriptor.
     pub fn open<R: Net + Clock + RandomSource>(
         rt: &R,
         alloc: Global,
         address: SocketAddr,
+        is_open: bool,
     ) -> io::Result<StatusServer> {
         let keys = RandomState::new(rt)?;
         let begun = Instant::now(rt)?;
@@ -89,6 +109,7 @@ impl StatusServer {
             watch,
             peers: Slab::new(alloc),
             begun,
+            is_open,
         })
     }
 
@@ -135,10 +156,10 @@ impl StatusServer {
     }
 
     // Takes a connection in, or closes it where there is no memory.
-    fn receive(&mut self, stream: TcpStream, now: u64) {
+    fn receive(&mut self, stream: TcpStream, address: SocketAddr, now: u64) {
         self.make_place();
         let http = Connection::new(self.alloc, self.keys, config());
-        let peer = Peer::new(stream, http, now);
+        let peer = Peer::new(stream, http, nearness_of(address), now);
         let fd = peer.fd();
         let Ok(key) = self.peers.insert(peer) else {
             return;
@@ -152,7 +173,7 @@ impl StatusServer {
     fn accept_all(&mut self, now: u64) {
         for _ in 0..PEERS {
             match self.listener.accept() {
-                Ok((stream, _)) => self.receive(stream, now),
+                Ok((stream, address)) => self.receive(stream, address, now),
                 Err(_) => return,
             }
         }
@@ -169,25 +190,24 @@ impl StatusServer {
         }
     }
 
-    fn visit(&mut self, shown: &Shown, key: usize) {
-        let mut service = StatusService { shown };
-        let is_over = match self.peers.get_mut(key) {
-            Some(peer) => peer.visit(&mut service),
-            None => false,
+    fn visit<S: Source>(&mut self, service: &mut StatusService<S>, key: usize) {
+        let Some(peer) = self.peers.get_mut(key) else {
+            return;
         };
-        if is_over {
+        service.nearness = peer.nearness();
+        if peer.visit(service) {
             self.end(key);
         }
     }
 
     // Visits those of which the system tells, and lets in those that wait.
-    fn turn(&mut self, shown: &Shown, now: u64) {
+    fn turn<S: Source>(&mut self, service: &mut StatusService<S>, now: u64) {
         for place in 0..EVENTS {
             let Some(token) = self.watch.token_at(place) else {
                 break;
             };
             if token != LISTENER {
-                self.visit(shown, token.0);
+                self.visit(service, token.0);
             }
         }
         self.accept_all(now);
@@ -196,28 +216,23 @@ impl StatusServer {
 
     // One wait and what comes of it. The snapshot is taken before any request is answered from it;
     // where there is no memory for its texts, what was shown last is shown again.
-    fn serve_once<S: Source>(&mut self, source: &mut S, shown: &mut Shown, now: u64) {
-        if !self.watch.is_quiet()
-            && let Ok(fresh) = Shown::of(self.alloc, &source.snapshot())
-        {
-            *shown = fresh;
+    fn serve_once<S: Source>(&mut self, service: &mut StatusService<S>, now: u64) {
+        if !self.watch.is_quiet() {
+            service.look();
         }
-        self.turn(shown, now);
+        self.turn(service, now);
     }
 
     /// Serves until it is told to end. Each turn shows what `source` has then.
-    pub fn run<R: Wait + Clock, S: Source>(&mut self, rt: &R, source: &mut S, halt: &Halt) {
-        let mut shown = Shown {
-            metrics: Vec::new(self.alloc),
-            page: Vec::new(self.alloc),
-        };
+    pub fn run<R: Wait + Clock, S: Source>(&mut self, rt: &R, source: S, halt: &Halt) {
+        let mut service = StatusService::new(self.alloc, source, self.is_open);
         for _ in rt.forever() {
             self.watch.wait(Duration::from_millis(LOOK));
             if halt.is_halted() {
                 break;
             }
             let now = self.now(rt);
-            self.serve_once(source, &mut shown, now);
+            self.serve_once(&mut service, now);
         }
     }
 }

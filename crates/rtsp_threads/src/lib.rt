@@ -3,17 +3,18 @@
 //! `limits` has the numbers, `descriptors` what the system allows. `acceptor` is where connections come
 //! from, `gate` says which are let in, `activity` when one was heard of, and `timed_reader` ends a visit
 //! to it. `pool` runs a thread for each lane, whatever a lane does, and `holdings` is what their book is
-//! opened over. `lane_shares` is what an
-//! address may have of the sessions, `leaving` ends sessions. `relieving` keeps the journal from filling:
-//! `room_looks` says when a lane looks for room in it, `room_wait` for how long it is waited for.
+//! opened over. `lane_shares` is what an address may have of the sessions, `leaving` and `ending` end
+//! sessions. `relieving` keeps the journal from filling: `room_looks` says when a lane looks for room in
+//! it, `room_wait` for how long it is waited for.
 //! `scribe` writes the journal to files, `scribe_bell` wakes it, and `file_requests` are new files for it.
-//! `signals` and `stop_bell` are how threads are asked to end.
+//! `signals` and `stop_bell` are how threads are asked to end, `process` what the system says of them.
 
 #![tactic(auto)]
 
 mod acceptor;
 mod activity;
 mod descriptors;
+mod ending;
 mod file_requests;
 mod gate;
 mod holdings;
@@ -21,6 +22,7 @@ mod lane_shares;
 mod leaving;
 mod limits;
 mod pool;
+mod process;
 mod relieving;
 mod room_looks;
 mod room_wait;
@@ -33,6 +35,7 @@ mod timed_reader;
 pub use acceptor::{Accepted, Acceptor};
 pub use activity::Activity;
 pub use descriptors::{connections_for, descriptor_limit};
+pub use ending::end_session;
 pub use file_requests::FileRequests;
 pub use gate::Gate;
 pub use holdings::whole_of;
@@ -45,6 +48,7 @@ pub use limits::{
     SWEEP_EVERY, SWEEP_SESSIONS, TURN_EVERY, TURN_TIME, VISIT_TIME,
 };
 pub use pool::{Lane, LaneTurn, PoolEnd, run_pool};
+pub use process::{OwnUsage, Usage};
 pub use relieving::{ask_for_room, make_room};
 pub use room_looks::RoomLooks;
 pub use room_wait::RoomWait;

@@ -84,8 +84,9 @@ pub const JOURNAL_LEFT_AT_ONCE: u64 = 120;
 /// ones are dropped and counted.
 pub const LOG_LINES: usize = 4_096;
 
-/// The same where only events have lines.
-pub const FEW_LINES: usize = 128;
+/// The same where only events have lines, and sessions that end, up to twenty in a batch: all sessions
+/// may end at once.
+pub const FEW_LINES: usize = 256;
 
 /// The thread that writes the journal isn't waited for once it has been at one turn for so long: a disk
 /// may hold it up.

@@ -34,11 +34,21 @@ fn behind_line(text: &[u8]) -> Option<&[u8]> {
     text.get(at + 1..)
 }
 
-/// The first eight digits of the session that a response names: in its third line, behind those of the
-/// status and of the request's number.
-pub(crate) fn session_of(response: &[u8]) -> Option<u32> {
+// So many digits of the session that a response names: in its third line, behind those of the status
+// and of the request's number.
+fn digits_of(response: &[u8], count: usize) -> Option<u128>
+    requires { count ≤ 32 }
+{
     let third = behind_line(behind_line(response)?)?;
-    let digits = third.strip_prefix(SESSION)?.get(..8)?;
-    let number = hex_number(digits)?;
-    u32::try_from(number).ok()
+    hex_number(third.strip_prefix(SESSION)?.get(..count)?)
+}
+
+/// The first eight digits of the session that a response names.
+pub(crate) fn session_of(response: &[u8]) -> Option<u32> {
+    u32::try_from(digits_of(response, 8)?).ok()
+}
+
+/// The id of the session that a response names.
+pub(crate) fn id_of(response: &[u8]) -> Option<u128> {
+    digits_of(response, 32)
 }

@@ -6,7 +6,7 @@ ghost use Rattle.rtsp_engine.specs.Served.{Answered, FaultedAfter, at};
 ghost use Rattle.rtsp_dialect.specs.Repairing.{TakesRepaired, FaultsRepaired};
 ghost use Rattle.rtsp_watch.specs.Watching.{AnswersWatched, GivesUpWatched};
 
-use crate::ending::{Recorder, ended_by};
+use crate::ending::{Recorder, ended_by, set_up_by};
 use crate::reading::status_of;
 use crate::witness::{Told, Witness};
 use rtsp_dialect::push_repaired;
@@ -31,6 +31,7 @@ fn tell<A: Recorder, T: Witness>(answerer: &A, witness: &T, request: &Request, r
         status,
         response,
         ended: ended_by(answerer, &request.method, status),
+        set_up: set_up_by(answerer, &request.method, status),
     });
 }
 

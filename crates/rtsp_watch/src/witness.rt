@@ -1,6 +1,7 @@
 //! Who is told of answers.
 
-use crate::reading::session_of;
+use crate::reading::{id_of, session_of};
+use rtsp_record::{Life, Setup};
 
 /// A request that was answered.
 #[derive(Clone, Copy)]
@@ -13,8 +14,10 @@ pub struct Told<'a> {
     pub status: u16,
     /// As it will be written; empty where there is none.
     pub response: &'a [u8],
-    /// The number of the session that it has ended, if it has ended one.
-    pub ended: Option<u64>,
+    /// The session that it has ended, if it has ended one.
+    pub ended: Option<Life>,
+    /// The track that it has set up, if it has set one up.
+    pub set_up: Option<Setup>,
 }
 
 impl Told<'_> {
@@ -22,6 +25,11 @@ impl Told<'_> {
     /// asked, or which it has opened.
     pub fn session(&self) -> Option<u32> {
         session_of(self.response)
+    }
+
+    /// The id of that session. Whoever has it may act on the session.
+    pub fn id(&self) -> Option<u128> {
+        id_of(self.response)
     }
 }
 
