@@ -48,7 +48,7 @@ ASKED = [
     *[("SETUP", "/a", (OVER_UDP,))] * 3,
     ("RECORD", "", ()),
 ]
-ACCESS = re.compile(rb'\S+Z access 127\.0\.0\.1 (\d+) "([^"]*)" "([^"]*)" (\d+) (?:(\d+):)?(?:(\d+):)?([0-9a-f]{8}|-)\n')
+ACCESS = re.compile(rb'\S+Z access 127\.0\.0\.1 (\d+) "([^"]*)" "([^"]*)" (\d+) (?:(\d+):)?([0-9a-f]{8}|-)\n')
 
 
 def shown_at() -> Tuple[int, str]:
