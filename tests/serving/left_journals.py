@@ -139,12 +139,12 @@ def a_stop_waits_for_a_new_file(checks: Checks) -> None:
         talk = server.connect()
         session = set_up(talk, server)
         time.sleep(LATE)
-        disk.meet("create", late=5_000)
+        disk.meet("create", late=1_500)
         disk.meet("sync", 1, 1, errno.EIO)
         asks(talk, server, session, "PLAY", "PAUSE")
         checks.that("a file is being made", until(lambda: disk.asked("create") > 0))
         server.process.send_signal(signal.SIGTERM)
-        checks.same("the status", 0, server.ends(20.0))
+        checks.same("the status", 0, server.ends(10.0))
         ends_empty(checks, server, "after a file that was made late")
 
 

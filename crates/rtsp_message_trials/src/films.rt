@@ -217,7 +217,7 @@ fn what_is_malformed_is_named_and_not_sent(rt: HostRuntime) {
 fn begins_at(alloc: Global) -> Option<[u32; 5]> {
     let table = Table::read(alloc, FILM.as_bytes()).ok()?;
     let film = table.presentation(0)?;
-    let rate = film.rate(film.track(0)?) as u32;
+    let rate = u32::try_from(film.rate(film.track(0)?)).ok()?;
     Some([film.start_at(0), film.start_at(24), film.start_at(99), film.longest_gap(), rate])
 }
 
