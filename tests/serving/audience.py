@@ -7,7 +7,7 @@ import subprocess
 import time
 from typing import List, Optional, Tuple
 
-from checks import Checks
+from checks import TOP, Checks
 from rtsp_client.player import Player, Way
 
 from .events import Telling, is_told, stops
@@ -232,7 +232,8 @@ def plain_text(port: int, accepted: str) -> str:
 
 @serving_test(limit=30)
 def figures_in_the_older_format(checks: Checks) -> None:
-    """For who accepts text/plain and not OpenMetrics; `promtool check metrics` finds nothing, where it is installed."""
+    """For who accepts text/plain and not OpenMetrics; promtool finds nothing in them or the rules of a fleet, where it
+    is installed."""
     port, address = shown_at()
     with Telling(checks, SHORT, status=address) as server:
         player = server.player(Way.TCP)
@@ -242,7 +243,10 @@ def figures_in_the_older_format(checks: Checks) -> None:
         checks.that("a counter has its whole name", "\n# TYPE rtspd_packets_sent_total counter\n" in text)
         scraped = plain_text(port, "application/openmetrics-text;version=1.0.0,text/plain;q=0.3")
         checks.same("for a scrape of Prometheus", "", scraped)
-        if checks.has("promtool check metrics", "promtool"):
+        if checks.has("promtool check", "promtool"):
             done = subprocess.run(["promtool", "check", "metrics"], input=text, capture_output=True, text=True)
             checks.same("what promtool finds", (0, ""), (done.returncode, done.stdout + done.stderr))
+            rules = TOP / "packaging/fleet/prometheus.yml"
+            done = subprocess.run(["promtool", "check", "config", rules], capture_output=True, text=True)
+            checks.same("what it finds in the rules", 0, done.returncode)
         player.tear_down()
