@@ -10,7 +10,6 @@ from checks import Checks
 from rtsp_client.connection import Connection
 
 from .clean_stops import deaf_readers
-from .disks import Disk
 from .failing_disks import ends_empty, on_a_disk, until
 from .histories import LATE, audited, checked, files, sessions_in, set_up
 from .runner import serving_test
@@ -112,17 +111,18 @@ def a_stop_at_once_leaves_a_write_behind(checks: Checks) -> None:
     held_up(checks, TWICE, signal.SIGTERM, signal.SIGINT, readers=deaf_readers)
 
 
-def with_syncs(checks: Checks, meet: Callable[[Disk], None], kind: str) -> None:
-    """A call beside a write doesn't come back: what was written since the last sync may be lost by a loss of power."""
+@serving_test(limit=90, is_timed=True)
+def a_stop_leaves_a_sync_behind(checks: Checks) -> None:
+    """What is written and not synced, which a loss of power may take, is told of, where it is to be synced."""
     with on_a_disk(checks, journal_sync="true") as (server, disk):
         talk = server.connect()
         session = set_up(talk, server)
         time.sleep(LATE)
         (file,) = files(server)
         synced = file.read_bytes()
-        meet(disk)
+        disk.meet("sync", late=FOR_LONG)
         asks(talk, server, session, "PLAY", "PAUSE")
-        checks.that(f"the {kind} is under way", until(lambda: disk.asked(kind) > 0))
+        checks.that("the sync is under way", until(lambda: disk.asked("sync") > 0))
         time.sleep(LATE)
         before = file.read_bytes()
         left = is_left(checks, server, ONCE, signal.SIGTERM)
@@ -132,21 +132,20 @@ def with_syncs(checks: Checks, meet: Callable[[Disk], None], kind: str) -> None:
         is_a_prefix(checks, server, before, [session])
 
 
-@serving_test(limit=90, is_timed=True)
-def a_stop_leaves_a_sync_behind(checks: Checks) -> None:
-    """What is written and not synced is told of, where it is to be synced."""
-    with_syncs(checks, lambda disk: disk.meet("sync", late=FOR_LONG), "sync")
-
-
-@serving_test(limit=90, is_timed=True)
-def a_stop_leaves_a_new_file_behind(checks: Checks) -> None:
-    """So it is where a sync was refused, and the file that is to follow can't be made."""
-
-    def refuse_and_hold(disk: Disk) -> None:
-        disk.meet("create", late=FOR_LONG)
+@serving_test(limit=60, is_timed=True)
+def a_stop_waits_for_a_new_file(checks: Checks) -> None:
+    """The making of a file is waited for, and then all that is left is written there."""
+    with on_a_disk(checks, journal_sync="true") as (server, disk):
+        talk = server.connect()
+        session = set_up(talk, server)
+        time.sleep(LATE)
+        disk.meet("create", late=5_000)
         disk.meet("sync", 1, 1, errno.EIO)
-
-    with_syncs(checks, refuse_and_hold, "create")
+        asks(talk, server, session, "PLAY", "PAUSE")
+        checks.that("a file is being made", until(lambda: disk.asked("create") > 0))
+        server.process.send_signal(signal.SIGTERM)
+        checks.same("the status", 0, server.ends(20.0))
+        ends_empty(checks, server, "after a file that was made late")
 
 
 @serving_test(limit=60, is_timed=True)

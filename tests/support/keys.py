@@ -78,6 +78,13 @@ def of_explanations(script: str) -> List[Key]:
     return found
 
 
+def of_the_look(code: str) -> List[Key]:
+    """The keys that `rtspd check` explains, by its tables."""
+    tables = {"SERVER": "server", "PRESENTATION": "presentation", "TRACK": "presentation.track"}
+    parts = re.findall(r"(?ms)^pub\(crate\) const (\w+): \[Key; \d+\] = \[(.*?)^\];", code)
+    return [(tables[name], it) for name, rows in parts for it in re.findall(r'\bname: "(\w+)"', rows)]
+
+
 def of_program(code: str) -> Set[str]:
     """The keys that the program's code reads, without the tables that have them."""
     read = re.findall(r'\b(\w+)_at(?:_or)?\(\s*(?:alloc,\s*)?\w+,\s*"(\w+)"', code)

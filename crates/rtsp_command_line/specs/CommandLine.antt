@@ -11,7 +11,7 @@ use Rattle.clap.specs.declared.builder.value_parser.ValueParser.{ValueParser}
 use Rattle.clap.specs.declared.builder.value_parser.ValueParser.TheVariants.{Unsigned}
 use Rattle.clap.specs.declared.parser.matches.ArgMatches.{ArgMatches}
 use Rattle.rtsp_command_line.specs.declared.command_line.CommandLine.{CommandLine}
-use Rattle.rtsp_command_line.specs.declared.command_line.CommandLine.TheVariants.{Stdio, Audit, Serve}
+use Rattle.rtsp_command_line.specs.declared.command_line.CommandLine.TheVariants.{Stdio, Audit, Serve, Check}
 
 -- ---- the command
 
@@ -66,6 +66,13 @@ serve = subcommand (codes "serve") (
     ∷ number_rule (codes "connections")
     ∷ [])
 
+-- `check --config FILE [--listen ADDR]`
+abbrev pub check : App
+check = subcommand (codes "check") (
+    required_rule (codes "config")
+    ∷ option_rule (codes "listen")
+    ∷ [])
+
 -- the program, without its subcommands: a call for help is an unknown word, and a subcommand has to follow
 abbrev pub alone : App
 alone = on_top (λ s. record s {
@@ -77,7 +84,7 @@ alone = on_top (λ s. record s {
 
 -- the program
 abbrev pub rtspd : App
-rtspd = fold with_subcommand alone (stdio.top ∷ audit.top ∷ serve.top ∷ [])
+rtspd = fold with_subcommand alone (stdio.top ∷ audit.top ∷ serve.top ∷ check.top ∷ [])
 
 -- m is what `clap` makes of the words, and without it they are refused
 abbrev pub Says : List Text → Option ArgMatches → Type 0
@@ -120,11 +127,17 @@ pub record ServeLine : Type 0 where
   pub listen : Option Text
   pub connections : Option ℕ
 
+-- what a look at a configuration is asked for: the configuration, and where `serve` would listen
+pub record CheckLine : Type 0 where
+  pub config : Text
+  pub listen : Option Text
+
 -- a command line, in texts and numbers
 pub data Line : Type 0 where
   stdio_line : StdioLine → Line
   audit_line : AuditLine → Line
   serve_line : ServeLine → Line
+  check_line : CheckLine → Line
 
 -- what a contract sees of a `CommandLine`
 abbrev pub line_view : CommandLine → Line
@@ -145,6 +158,10 @@ line_view (Serve config listen connections) = serve_line (record {
   config = config.now;
   listen = option_map (λ s. s.now) listen;
   connections = connections;
+})
+line_view (Check config listen) = check_line (record {
+  config = config.now;
+  listen = option_map (λ s. s.now) listen;
 })
 
 -- what the values of the options of `stdio` ask for
@@ -182,12 +199,24 @@ serve_of rows config = serve_line (record {
 abbrev pub serve_in : List Row → Option Line
 serve_in rows = option_map (serve_of rows) (first_of (codes "config") rows)
 
+-- what the values of the options of `check` ask for, with this configuration
+abbrev pub check_of : List Row → Text → Line
+check_of rows config = check_line (record {
+  config = config;
+  listen = first_of (codes "listen") rows;
+})
+
+-- the same, with the configuration that the options name
+abbrev pub check_in : List Row → Option Line
+check_in rows = option_map (check_of rows) (first_of (codes "config") rows)
+
 -- the line of a subcommand, by the values of its options
 abbrev pub line_in : Text → List Row → Option Line
 line_in name rows =
     if bytes_eq name (codes "stdio") then Some (stdio_in rows)
     else if bytes_eq name (codes "audit") then audit_in rows
     else if bytes_eq name (codes "serve") then serve_in rows
+    else if bytes_eq name (codes "check") then check_in rows
     else None
 
 -- one of the words is `--`

@@ -4,7 +4,7 @@ ghost use Rattle.std.specs.Prelude.{◌≡◌, IfOk, false, map, option_map, opt
 ghost use Rattle.clap.specs.Words.{app_of, rule_of, subcommand_rows_of, rows_of, found_of};
 ghost use Rattle.clap.specs.declared.builder.command.Command.TheViews.{out-Command as fields_of};
 ghost use Rattle.rtsp_command_line.specs.CommandLine as spec;
-ghost use Rattle.rtsp_command_line.specs.CommandLine.{option_rule, number_rule, flag_rule, number_in, flag_in, stdio, audit, serve, rtspd, Says, line_view};
+ghost use Rattle.rtsp_command_line.specs.CommandLine.{option_rule, number_rule, flag_rule, number_in, flag_in, stdio, audit, serve, check, rtspd, Says, line_view};
 
 use clap::builder::ValueParser;
 use clap::error::ErrorKind;
@@ -39,6 +39,12 @@ pub enum CommandLine<'a> {
         listen: Option<&'a str>,
         /// After how many connections the server ends.
         connections: Option<u64>,
+    },
+    /// Look at a configuration as `serve` would, and at what it names.
+    Check {
+        config: &'a str,
+        /// The address that `serve` would listen on, as it was written.
+        listen: Option<&'a str>,
     },
 }
 
@@ -102,13 +108,25 @@ fn serve_command<'a>(alloc: Global) -> Result<Command<'a>, AllocError>
     Command::new(alloc, "serve").args(options)
 }
 
+fn check_command<'a>(alloc: Global) -> Result<Command<'a>, AllocError>
+    ensures app { IfOk result (λ c. app_of c ≡ check) }
+    ensures local { IfOk result (λ c. (fields_of c).has_globals ≡ false) }
+{
+    let options = vec![in alloc;
+        option_named(alloc, "config").required(true),
+        option_named(alloc, "listen"),
+    ]?;
+    Command::new(alloc, "check").args(options)
+}
+
 fn command<'a>(alloc: Global) -> Result<Command<'a>, AllocError>
     ensures { IfOk result (λ c. app_of c ≡ rtspd) }
 {
     let stdio = stdio_command(alloc)?;
     let audit = audit_command(alloc)?;
     let serve = serve_command(alloc)?;
-    let subcommands = vec![in alloc; stdio, audit, serve]?;
+    let check = check_command(alloc)?;
+    let subcommands = vec![in alloc; stdio, audit, serve, check]?;
     Command::new(alloc, "rtspd")
         .no_binary_name(true)
         .disable_help_flag(true)
@@ -197,6 +215,22 @@ fn serve_in<'a>(matches: &ArgMatches<'a>) -> Option<CommandLine<'a>>
     Some(serve_of(matches, config))
 }
 
+fn check_of<'a>(matches: &ArgMatches<'a>, config: &'a str) -> CommandLine<'a>
+    ensures { line_view result ≡ spec.check_of (rows_of (found_of matches.now)) config.entry.now }
+{
+    CommandLine::Check {
+        config,
+        listen: matches.get_str("listen"),
+    }
+}
+
+fn check_in<'a>(matches: &ArgMatches<'a>) -> Option<CommandLine<'a>>
+    ensures { option_map line_view result ≡ spec.check_in (rows_of (found_of matches.now)) }
+{
+    let config = matches.get_str("config")?;
+    Some(check_of(matches, config))
+}
+
 fn line_in<'a>(name: &str, matches: &ArgMatches<'a>) -> Option<CommandLine<'a>>
     ensures { option_map line_view result ≡ spec.line_in name.now (rows_of (found_of matches.now)) }
 {
@@ -204,6 +238,7 @@ fn line_in<'a>(name: &str, matches: &ArgMatches<'a>) -> Option<CommandLine<'a>>
         "stdio" => Some(stdio_in(matches)),
         "audit" => audit_in(matches),
         "serve" => serve_in(matches),
+        "check" => check_in(matches),
         _ => None,
     }
 }
@@ -229,7 +264,8 @@ fn has_dashes(words: &[&str]) -> bool
 /// Reads the words after the program's name: what they ask for, or `None` for a bad command line.
 ///
 /// `--name=VALUE` is the option too, and numbers are those that `u64` reads, `+5` and `007` among
-/// them. An option that stands twice, a call for help and a lone `--` make a bad command line.
+/// them. An option that stands twice, a call for help and a lone `--` make a bad command line here:
+/// `read_help` knows the calls for help.
 pub fn read_words<'a>(
     alloc: Global,
     words: &'a [&'a str],

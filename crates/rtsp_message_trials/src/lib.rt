@@ -6,6 +6,8 @@
 #[cfg(test)]
 mod configurations;
 #[cfg(test)]
+mod explanations;
+#[cfg(test)]
 mod films;
 #[cfg(test)]
 mod header_values;

@@ -1,7 +1,9 @@
-//! What a configuration may say, and what not, which is told by its first fault.
+//! What a configuration may say, and what not, which is told by its first fault; and that whoever wrote it
+//! is told of faults just where it is refused.
 
 use crate::rows::{Lines, cut, hold_lines};
 use rtsp_content::{EXAMPLE, Operation, Table, TableFault};
+use rtsp_explain::explain;
 use std::alloc::{AllocError, Global};
 
 // What comes of a configuration: of what is served, and else of what is kept and shown.
@@ -10,6 +12,13 @@ fn fate(alloc: Global, text: &str) -> &'static str {
         Ok(_) => Operation::read_at(alloc, text.as_bytes(), "").err(),
         Err(fault) => Some(fault),
     };
+    let has_told = match explain(alloc, "", text.as_bytes()) {
+        Ok(findings) => !findings.faults.is_empty(),
+        Err(_) => return "out of memory",
+    };
+    if has_told != fault.is_some() {
+        return "told otherwise";
+    }
     match fault {
         None => "taken",
         Some(TableFault::NotToml) => "not TOML",

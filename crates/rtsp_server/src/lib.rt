@@ -48,6 +48,7 @@ mod writing;
 mod writing_journal;
 
 pub use fault::ServerFault;
+pub use opening::descriptor_fault;
 pub use rtsp_chronicle::Doubt;
 pub use rtsp_lock::BookHandle;
 pub use rtsp_threads::{Lane, LaneTurn, PoolEnd, run_pool, whole_of};

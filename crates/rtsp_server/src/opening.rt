@@ -326,20 +326,24 @@ fn few_descriptors(table: &Table, others: u64, limit: u64) -> ServerFault {
     }
 }
 
-// Why the system refuses what a server of this configuration opens: for want of descriptors, where there
-// are fewer than it needs at least, however much of its media it holds in memory.
-fn refusal(table: &Table, operation: &Operation) -> ServerFault {
-    let Some(limit) = descriptor_limit() else {
-        return ServerFault::DeviceFailed;
-    };
+/// The fault of a limit of descriptors below what a server of this configuration needs at least, however
+/// much of its media it holds in memory, if it is.
+pub fn descriptor_fault(table: &Table, operation: &Operation) -> Option<ServerFault> {
+    let limit = descriptor_limit()?;
     let numbers = table.server();
     let others = STANDARD_STREAMS
         .saturating_add(u64::from(numbers.workers).saturating_mul(LANE))
         .saturating_add(kept_for(operation));
     match connections_for(limit, others, numbers.pairs) {
-        0 => few_descriptors(table, others, limit),
-        _ => ServerFault::DeviceFailed,
+        0 => Some(few_descriptors(table, others, limit)),
+        _ => None,
     }
+}
+
+// Why the system refuses what a server of this configuration opens: for want of descriptors, where there
+// are fewer than it needs.
+fn refusal(table: &Table, operation: &Operation) -> ServerFault {
+    descriptor_fault(table, operation).unwrap_or(ServerFault::DeviceFailed)
 }
 
 // How many connections there is room for, at least one, once all is open but what the threads open: the

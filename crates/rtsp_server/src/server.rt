@@ -7,13 +7,14 @@ ghost use Rattle.rtsp_record.specs.Books.{book_of};
 use crate::fault::ServerFault;
 use crate::opening::{Handles, Listening, Opened, Sending};
 use crate::threads::{Beside, Parts, Served, Start};
+use crate::writing_journal::folder_of;
 use rtsp_book::Kept;
 use rtsp_chronicle::Doubt;
 use rtsp_content::{Operation, Table};
 use rtsp_lock::{BookHandle, LockBook};
 use rtsp_log::Event;
 use rtsp_status::StatusServer;
-use rtsp_threads::{OwnStatus, PoolEnd, Scribe, StopBell, close_book};
+use rtsp_threads::{OwnStatus, PoolEnd, StopBell, close_book};
 use std::alloc::Global;
 use std::fs::File;
 use std::io::{Eprint, Write};
@@ -38,18 +39,6 @@ pub struct ServerEnd {
 pub trait Announce: Drop {
     /// Whether it could pass the address on. Where it couldn't, the server ends.
     fn announce(&mut self, address: SocketAddr) -> bool;
-}
-
-// What writes the journal to files, where that is wanted.
-fn open_scribe<R: Files<File = File>>(
-    rt: &R,
-    alloc: Global,
-    operation: &Operation,
-) -> Result<Option<Scribe>, ServerFault> {
-    match operation.journal() {
-        Some(files) => Ok(Some(Scribe::open(rt, alloc, files)?)),
-        None => Ok(None),
-    }
 }
 
 impl Parts {
@@ -130,12 +119,14 @@ impl Server {
             shown,
             last,
         } = handles;
+        let folder = folder_of(alloc, &operation)?;
         Ok(Server {
             alloc,
             parts: Parts {
                 table,
                 media,
                 readers,
+                folder,
                 shared,
                 over: StopBell::new(),
             },
@@ -200,7 +191,7 @@ impl Server {
     >(self, rt: &R, announcer: A, errors: E) -> Result<ServerEnd, ServerFault>
         ensures { IfOk result (λ end. IfSome end.book (λ k. book_of k.journal ≡ empty)) }
     {
-        let scribe = open_scribe(rt, self.alloc, &self.operation)?;
+        let scribe = self.parts.open_scribe(rt, self.alloc, &self.operation)?;
         self.tell_of_descriptors(rt);
         let Self {
             alloc,

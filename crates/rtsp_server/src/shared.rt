@@ -250,5 +250,8 @@ impl Shared {
         self.bells.stop(rt);
         self.stop_bell.ring(rt);
         self.halt.halt();
+        if let Some(scribe) = &self.scribe {
+            scribe.files.leave(rt);
+        }
     }
 }

@@ -7,7 +7,7 @@ use crate::shared::Shared;
 use crate::socket_lane::SocketLane;
 use crate::stopping::{StopTimes, watch_signals};
 use crate::sweeper::run_sweeper;
-use rtsp_chronicle::Doubt;
+use rtsp_chronicle::{Doubt, JournalFolder};
 use rtsp_content::Table;
 use rtsp_lock::BookHandle;
 use rtsp_log::{Event, LogWriter, SleepPause, StderrSink};
@@ -31,6 +31,8 @@ pub(crate) struct Parts {
     pub(crate) media: Arc<Media>,
     // Those that read ahead, where that is wanted.
     pub(crate) readers: Vec<Reader>,
+    // Where the journal's files are made, where that is wanted.
+    pub(crate) folder: Option<JournalFolder>,
     pub(crate) shared: Arc<Shared>,
     // The bell of the thread that looks for signals, rung once nothing is waited for any more.
     pub(crate) over: StopBell,
@@ -43,6 +45,7 @@ impl Drop for Parts {
             table: _table,
             media: _media,
             readers: _readers,
+            folder: _folder,
             shared: _shared,
             over: _over,
         } = self;
@@ -145,6 +148,7 @@ impl Parts {
             table,
             media,
             readers: _,
+            folder: _,
             shared,
             over: _,
         } = self;
@@ -236,7 +240,11 @@ impl Parts {
 
     // Ends all sessions once no thread serves any more, and has the rest of the journal written. Reads and
     // writes that disks hold up are left behind: what then isn't known to be in the journal's file.
-    fn finish<R: Wait + Net + rt::Clock>(&self, rt: &R, last: &mut BookHandle) -> Option<Doubt> {
+    fn finish<R: Wait + Net + rt::Clock + Files<File = File>>(
+        &self,
+        rt: &R,
+        last: &mut BookHandle,
+    ) -> Option<Doubt> {
         let mut binder = self.shared.unbinder(rt);
         end_expired(rt, last, &mut binder, u64::MAX);
         self.stop_scribe(rt);
@@ -396,6 +404,7 @@ impl Start {
                 return Err(ServerFault::NoThread);
             };
             let told = parts.announce(rt, announcer, address);
+            parts.attend_scribe(rt);
             let ended = pool.join(rt);
             told?;
             ended

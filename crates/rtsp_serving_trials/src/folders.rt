@@ -2,7 +2,7 @@
 
 use crate::history::{History, entries};
 use crate::steps::{Scene, Step, play};
-use rtsp_chronicle::{FileSink, Pause, Plan, Progress, Turned};
+use rtsp_chronicle::{FileSink, InFolder, Pause, Plan, Progress, Turned};
 use rtsp_lock::Then;
 use std::fs::{self, File};
 use std::net::{Net, TcpListener, TcpStream};
@@ -95,7 +95,7 @@ impl Scene for Disk {
 fn run_three<R: Files<File = File> + Wait>(
     rt: &R,
     history: &mut History,
-    sink: &mut FileSink<'_, '_, R>,
+    sink: &mut FileSink<'_, InFolder<'_, R>>,
 ) -> Option<u64> {
     let plan = Plan {
         after: Then::Forget,

@@ -2,6 +2,7 @@
 
 use crate::history::SMALL;
 use crate::tone::tone;
+use rtsp_chronicle::JournalFolder;
 use rtsp_content::{Operation, Table};
 use rtsp_engine::{ShareSpent, Shares};
 use rtsp_lock::{BookHandle, open_book};
@@ -9,9 +10,9 @@ use rtsp_log::Log;
 use rtsp_shares::{NoPlace, ShareTable};
 use rtsp_sockets::{PortBinder, PortTable};
 use rtsp_threads::{
-    Gate, LaneShares, OwnStatus, Refused, RoomLooks, RoomWait, Scribe, ScribeBell, StopAsked,
-    StopBell, ask_for_room, close_book, descriptor_limit, end_expired, end_next_expired, end_place,
-    give_back_ended, make_room, take_leave,
+    FileRequests, Gate, LaneShares, OwnStatus, Refused, RoomLooks, RoomWait, Scribe, ScribeBell,
+    StopAsked, StopBell, ask_for_room, close_book, descriptor_limit, end_expired, end_next_expired,
+    end_place, give_back_ended, make_room, take_leave,
 };
 use std::alloc::{AllocError, Global};
 use std::fs::{self, File};
@@ -284,7 +285,9 @@ fn has_room<R: Wait + Clock>(
 
 fn scribe_of<R: Files<File = File> + AllocGlobal>(rt: &R) -> Option<Scribe> {
     let operation = Operation::read_at(rt.alloc(), FILES.as_bytes(), "").ok()?;
-    Scribe::open(rt, rt.alloc(), operation.journal()?).ok()
+    let files = operation.journal()?;
+    let folder = JournalFolder::new(rt.alloc(), files.folder()).ok()?;
+    Scribe::open(rt, rt.alloc(), &folder, files).ok()
 }
 
 // How long the file is that a scribe leaves that was told to stop before it began.
@@ -322,4 +325,19 @@ fn written_at_end<R: Files<File = File> + Wait + Clock + AllocGlobal>(
 #[test]
 fn a_scribe_writes_at_its_end(rt: HostRuntime) {
     assert!(rt; written_at_end(&rt) == Some([0, 0]));
+}
+
+// Whether no file is made that nobody asks for, and the wait for requests ends where it is left.
+fn makes_nothing_unasked<R: Files<File = File> + Wait + AllocGlobal>(rt: &R) -> Option<bool> {
+    let folder = JournalFolder::new(rt.alloc(), "no such folder").ok()?;
+    let requests = FileRequests::new();
+    requests.answer(rt, &folder);
+    requests.leave(rt);
+    requests.attend(rt, &folder);
+    Some(folder.make(rt, 0).is_err())
+}
+
+#[test]
+fn requests_for_files_are_left(rt: HostRuntime) {
+    assert!(rt; makes_nothing_unasked(&rt) == Some(true));
 }

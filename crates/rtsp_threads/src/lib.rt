@@ -6,14 +6,15 @@
 //! opened over. `lane_shares` is what an
 //! address may have of the sessions, `leaving` ends sessions. `relieving` keeps the journal from filling:
 //! `room_looks` says when a lane looks for room in it, `room_wait` for how long it is waited for.
-//! `scribe` writes the journal to files, and `scribe_bell` wakes it. `signals` and `stop_bell` are how
-//! threads are asked to end.
+//! `scribe` writes the journal to files, `scribe_bell` wakes it, and `file_requests` are new files for it.
+//! `signals` and `stop_bell` are how threads are asked to end.
 
 #![tactic(auto)]
 
 mod acceptor;
 mod activity;
 mod descriptors;
+mod file_requests;
 mod gate;
 mod holdings;
 mod lane_shares;
@@ -32,6 +33,7 @@ mod timed_reader;
 pub use acceptor::{Accepted, Acceptor};
 pub use activity::Activity;
 pub use descriptors::{connections_for, descriptor_limit};
+pub use file_requests::FileRequests;
 pub use gate::Gate;
 pub use holdings::whole_of;
 pub use lane_shares::{LaneShares, end_place, give_back_ended};

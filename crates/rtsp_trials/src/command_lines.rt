@@ -1,6 +1,6 @@
 //! What the command line takes and refuses, and how programs end.
 
-use rtspd::{CommandLine, Exit, read_words};
+use rtspd::{CommandLine, Exit, Help, read_help, read_words};
 use std::alloc::{AllocError, Global};
 
 // What each line asks for, with what it names: the configuration; the journal, or the address to listen
@@ -19,6 +19,8 @@ audit --journal=a --without-admission=3 --without-session=2 --back=1 --without-e
 -> audit None \"a\" 1 Some(2) Some(3) true
 serve --config a -> serve \"a\" None None
 serve --connections=7 --config=a --listen b -> serve \"a\" Some(\"b\") Some(7)
+check --config a -> check \"a\" None
+check --listen=b --config=a -> check \"a\" Some(\"b\")
  -> refused
 Stdio -> refused
 --config a stdio -> refused
@@ -48,6 +50,9 @@ serve -> refused
 serve --config a --journal b -> refused
 serve --config a --connections -1 -> refused
 serve --config a --forget -> refused
+check -> refused
+check --config a --connections 1 -> refused
+check --config a --config a -> refused
 ";
 
 // What words ask for, as text.
@@ -80,6 +85,9 @@ fn told(alloc: Global, words: &[&str]) -> Result<String, AllocError> {
                 connections,
             },
         ) => format!(in alloc; "serve {config:?} {listen:?} {connections:?}"),
+        Some(CommandLine::Check { config, listen }) => format!(in alloc;
+            "check {config:?} {listen:?}"
+        ),
     }
 }
 
@@ -172,5 +180,43 @@ fn exits(rt: HostRuntime) -> Result<(), AllocError> {
         written.push_str(line.as_str())?;
     }
     assert!(rt; written.as_str() == WRITTEN, "{written}");
+    Ok(())
+}
+
+// What each line asks of the program itself.
+const CALLS: &str = "\
+--help -> usage
+-h -> usage
+serve --help -> usage
+check -h -> usage
+stdio --help -> usage
+audit -h -> usage
+--version -> version
+ -> nothing
+help -> nothing
+serve -> nothing
+serve --version -> nothing
+play --help -> nothing
+--help --help -> nothing
+--help serve -> nothing
+serve --config a --help -> nothing
+--Help -> nothing
+";
+
+#[test]
+fn calls_for_help(rt: HostRuntime) -> Result<(), AllocError> {
+    for row in CALLS.lines() {
+        let (line, wanted) = row.split_once(" -> ").unwrap_or((row, ""));
+        let mut words = Vec::new(rt.alloc());
+        for word in line.split_whitespace() {
+            words.push(word)?;
+        }
+        let told = match read_help(&words) {
+            Some(Help::Usage) => "usage",
+            Some(Help::Version) => "version",
+            None => "nothing",
+        };
+        assert!(rt; told == wanted, "{row}: {told}");
+    }
     Ok(())
 }

@@ -4,10 +4,13 @@
 ghost use Rattle.std.specs.Prelude.{IfOk};
 ghost use Rattle.rtsp_record.specs.Choices.{HasPorts};
 
+use crate::checking::run_check;
 use crate::devices::{Conversation, serve_alone};
 use crate::serving::run_serve;
 use rtsp_book::PlainBook;
-use rtsp_command_line::{CommandLine, Exit, read_words};
+use rtsp_command_line::{
+    CommandLine, EXPLANATION, Exit, Help, USAGE, VERSION, read_help, read_words,
+};
 use rtsp_content::{EXAMPLE, Operation, Table, TableFault};
 use rtsp_engine::{ByteOut, CountedReader, CountedWriter, ServeEnd, StreamFault, TURNS};
 use rtsp_grammar::MessageFault;
@@ -30,7 +33,7 @@ const MAX_JOURNAL: u32 = 1_000_000;
 
 /// Runs a command line that needs no socket, and returns how that ended. First the words are read,
 /// then the configuration, then the journal or the conversation; the first fault met is returned.
-/// `serve` needs sockets, and is a bad command line here.
+/// `serve` and `check` need sockets, and are a bad command line here, as a call for help is.
 pub fn run_words<R: Files + AllocGlobal + Wait, I: Read + Drop, O: Write + Drop>(
     rt: &R,
     words: &[&str],
@@ -45,8 +48,8 @@ pub fn run_words<R: Files + AllocGlobal + Wait, I: Read + Drop, O: Write + Drop>
     exit_of(ended)
 }
 
-/// Runs any command line: `serve` by sockets and threads, and others as `run_words` does. The log of
-/// `serve` goes to the stream of errors.
+/// Runs any command line: `serve` by sockets and threads, `check`, a call for help, and others as
+/// `run_words` does. The log of `serve` goes to the stream of errors.
 pub fn run_program<
     R: Files<File = File>
         + AllocGlobal
@@ -67,7 +70,11 @@ pub fn run_program<
 where
     R: Net<Listener = TcpListener, Stream = TcpStream>,
 {
+    if let Some(help) = read_help(words) {
+        return exit_of(run_help(help, writer));
+    }
     let ended = match read_words(rt.alloc(), words) {
+        Ok(Some(CommandLine::Check { config, listen })) => run_check(rt, config, listen, writer),
         Ok(
             Some(
                 CommandLine::Serve {
@@ -89,6 +96,19 @@ fn exit_of(ended: Result<(), Exit>) -> Exit {
         Ok(()) => Exit::Done,
         Err(exit) => exit,
     }
+}
+
+// Tells of the program itself.
+fn run_help<O: Write + Drop>(help: Help, writer: O) -> Result<(), Exit> {
+    let (first, rest) = match help {
+        Help::Usage => (USAGE, EXPLANATION),
+        Help::Version => (VERSION, ""),
+    };
+    let mut writer = CountedWriter::new(writer);
+    if writer.write(first.as_bytes()).is_err() || writer.write(rest.as_bytes()).is_err() {
+        return Err(Exit::DeviceFailed);
+    }
+    Ok(())
 }
 
 // Runs a command line that needs no socket.
@@ -119,7 +139,7 @@ fn run_line<R: Files + AllocGlobal + Wait, I: Read + Drop, O: Write + Drop>(
             };
             run_audit(rt, config, journal, back, omitted, writer)
         }
-        CommandLine::Serve { .. } => Err(Exit::BadCommandLine),
+        CommandLine::Serve { .. } | CommandLine::Check { .. } => Err(Exit::BadCommandLine),
     }
 }
 
@@ -141,7 +161,7 @@ fn file_fault(error: &io::Error) -> Exit {
 }
 
 // The octets of a file.
-fn read_file<R: Files + AllocGlobal>(rt: &R, path: &str) -> Result<Vec<u8>, Exit> {
+pub(crate) fn read_file<R: Files + AllocGlobal>(rt: &R, path: &str) -> Result<Vec<u8>, Exit> {
     match fs::read(rt, path) {
         Ok(text) => Ok(text),
         Err(error) => Err(file_fault(&error)),

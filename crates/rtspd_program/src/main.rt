@@ -70,6 +70,7 @@ fn main(rt: HostRuntime) -> ExitCode {
         Err(error) => {
             let exit = words_fault(&error);
             let _ = eprintln!(&rt; "{exit}");
+            tell_reasons(&rt, &[], exit);
             exit
         }
     };
