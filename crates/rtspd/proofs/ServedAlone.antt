@@ -1,5 +1,5 @@
 -- How one connection is served alone.
-use Rattle.std.proofs.Common.{◌≡◌, ℕ, List, [], refl, sym, ◌∙◌, subst, Option}
+use Rattle.std.proofs.Common.{◌≡◌, ℕ, List, [], refl, sym, ◌∙◌, subst, Option, false}
 use Rattle.rtsp_record.specs.declared.holdings.Whole.{Whole}
 use Rattle.rtsp_book.specs.Kept.{History}
 use Rattle.rtsp_lock.specs.Calls.{seat_view, Looked, Finished}
