@@ -273,10 +273,11 @@ def plays_begin_where_a_film_may(checks: Checks) -> None:
             checks.that(f"{way.value}: another SETUP isn't taken", setup.status != 200)
             for asked, begins in (1.2, 30), (2.0, 31), (2.479, 31), (2.48, 62), (3.9, 62), (1.199, 0):
                 where = f"{way.value}, {asked}"
+                # Before the answer, behind which packets may be read with it.
+                came = [len(stream.reception.packets) for stream in streams]
                 answer = player.play(asked)
                 checks.same(f"{where}: its Range", f"npt={begins * 0.04:.3f}-4.000", answer.header("Range"))
                 checks.same(f"{where}: its Seek-Style", "RAP", answer.header("Seek-Style"))
-                came = [len(stream.reception.packets) for stream in streams]
                 firsts = told(player, answer)
                 player.listen(0.3)
                 paused = player.pause()
