@@ -20,6 +20,8 @@ mod files;
 #[cfg(test)]
 mod folders;
 #[cfg(test)]
+mod guards;
+#[cfg(test)]
 mod history;
 #[cfg(test)]
 mod host;
