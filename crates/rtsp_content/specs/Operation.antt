@@ -20,7 +20,8 @@ operation_of path ms = do
   access_log ← flag_at (codes "access_log") server
   status ← optional_text_at (codes "status") Address server
   proxy ← balancers_of server
-  Ok (record { journal = journal; access_log = access_log; status = status; proxy = proxy })
+  users ← optional_text_at (codes "users") Folder server
+  Ok (record { journal = journal; access_log = access_log; status = status; proxy = proxy; users = media_folder path users })
 
 -- the same of a text, by what TOML makes of it
 abbrev pub operation_of_document : List ℕ → Option Members → Read OperationValue

@@ -7,3 +7,4 @@ pub record OperationValue : Type 0 where
   pub access_log : Bool
   pub status : Option (List ℕ)
   pub proxy : List ℕ
+  pub users : Option (List ℕ)

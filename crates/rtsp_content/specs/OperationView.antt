@@ -4,4 +4,10 @@ use Rattle.rtsp_content.specs.declared.operation.Operation.TheInside.{Inside}
 use Rattle.rtsp_content.specs.OperationValue.{OperationValue}
 
 abbrev pub operation_value : Inside → OperationValue
-operation_value o = record { journal = o.journal; access_log = o.access_log; status = option_map (λ text. string_bytes text) o.status; proxy = o.proxy.items }
+operation_value o = record {
+  journal = o.journal;
+  access_log = o.access_log;
+  status = option_map (λ text. string_bytes text) o.status;
+  proxy = o.proxy.items;
+  users = option_map (λ text. string_bytes text) o.users;
+}

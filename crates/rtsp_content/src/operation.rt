@@ -23,6 +23,7 @@ pub struct Operation {
     access_log: bool,
     status: Option<String>,
     proxy: Vec<u32>,
+    users: Option<String>,
 }
 
 impl Model for Operation {
@@ -45,11 +46,14 @@ fn read_operation(alloc: Global, table: &Table, path: &str) -> Result<Operation,
     let access_log = flag_at(server, "access_log")?;
     let status = optional_text_at(alloc, server, "status", Form::Address)?;
     let proxy = read_balancers(alloc, server)?;
+    let users = optional_text_at(alloc, server, "users", Form::Folder)?;
+    let users = media_folder(alloc, path, users)?;
     Ok(Operation {
         journal,
         access_log,
         status,
         proxy,
+        users,
     })
 }
 
@@ -100,5 +104,12 @@ impl Operation {
         ensures { result.now ≡ self.now.proxy }
     {
         self.proxy.as_slice()
+    }
+
+    /// The path of the file of users, where those who ask have to be some of them.
+    pub fn users(&self) -> Option<&str>
+        ensures { option_map (λ s. s.now) result ≡ self.now.users }
+    {
+        self.users.as_deref()
     }
 }

@@ -21,10 +21,14 @@ stale_text refusal = []
 abbrev pub quoted : List ℕ → List ℕ → List ℕ
 quoted text behind = 34 ∷ (text ++ 34 ∷ behind)
 
+-- a challenge of these parts
+abbrev pub challenge_of : List ℕ → List ℕ → List ℕ → List ℕ → List ℕ
+challenge_of realm algorithm stale nonce =
+    codes "Digest realm=" ++ quoted realm (codes ", qop=" ++ quoted (codes "auth") (codes ", algorithm=" ++ (algorithm ++ (stale ++ (codes ", nonce=" ++ quoted nonce [])))))
+
 -- the value of a WWW-Authenticate header
 abbrev pub challenge_text : List ℕ → Gate → Algorithm → Refusal → List ℕ
-challenge_text realm gate algorithm refusal =
-    codes "Digest realm=" ++ quoted realm (codes ", qop=" ++ quoted (codes "auth") (codes ", algorithm=" ++ (algorithm_name algorithm ++ (stale_text refusal ++ (codes ", nonce=" ++ quoted gate.nonce [])))))
+challenge_text realm gate algorithm refusal = challenge_of realm (algorithm_name algorithm) (stale_text refusal) gate.nonce
 
 -- the hash functions that are offered, the better one first
 abbrev pub algorithms_offered : Offer → List Algorithm

@@ -1,7 +1,7 @@
 //! What a server asks of whom it doesn't let through.
 
 ghost use Rattle.std.specs.Prelude.{◌≡◌, ◌++◌, OnOk, OnErr};
-ghost use Rattle.rtsp_credentials.specs.Challenge.{algorithm_name, stale_text, challenge_text};
+ghost use Rattle.rtsp_credentials.specs.Challenge.{algorithm_name, stale_text, challenge_of, challenge_text};
 
 use crate::algorithm::Algorithm;
 use crate::gate::Gate;
@@ -28,16 +28,15 @@ fn stale_text(refusal: Refusal) -> &'static [u8]
     }
 }
 
-/// Writes the value of a WWW-Authenticate header at the end, or nothing: a realm, a hash function and
-/// the nonce of a gate that refused.
-pub fn write_challenge<'a>(
+// The parts of a challenge, all or none.
+fn append_parts<'a>(
     out: &mut Vec<u8>,
     realm: &'a [u8],
-    gate: &'a Gate,
-    algorithm: Algorithm,
-    refusal: Refusal,
+    algorithm: &'a [u8],
+    stale: &'a [u8],
+    nonce: &'a [u8],
 ) -> Result<(), AllocError>
-    ensures ok { OnOk result (out.new.items ≡ out.old.items ++ challenge_text realm.now gate.now algorithm refusal) }
+    ensures ok { OnOk result (out.new.items ≡ out.old.items ++ challenge_of realm.now algorithm.now stale.now nonce.now) }
     ensures err { OnErr result (out.new.items ≡ out.old.items) }
 {
     append_all(
@@ -46,11 +45,27 @@ pub fn write_challenge<'a>(
             b"Digest realm=\"",
             realm,
             b"\", qop=\"auth\", algorithm=",
-            algorithm_name(algorithm),
-            stale_text(refusal),
+            algorithm,
+            stale,
             b", nonce=\"",
-            &gate.nonce,
+            nonce,
             b"\"",
         ],
     )
+}
+
+/// Writes the value of a WWW-Authenticate header at the end, or nothing: a realm, a hash function and
+/// the nonce of a gate that refused.
+pub fn write_challenge(
+    out: &mut Vec<u8>,
+    realm: &[u8],
+    gate: &Gate,
+    algorithm: Algorithm,
+    refusal: Refusal,
+) -> Result<(), AllocError>
+    ensures ok { OnOk result (out.new.items ≡ out.old.items ++ challenge_text realm.now gate.now algorithm refusal) }
+    ensures err { OnErr result (out.new.items ≡ out.old.items) }
+{
+    let (name, stale) = (algorithm_name(algorithm), stale_text(refusal));
+    append_parts(out, realm, name, stale, gate.nonce.as_slice())
 }

@@ -40,27 +40,28 @@ module _ {A : Type 0} (Answers : A → Item → List ℕ → A → Type 0) (Give
   gives_up_stays (items.Response response) old new h = h.users
   gives_up_stays (items.Frame frame) old new h = h.users
 
+module _ {A P : Type 0} (Answers : A → Item → List ℕ → A → Type 0) (GivesUp : A → Item → A → Type 0) where
   -- the same one answers, and the users are the same
-  pub record Keeps (s t : Guarded A) : Type 0 where
+  pub record Keeps (s t : Guarded A P) : Type 0 where
     pub answerer : t.answerer.ghost_name ≡ s.answerer.ghost_name
     pub users : t.users.now ≡ s.users.now
 
-  pub keeps_both : (s t : Guarded A) → t.answerer.ghost_name ≡ s.answerer.ghost_name → Stays (of s) (of t) → Keeps s t
+  pub keeps_both : (s t : Guarded A P) → t.answerer.ghost_name ≡ s.answerer.ghost_name → Stays (of s) (of t) → Keeps s t
   keeps_both s t name stays = record { answerer = name; users = stays }
 
-  pub pushed_keeps : (pushed : Result (Unit {0}) MessageFault) (bytes rest : List ℕ) (s t : Output (Guarded A))
+  pub pushed_keeps : (pushed : Result (Unit {0}) MessageFault) (bytes rest : List ℕ) (s t : Output (Guarded A P))
       → OnOk pushed (Answered (AnswersBehind Answers GivesUp) (GivesUpBehind Answers GivesUp) bytes rest s t)
       → IfErr pushed (λ f. FaultedAfter (AnswersBehind Answers GivesUp) (GivesUpBehind Answers GivesUp) bytes f s t) → Keeps s.answerer t.answerer
   pushed_keeps (Ok done) bytes rest s t ok err =
       answered_keeps (AnswersBehind Answers GivesUp) (GivesUpBehind Answers GivesUp) Keeps (λ s. record { answerer = refl; users = refl })
       (λ s t u h k. record { answerer = k.answerer ∙ h.answerer; users = k.users ∙ h.users })
-      (λ s t item bytes h. keeps_both s t h.1 (answers_stays item _ bytes _ h.0)) (λ s t item h. keeps_both s t h.1 (gives_up_stays item _ _ h.0)) bytes rest s t ok
+      (λ s t item bytes h. keeps_both s t h.1 (answers_stays Answers GivesUp item _ bytes _ h.0)) (λ s t item h. keeps_both s t h.1 (gives_up_stays Answers GivesUp item _ _ h.0)) bytes rest s t ok
   pushed_keeps (Err fault) bytes rest s t ok err =
       fault_keeps (AnswersBehind Answers GivesUp) (GivesUpBehind Answers GivesUp) Keeps (λ s. record { answerer = refl; users = refl })
       (λ s t u h k. record { answerer = k.answerer ∙ h.answerer; users = k.users ∙ h.users })
-      (λ s t item bytes h. keeps_both s t h.1 (answers_stays item _ bytes _ h.0)) (λ s t item h. keeps_both s t h.1 (gives_up_stays item _ _ h.0)) bytes fault s t err
+      (λ s t item bytes h. keeps_both s t h.1 (answers_stays Answers GivesUp item _ bytes _ h.0)) (λ s t item h. keeps_both s t h.1 (gives_up_stays Answers GivesUp item _ _ h.0)) bytes fault s t err
 
-  pub taken_behind : (pushed : Result (Unit {0}) MessageFault) (bytes rest old text : List ℕ) (s t : Guarded A) (new : Kept A) → of t ≡ new
+  pub taken_behind : (pushed : Result (Unit {0}) MessageFault) (bytes rest old text : List ℕ) (s t : Guarded A P) (new : Kept A) → of t ≡ new
       → OnOk pushed (Answered (AnswersBehind Answers GivesUp) (GivesUpBehind Answers GivesUp) bytes rest (record { text = Some old; answerer = s }) (record { text = Some text; answerer = t }))
       → OnOk pushed (TakesGuarded Answers GivesUp bytes rest (record { text = Some old; answerer = of s }) (record { text = Some text; answerer = new }))
   taken_behind (Ok done) bytes rest old text s t new is h =
@@ -68,7 +69,7 @@ module _ {A : Type 0} (Answers : A → Item → List ℕ → A → Type 0) (Give
       (answered_along (AnswersBehind Answers GivesUp) (GivesUpBehind Answers GivesUp) (AnswersGuarded Answers GivesUp) (GivesUpGuarded Answers GivesUp) of (λ s t item bytes h. h.0) (λ s t item h. h.0) bytes rest _ _ h)
   taken_behind (Err fault) bytes rest old text s t new is h = tt
 
-  pub faulted_behind : (pushed : Result (Unit {0}) MessageFault) (bytes old text : List ℕ) (s t : Guarded A) (new : Kept A) → of t ≡ new
+  pub faulted_behind : (pushed : Result (Unit {0}) MessageFault) (bytes old text : List ℕ) (s t : Guarded A P) (new : Kept A) → of t ≡ new
       → IfErr pushed (λ f. FaultedAfter (AnswersBehind Answers GivesUp) (GivesUpBehind Answers GivesUp) bytes f (record { text = Some old; answerer = s }) (record { text = Some text; answerer = t }))
       → IfErr pushed (λ f. FaultsGuarded Answers GivesUp bytes f (record { text = Some old; answerer = of s }) (record { text = Some text; answerer = new }))
   faulted_behind (Ok done) bytes old text s t new is h = tt
@@ -76,6 +77,6 @@ module _ {A : Type 0} (Answers : A → Item → List ℕ → A → Type 0) (Give
       subst (λ z. FaultsGuarded Answers GivesUp bytes fault (record { text = Some old; answerer = of s }) (record { text = Some text; answerer = z })) is
       (fault_along (AnswersBehind Answers GivesUp) (GivesUpBehind Answers GivesUp) (AnswersGuarded Answers GivesUp) (GivesUpGuarded Answers GivesUp) of (λ s t item bytes h. h.0) (λ s t item h. h.0) bytes fault _ _ h)
 
-  pub guarded_as : (t : Guarded A) (gate : Gate) (users : Users) (answerer : A) → t.gate ≡ gate → t.users.now ≡ users → t.answerer.now ≡ answerer → of t ≡ keeps gate users answerer
+  pub guarded_as : (t : Guarded A P) (gate : Gate) (users : Users) (answerer : A) → t.gate ≡ gate → t.users.now ≡ users → t.answerer.now ≡ answerer → of t ≡ keeps gate users answerer
   guarded_as t gate users answerer g u a =
       ap (λ (x : Gate). keeps x t.users.now t.answerer.now) g ∙ ap (λ (x : Users). keeps gate x t.answerer.now) u ∙ ap (λ (x : A). keeps gate users x) a

@@ -6,3 +6,4 @@ pub mod Lent
 pub mod SameVerdict
 pub mod QuietPieces
 pub mod Putting
+pub mod Drawn

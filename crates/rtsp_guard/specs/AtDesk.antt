@@ -22,17 +22,17 @@ NoneIsLetThrough users gate (items.Request request ∷ others) = ((refusal : Ref
 NoneIsLetThrough users gate (items.Response response ∷ others) = NoneIsLetThrough users gate others
 NoneIsLetThrough users gate (items.Frame frame ∷ others) = NoneIsLetThrough users gate others
 
-module _ {R B W C P S : Type 0} (d : Devices B W C P S) where
+module _ {R B W C P S N : Type 0} (d : Devices B W C P S) where
   -- bytes were items and a rest, and the items were answered at the desk, as far as they were let through
-  abbrev pub TakesAtDesk : List ℕ → List ℕ → Output (Kept (Desk R B W C P S)) → Output (Kept (Desk R B W C P S)) → Type 0
+  abbrev pub TakesAtDesk : List ℕ → List ℕ → Output (Kept (Desk R B W C P S N)) → Output (Kept (Desk R B W C P S N)) → Type 0
   TakesAtDesk bytes rest s t = TakesGuarded (AnswersAt d) (GivesUpAt d) bytes rest s t
 
-  abbrev pub FaultsAtDesk : List ℕ → MessageFault → Output (Kept (Desk R B W C P S)) → Output (Kept (Desk R B W C P S)) → Type 0
+  abbrev pub FaultsAtDesk : List ℕ → MessageFault → Output (Kept (Desk R B W C P S N)) → Output (Kept (Desk R B W C P S N)) → Type 0
   FaultsAtDesk bytes fault s t = FaultsGuarded (AnswersAt d) (GivesUpAt d) bytes fault s t
 
   -- the same of the repaired items
-  abbrev pub TakesRepairedAtDesk : List ℕ → List ℕ → Output (Kept (Desk R B W C P S)) → Output (Kept (Desk R B W C P S)) → Type 0
+  abbrev pub TakesRepairedAtDesk : List ℕ → List ℕ → Output (Kept (Desk R B W C P S N)) → Output (Kept (Desk R B W C P S N)) → Type 0
   TakesRepairedAtDesk bytes rest s t = TakesRepaired (AnswersGuarded (AnswersAt d) (GivesUpAt d)) (GivesUpGuarded (AnswersAt d) (GivesUpAt d)) bytes rest s t
 
-  abbrev pub FaultsRepairedAtDesk : List ℕ → MessageFault → Output (Kept (Desk R B W C P S)) → Output (Kept (Desk R B W C P S)) → Type 0
+  abbrev pub FaultsRepairedAtDesk : List ℕ → MessageFault → Output (Kept (Desk R B W C P S N)) → Output (Kept (Desk R B W C P S N)) → Type 0
   FaultsRepairedAtDesk bytes fault s t = FaultsRepaired (AnswersGuarded (AnswersAt d) (GivesUpAt d)) (GivesUpGuarded (AnswersAt d) (GivesUpAt d)) bytes fault s t

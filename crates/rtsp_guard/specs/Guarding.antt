@@ -26,7 +26,7 @@ abbrev pub turned : {A : Type 0} → Refusal → Kept A → Kept A
 turned refusal old = keeps (after refusal old.gate) old.users old.answerer
 
 -- what is lent, as it is kept
-abbrev pub of : {A : Type 0} → Guarded A → Kept A
+abbrev pub of : {A P : Type 0} → Guarded A P → Kept A
 of s = keeps s.gate s.users.now s.answerer.now
 
 module _ {A : Type 0} (Answers : A → Item → List ℕ → A → Type 0) (GivesUp : A → Item → A → Type 0) where
@@ -69,10 +69,10 @@ module _ {A : Type 0} (Answers : A → Item → List ℕ → A → Type 0) (Give
   abbrev pub FaultsGuarded : List ℕ → MessageFault → Output (Kept A) → Output (Kept A) → Type 0
   FaultsGuarded bytes fault s t = FaultedAfter AnswersGuarded GivesUpGuarded bytes fault s t
 
-  -- ---- the same of what is lent
+-- the same of what is lent
+module _ {A P : Type 0} (Answers : A → Item → List ℕ → A → Type 0) (GivesUp : A → Item → A → Type 0) where
+  abbrev pub AnswersBehind : Guarded A P → Item → List ℕ → Guarded A P → Type 0
+  AnswersBehind old item bytes new = AnswersGuarded Answers GivesUp (of old) item bytes (of new) × (new.answerer.ghost_name ≡ old.answerer.ghost_name)
 
-  abbrev pub AnswersBehind : Guarded A → Item → List ℕ → Guarded A → Type 0
-  AnswersBehind old item bytes new = AnswersGuarded (of old) item bytes (of new) × (new.answerer.ghost_name ≡ old.answerer.ghost_name)
-
-  abbrev pub GivesUpBehind : Guarded A → Item → Guarded A → Type 0
-  GivesUpBehind old item new = GivesUpGuarded (of old) item (of new) × (new.answerer.ghost_name ≡ old.answerer.ghost_name)
+  abbrev pub GivesUpBehind : Guarded A P → Item → Guarded A P → Type 0
+  GivesUpBehind old item new = GivesUpGuarded Answers GivesUp (of old) item (of new) × (new.answerer.ghost_name ≡ old.answerer.ghost_name)

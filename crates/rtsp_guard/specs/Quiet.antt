@@ -14,7 +14,7 @@ pub record OnlyCounted (old new : Gate) : Type 0 where
   pub more : old.wrong ≤ new.wrong
 
 -- the desk's parts are as they were, and the gate
-pub record Unchanged {R B W C P S : Type 0} (s t : Kept (Desk R B W C P S)) : Type 0 where
+pub record Unchanged {R B W C P S N : Type 0} (s t : Kept (Desk R B W C P S N)) : Type 0 where
   pub state : state t.answerer ≡ state s.answerer
   pub gate : OnlyCounted s.gate t.gate
   pub users : t.users ≡ s.users
@@ -22,7 +22,7 @@ pub record Unchanged {R B W C P S : Type 0} (s t : Kept (Desk R B W C P S)) : Ty
 -- Whatever bytes come, as long as no request among them is let through, the desk stays as it was: what the seat knows of the
 -- book and of its journal, the binder of ports, the source of words, the clock, the plays and the shares; and so does the gate,
 -- but for how many responses were wrong.
-module _ (R : Type 0) {B W C P S : Type 0} where
+module _ (R N : Type 0) {B W C P S : Type 0} where
   abbrev pub ChangesNothing : Devices B W C P S → Type 0
-  ChangesNothing d = (bytes rest : List ℕ) (s t : Output (Kept (Desk R B W C P S))) (h : TakesAtDesk d bytes rest s t)
+  ChangesNothing d = (bytes rest : List ℕ) (s t : Output (Kept (Desk R B W C P S N))) (h : TakesAtDesk d bytes rest s t)
       → NoneIsLetThrough s.answerer.users s.answerer.gate h.items → Unchanged s.answerer t.answerer

@@ -2,6 +2,7 @@
 
 ghost use Rattle.rtsp_guard.specs.Guarding.{AnswersBehind, GivesUpBehind};
 
+use crate::porter::Porter;
 use crate::refusing::refuse;
 use rtsp_credentials::{Gate, Users};
 use rtsp_engine::Answerer;
@@ -13,13 +14,14 @@ use std::alloc::{AllocError, Global};
 /// One who answers, behind a gate. A request that isn't let through is refused, and he never learns of
 /// it.
 #[derive(Drop)]
-pub(crate) struct Guarded<'a, 'u, A> {
+pub(crate) struct Guarded<'a, 'u, 'p, A, P> {
     pub(crate) gate: Gate,
     pub(crate) users: &'u Users,
+    pub(crate) porter: &'p P,
     pub(crate) answerer: &'a mut A,
 }
 
-impl<A: Answerer> Answerer for Guarded<'_, '_, A> {
+impl<A: Answerer, P: Porter> Answerer for Guarded<'_, '_, '_, A, P> {
     ghost answers = { AnswersBehind A.answers A.gives_up };
 
     ghost gives_up = { GivesUpBehind A.answers A.gives_up };
@@ -34,6 +36,7 @@ impl<A: Answerer> Answerer for Guarded<'_, '_, A> {
                 Err(refusal) => {
                     let gate = self.gate;
                     self.gate = gate.after(refusal);
+                    self.porter.refused(refusal, request);
                     refuse(alloc, self.users, &gate, refusal, request, room)
                 }
             },
@@ -42,7 +45,7 @@ impl<A: Answerer> Answerer for Guarded<'_, '_, A> {
     }
 }
 
-impl<A: Recorder> Recorder for Guarded<'_, '_, A> {
+impl<A: Recorder, P: Porter> Recorder for Guarded<'_, '_, '_, A, P> {
     fn closed(&self) -> Option<u64> {
         self.answerer.closed()
     }

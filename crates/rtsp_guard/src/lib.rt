@@ -1,7 +1,7 @@
 //! The gate of a connection, in front of who answers its items. A request that is let through is answered
 //! as without the gate. One that isn't is refused, and who answers never learns of it.
 //!
-//! `guarding` is the gate as an `Answerer`, and `refusing` its own answers. `push_guarded` and
+//! `guarding` is the gate as an `Answerer`, `refusing` its own answers, and `porter` who is told of them. `push_guarded` and
 //! `push_repaired_guarded` put it between a witness and who answers, `push_understood` and `push_lent`
 //! in front of a desk, as the functions of rtsp_watch of these names do without a gate.
 //!
@@ -13,11 +13,15 @@
 mod guarding;
 mod laws;
 mod lending;
+mod porter;
 mod refusing;
 mod understanding;
 mod watching;
 
-pub use laws::{law_changes_nothing, law_pieces_change_nothing, law_same_verdict};
+pub use laws::{
+    law_changes_nothing, law_pieces_change_nothing, law_same_verdict, law_visited_drawn,
+};
 pub use lending::push_lent;
+pub use porter::Porter;
 pub use understanding::push_understood;
 pub use watching::{push_guarded, push_repaired_guarded};

@@ -10,22 +10,24 @@ ghost use Rattle.rtsp_guard.specs.Guarding.{keeps};
 ghost use Rattle.rtsp_guard.specs.AtDesk.{TakesAtDesk, FaultsAtDesk, TakesRepairedAtDesk, FaultsRepairedAtDesk};
 ghost use Rattle.rtsp_guard.specs.Understanding.{TakesPiece, FaultsPiece, serves};
 
+use crate::porter::Porter;
 use crate::watching::{push_guarded, push_repaired_guarded};
 use rtsp_content::Players;
 use rtsp_credentials::{Gate, Users};
 use rtsp_engine::{Binder, Clock, Connection, Desk, Plays, Shares, Words};
 use rtsp_grammar::MessageFault;
+use rtsp_lock::Numbers;
 use rtsp_state::Room;
 use rtsp_watch::Witness;
 use std::alloc::Global;
 use std::sync::Wait;
 
 // Takes a piece, and has its items answered at the desk, as far as they are let through.
-fn push_strict<R: Wait, B: Binder, W: Words, C: Clock, P: Plays, S: Shares, T: Witness>(
+fn push_strict<R: Wait, B: Binder, W: Words, C: Clock, P: Plays, S: Shares, N: Numbers, T: Porter + Witness>(
     alloc: Global,
     gate: &mut Gate,
     users: &Users,
-    desk: &mut Desk<'_, R, B, W, C, P, S>,
+    desk: &mut Desk<'_, R, B, W, C, P, S, N>,
     witness: &T,
     connection: &mut Connection,
     piece: &[u8],
@@ -42,11 +44,11 @@ fn push_strict<R: Wait, B: Binder, W: Words, C: Clock, P: Plays, S: Shares, T: W
 }
 
 // The same of the repaired items.
-fn push_repaired<R: Wait, B: Binder, W: Words, C: Clock, P: Plays, S: Shares, T: Witness>(
+fn push_repaired<R: Wait, B: Binder, W: Words, C: Clock, P: Plays, S: Shares, N: Numbers, T: Porter + Witness>(
     alloc: Global,
     gate: &mut Gate,
     users: &Users,
-    desk: &mut Desk<'_, R, B, W, C, P, S>,
+    desk: &mut Desk<'_, R, B, W, C, P, S, N>,
     witness: &T,
     connection: &mut Connection,
     piece: &[u8],
@@ -65,11 +67,11 @@ fn push_repaired<R: Wait, B: Binder, W: Words, C: Clock, P: Plays, S: Shares, T:
 /// Takes a piece of a connection's input as rtsp_watch's `push_understood` does. What an item means is
 /// judged at the gate, and answered at the desk or refused. Of the desk only what its seat has seen of
 /// the book matters for the next piece.
-pub fn push_understood<R: Wait, B: Binder, W: Words, C: Clock, P: Plays, S: Shares, T: Witness>(
+pub fn push_understood<R: Wait, B: Binder, W: Words, C: Clock, P: Plays, S: Shares, N: Numbers, T: Porter + Witness>(
     alloc: Global,
     gate: &mut Gate,
     users: &Users,
-    desk: &mut Desk<'_, R, B, W, C, P, S>,
+    desk: &mut Desk<'_, R, B, W, C, P, S, N>,
     witness: &T,
     input: &mut Connection,
     piece: &[u8],

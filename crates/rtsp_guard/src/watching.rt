@@ -7,6 +7,7 @@ ghost use Rattle.rtsp_dialect.specs.Repairing.{TakesRepaired, FaultsRepaired};
 ghost use Rattle.rtsp_guard.specs.Guarding.{AnswersGuarded, GivesUpGuarded, AnswersBehind, GivesUpBehind, TakesGuarded, FaultsGuarded, keeps};
 
 use crate::guarding::Guarded;
+use crate::porter::Porter;
 use rtsp_credentials::{Gate, Users};
 use rtsp_engine::{Answerer, Connection};
 use rtsp_grammar::MessageFault;
@@ -14,12 +15,11 @@ use rtsp_state::Room;
 use rtsp_watch::{Recorder, Witness, push_repaired_watched, push_watched};
 use std::alloc::Global;
 
-impl<A: Answerer + Recorder> Guarded<'_, '_, A> {
+impl<A: Answerer + Recorder, T: Porter + Witness> Guarded<'_, '_, '_, A, T> {
     // Takes a piece of a connection's input. Who answers stays the same one, and so do the users.
-    fn push<T: Witness>(
+    fn push(
         &mut self,
         alloc: Global,
-        witness: &T,
         connection: &mut Connection,
         piece: &[u8],
         room: &mut Room,
@@ -32,14 +32,14 @@ impl<A: Answerer + Recorder> Guarded<'_, '_, A> {
         ensures ends { IfErr result (λ f. FaultedAfter (AnswersBehind A.answers A.gives_up) (GivesUpBehind A.answers A.gives_up)
             (connection.old ++ piece.now) f (at room.old self.old) (at room.new self.new)) }
     {
+        let witness = self.porter;
         push_watched(alloc, self, witness, connection, piece, room)
     }
 
     // The same, where each request is repaired first.
-    fn push_repaired<T: Witness>(
+    fn push_repaired(
         &mut self,
         alloc: Global,
-        witness: &T,
         connection: &mut Connection,
         piece: &[u8],
         room: &mut Room,
@@ -52,13 +52,14 @@ impl<A: Answerer + Recorder> Guarded<'_, '_, A> {
         ensures ends { IfErr result (λ f. FaultsRepaired (AnswersBehind A.answers A.gives_up) (GivesUpBehind A.answers A.gives_up)
             (connection.old ++ piece.now) f (at room.old self.old) (at room.new self.new)) }
     {
+        let witness = self.porter;
         push_repaired_watched(alloc, self, witness, connection, piece, room)
     }
 }
 
 /// Takes a piece of a connection's input as rtsp_watch's `push_watched` does. A request that is let
 /// through at the gate is answered; one that isn't is refused, and who answers never learns of it.
-pub fn push_guarded<A: Answerer + Recorder, T: Witness>(
+pub fn push_guarded<A: Answerer + Recorder, T: Porter + Witness>(
     alloc: Global,
     gate: &mut Gate,
     users: &Users,
@@ -77,15 +78,16 @@ pub fn push_guarded<A: Answerer + Recorder, T: Witness>(
     let mut guarded = Guarded {
         gate: *gate,
         users,
+        porter: witness,
         answerer,
     };
-    let pushed = guarded.push(alloc, witness, connection, piece, room);
+    let pushed = guarded.push(alloc, connection, piece, room);
     *gate = guarded.gate;
     pushed
 }
 
 /// The same as rtsp_watch's `push_repaired_watched` does it: each request is repaired, and then judged.
-pub fn push_repaired_guarded<A: Answerer + Recorder, T: Witness>(
+pub fn push_repaired_guarded<A: Answerer + Recorder, T: Porter + Witness>(
     alloc: Global,
     gate: &mut Gate,
     users: &Users,
@@ -106,9 +108,10 @@ pub fn push_repaired_guarded<A: Answerer + Recorder, T: Witness>(
     let mut guarded = Guarded {
         gate: *gate,
         users,
+        porter: witness,
         answerer,
     };
-    let pushed = guarded.push_repaired(alloc, witness, connection, piece, room);
+    let pushed = guarded.push_repaired(alloc, connection, piece, room);
     *gate = guarded.gate;
     pushed
 }
