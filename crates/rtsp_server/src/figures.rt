@@ -43,8 +43,8 @@ fn is_counting(method: Method) -> bool {
 /// Who is told of the answers to a piece of a player's input, and notes what they came to.
 #[derive(Drop)]
 pub(crate) struct AnswerCounter<'a, R> {
-    service: Service<'a, R>,
-    asker: Asker,
+    pub(crate) service: Service<'a, R>,
+    pub(crate) asker: Asker,
     heard: &'a Cell<Channels>,
     // The moment of the log's lines, in milliseconds since 1970: the clock is read once for the
     // requests of a piece, which are answered within some milliseconds.

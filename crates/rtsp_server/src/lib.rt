@@ -26,6 +26,7 @@ mod end_note;
 mod fault;
 mod figures;
 mod foresight;
+mod guarding;
 mod hearing;
 mod lane_lines;
 mod letting_in;

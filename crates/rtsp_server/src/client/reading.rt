@@ -1,0 +1,59 @@
+//! Reads a connection of a lane.
+
+use crate::answering::Front;
+use crate::client::Client;
+use crate::service::Service;
+use crate::tools::Tools;
+use crate::visiting::{Part, Read};
+use rtsp_lock::BookHandle;
+use std::net::Net;
+use std::rt;
+use std::sync::Wait;
+
+impl Client {
+    // Reads a part of what is there, has it answered, as far as it is let through, and puts the answers
+    // into the outlet.
+    pub(super) fn read<R: Wait + Net + rt::Clock>(
+        &mut self,
+        service: &Service<'_, R>,
+        tools: &mut Tools,
+        lane: &mut BookHandle,
+        part: Part,
+        until: u64,
+    ) -> Read {
+        let Tools {
+            made,
+            words,
+            plays,
+            room,
+            heard,
+            piece,
+        } = tools;
+        let Client {
+            handle,
+            asker,
+            host,
+            outlet,
+            input,
+            gate,
+            is_ending,
+            activity,
+            ..
+        } = self;
+        let front = Front {
+            service: *service,
+            handle,
+            lane,
+            asker: *asker,
+            host: *host,
+            outlet,
+            made,
+            words,
+            plays,
+            heard,
+            activity,
+            has_room: true,
+        };
+        front.visit(gate, input, room, piece.as_mut_slice(), part, *is_ending, until)
+    }
+}
