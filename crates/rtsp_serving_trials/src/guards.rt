@@ -7,10 +7,14 @@ use crate::devices::{Drawing, Noting, Ticking};
 use crate::server::{as_sent, table_of};
 use rtsp_book::Receipt;
 use rtsp_content::Table;
-use rtsp_credentials::{Gate, Protection, Users, read_users};
+use rtsp_credentials::{Gate, Protection, Refusal, Users, read_users};
 use rtsp_engine::{Asker, Connection};
-use rtsp_guard::{law_changes_nothing, law_pieces_change_nothing, law_same_verdict, push_lent};
-use rtsp_lock::{BookLock, BookSeat, open};
+use rtsp_grammar::Request;
+use rtsp_guard::{
+    Porter, law_changes_nothing, law_pieces_change_nothing, law_same_verdict, law_visited_drawn,
+    push_lent,
+};
+use rtsp_lock::{AnyNumbers, BookLock, BookSeat, open};
 use rtsp_record::Whole;
 use rtsp_state::Room;
 use rtsp_traits::{NoShares, PortSet};
@@ -39,6 +43,10 @@ impl Witness for Nobody {
     fn heard(&self, _channel: u8) {}
 
     fn answered(&self, _told: &Told<'_>) {}
+}
+
+impl Porter for Nobody {
+    fn refused(&self, _refusal: Refusal, _request: &Request) {}
 }
 
 // What a piece of a connection's input is answered.
@@ -277,7 +285,8 @@ fn a_user_s_session_is_ended_by_a_user(rt: HostRuntime) {
 
 #[test]
 fn the_laws_are_called() {
-    law_changes_nothing::<HostRuntime, PortSet, Drawing, Ticking, Noting, NoShares>();
+    law_changes_nothing::<HostRuntime, PortSet, Drawing, Ticking, Noting, NoShares, AnyNumbers>();
     law_pieces_change_nothing::<PortSet, Drawing, Ticking, Noting, NoShares>();
     law_same_verdict();
+    law_visited_drawn::<PortSet, Drawing, Ticking, Noting, NoShares>();
 }
