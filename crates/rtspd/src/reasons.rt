@@ -2,6 +2,7 @@
 
 use crate::running::read_operation;
 use crate::serving::address_of;
+use crate::users::tell_of_users;
 use rtsp_command_line::{CommandLine, Exit, read_words};
 use rtsp_content::{Presentation, Table, Track};
 use std::fs::{self, File, OpenFile, OpenOptions};
@@ -105,6 +106,11 @@ fn tell_of_operation<
     };
     if let Some(files) = operation.journal()
         && tell_of_folder(rt, files.folder())
+    {
+        return true;
+    }
+    if let Some(path) = operation.users()
+        && tell_of_users(rt, path)
     {
         return true;
     }
