@@ -22,7 +22,17 @@ use std::sync::Wait;
 /// Takes a piece as `push_understood` does, at a desk of parts that are lent for it alone. Of a SETUP
 /// that is let through and refused nothing is left where all seats of the lock use numbers that they
 /// drew.
-pub fn push_lent<'a, R: Wait, B: Binder, W: Words, C: Clock, P: Plays, S: Shares, N: Numbers, T: Porter + Witness>(
+pub fn push_lent<
+    'a,
+    R: Wait,
+    B: Binder,
+    W: Words,
+    C: Clock,
+    P: Plays,
+    S: Shares,
+    N: Numbers,
+    T: Porter + Witness,
+>(
     rt: &'a R,
     alloc: Global,
     gate: &mut Gate,

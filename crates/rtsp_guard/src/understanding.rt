@@ -23,7 +23,16 @@ use std::alloc::Global;
 use std::sync::Wait;
 
 // Takes a piece, and has its items answered at the desk, as far as they are let through.
-fn push_strict<R: Wait, B: Binder, W: Words, C: Clock, P: Plays, S: Shares, N: Numbers, T: Porter + Witness>(
+fn push_strict<
+    R: Wait,
+    B: Binder,
+    W: Words,
+    C: Clock,
+    P: Plays,
+    S: Shares,
+    N: Numbers,
+    T: Porter + Witness,
+>(
     alloc: Global,
     gate: &mut Gate,
     users: &Users,
@@ -44,7 +53,16 @@ fn push_strict<R: Wait, B: Binder, W: Words, C: Clock, P: Plays, S: Shares, N: N
 }
 
 // The same of the repaired items.
-fn push_repaired<R: Wait, B: Binder, W: Words, C: Clock, P: Plays, S: Shares, N: Numbers, T: Porter + Witness>(
+fn push_repaired<
+    R: Wait,
+    B: Binder,
+    W: Words,
+    C: Clock,
+    P: Plays,
+    S: Shares,
+    N: Numbers,
+    T: Porter + Witness,
+>(
     alloc: Global,
     gate: &mut Gate,
     users: &Users,
@@ -67,7 +85,16 @@ fn push_repaired<R: Wait, B: Binder, W: Words, C: Clock, P: Plays, S: Shares, N:
 /// Takes a piece of a connection's input as rtsp_watch's `push_understood` does. What an item means is
 /// judged at the gate, and answered at the desk or refused. Of the desk only what its seat has seen of
 /// the book matters for the next piece.
-pub fn push_understood<R: Wait, B: Binder, W: Words, C: Clock, P: Plays, S: Shares, N: Numbers, T: Porter + Witness>(
+pub fn push_understood<
+    R: Wait,
+    B: Binder,
+    W: Words,
+    C: Clock,
+    P: Plays,
+    S: Shares,
+    N: Numbers,
+    T: Porter + Witness,
+>(
     alloc: Global,
     gate: &mut Gate,
     users: &Users,

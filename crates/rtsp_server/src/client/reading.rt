@@ -54,6 +54,14 @@ impl Client {
             activity,
             has_room: true,
         };
-        front.visit(gate, input, room, piece.as_mut_slice(), part, *is_ending, until)
+        front.visit(
+            gate,
+            input,
+            room,
+            piece.as_mut_slice(),
+            part,
+            *is_ending,
+            until,
+        )
     }
 }
