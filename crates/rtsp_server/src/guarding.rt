@@ -240,12 +240,9 @@ impl<R: Wait + Net + rt::Clock> PieceAnswerer for GuardedFront<'_, '_, R> {
     }
 }
 
-impl<R: Wait + Net + rt::Clock> Front<'_, R> {
-    /// Reads a part of what is there, until a moment, has it answered, at the gate where there is one, and
-    /// puts the answers into the outlet.
-    pub(crate) fn visit(
-        self,
-        gate: &mut Option<Gate>,
+impl<R: Wait + Net + rt::Clock> GuardedFront<'_, '_, R> {
+    fn visit(
+        &mut self,
         input: &mut Connection,
         room: &mut Room,
         piece: &mut [u8],
@@ -253,32 +250,31 @@ impl<R: Wait + Net + rt::Clock> Front<'_, R> {
         reads_all: bool,
         until: u64,
     ) -> Read {
-        let mut front = self;
-        let (service, outlet) = (front.service, front.outlet);
-        match (gate.as_mut(), service.shared.users.as_ref()) {
-            (Some(gate), Some(users)) => {
-                let mut guarded = GuardedFront {
-                    front,
-                    gate: *gate,
-                    users,
-                };
-                let read = visit_by(
-                    &service,
-                    outlet,
-                    &mut guarded,
-                    input,
-                    room,
-                    piece,
-                    part,
-                    reads_all,
-                    until,
-                );
-                *gate = guarded.gate;
-                read
-            }
-            _ => visit_by(
-                &service, outlet, &mut front, input, room, piece, part, reads_all, until,
-            ),
-        }
+        let (service, outlet) = (self.front.service, self.front.outlet);
+        visit_by(
+            &service, outlet, self, input, room, piece, part, reads_all, until,
+        )
     }
+}
+
+/// Reads as `Front::visit` does, and has what is let through at the gate answered.
+pub(crate) fn visit_guarded<R: Wait + Net + rt::Clock>(
+    front: Front<'_, R>,
+    gate: &mut Gate,
+    users: &Users,
+    input: &mut Connection,
+    room: &mut Room,
+    piece: &mut [u8],
+    part: Part,
+    reads_all: bool,
+    until: u64,
+) -> Read {
+    let mut guarded = GuardedFront {
+        front,
+        gate: *gate,
+        users,
+    };
+    let read = guarded.visit(input, room, piece, part, reads_all, until);
+    *gate = guarded.gate;
+    read
 }

@@ -1,5 +1,6 @@
 //! A visit to a connection: what has come is read, answered and written.
 
+use crate::answering::Front;
 use crate::service::Service;
 use crate::writing::AnswerWriter;
 use rtsp_engine::{Connection, PieceAnswerer, PieceReader, VisitEnd, visit};
@@ -99,5 +100,24 @@ pub(crate) fn visit_by<R: Wait + Net + rt::Clock, A: PieceAnswerer>(
     Read {
         end: timed_end(end, reader.is_late()),
         is_kept: writer.is_kept(),
+    }
+}
+
+impl<R: Wait + Net + rt::Clock> Front<'_, R> {
+    // Reads a part of what is there, until a moment, has it answered, and puts the answers into the
+    // outlet.
+    pub(crate) fn visit(
+        &mut self,
+        input: &mut Connection,
+        room: &mut Room,
+        piece: &mut [u8],
+        part: Part,
+        reads_all: bool,
+        until: u64,
+    ) -> Read {
+        let (service, outlet) = (self.service, self.outlet);
+        visit_by(
+            &service, outlet, self, input, room, piece, part, reads_all, until,
+        )
     }
 }

@@ -2,6 +2,7 @@
 
 use crate::answering::Front;
 use crate::client::Client;
+use crate::guarding::visit_guarded;
 use crate::service::Service;
 use crate::tools::Tools;
 use crate::visiting::{Part, Read};
@@ -40,7 +41,7 @@ impl Client {
             activity,
             ..
         } = self;
-        let front = Front {
+        let mut front = Front {
             service: *service,
             handle,
             lane,
@@ -54,14 +55,12 @@ impl Client {
             activity,
             has_room: true,
         };
-        front.visit(
-            gate,
-            input,
-            room,
-            piece.as_mut_slice(),
-            part,
-            *is_ending,
-            until,
-        )
+        let (piece, reads_all) = (piece.as_mut_slice(), *is_ending);
+        match (gate.as_mut(), service.shared.users.as_ref()) {
+            (Some(gate), Some(users)) => visit_guarded(
+                front, gate, users, input, room, piece, part, reads_all, until,
+            ),
+            _ => front.visit(input, room, piece, part, reads_all, until),
+        }
     }
 }
