@@ -19,6 +19,9 @@ use std::sync::Wait;
 // The status of a response to a request for which there was no memory.
 const OUT_OF_MEMORY: u16 = 500;
 
+// That of a request that isn't let through: nothing was done for it.
+const UNAUTHORIZED: u16 = 401;
+
 // The status of one for which there was no more of something.
 const UNAVAILABLE: u16 = 503;
 
@@ -123,10 +126,12 @@ impl<R: Wait + rt::Clock> Witness for AnswerCounter<'_, R> {
         if is_counting(method) {
             self.end_decision();
         }
-        if !matches!(method, Method::Options | Method::Describe) || told.session().is_some() {
+        let is_let_through = told.status != UNAUTHORIZED;
+        let may_record = !matches!(method, Method::Options | Method::Describe);
+        if is_let_through && (may_record || told.session().is_some()) {
             recorded.note();
         }
-        if method == Method::Teardown {
+        if is_let_through && method == Method::Teardown {
             shared.ends.note();
         }
         if let Some(session) = told.ended {

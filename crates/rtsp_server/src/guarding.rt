@@ -9,13 +9,12 @@ ghost use Rattle.rtsp_guard.specs.Understanding.{AnswersUnderstood, GivesUpUnder
 ghost use Rattle.rtsp_guard.specs.Understanding.{LeavesTaken, LeavesFaulted};
 
 use crate::answering::{Came, Front, settle};
-use crate::fault::ServerFault;
 use crate::figures::AnswerCounter;
 use crate::service::Service;
 use crate::visiting::{Part, Read, visit_by};
 use rtsp_book::Receipt;
-use rtsp_content::{Operation, Players};
-use rtsp_credentials::{Credentials, Gate, Protection, Refusal, Users, read_users};
+use rtsp_content::Players;
+use rtsp_credentials::{Credentials, Gate, Protection, Refusal, Users};
 use rtsp_engine::{
     Asker, Binder, Clock, Connection, PieceAnswerer, Plays, Shares, Words, WordsFault,
 };
@@ -28,23 +27,9 @@ use rtsp_sockets::{PieceClock, PortBinder, RandomWords};
 use rtsp_state::Room;
 use rtsp_threads::{LaneShares, PIECE};
 use std::alloc::Global;
-use std::fs::{self, File};
 use std::net::{Ipv4Addr, Net};
 use std::rt;
-use std::rt::Files;
 use std::sync::Wait;
-
-/// The users of a server, where its configuration names a file of them.
-pub(crate) fn open_users<R: Files<File = File>>(
-    rt: &R,
-    alloc: Global,
-    operation: &Operation,
-) -> Result<Option<Users>, ServerFault> {
-    match operation.users() {
-        Some(path) => Ok(Some(read_users(alloc, &fs::read(rt, path)?)?)),
-        None => Ok(None),
-    }
-}
 
 // GStreamer's players know no qop.
 fn protection_for(players: Players) -> Protection {

@@ -7,7 +7,7 @@
 //! `visiting` reads it. Where `balancers` lists who connected, `naming` finds whom it connects. While the journal has no room `foresight` tells what may be read, and
 //! `putting_aside` has the others wait. `answering` is what is done with its input over its handle of the book, `writing`
 //! and `hearing` what is done with its output and its RTCP; `unread` is what it holds of a message that
-//! isn't whole. Of a lane, `service` and `tools` are what it answers with, `lane_lines` what it holds of
+//! isn't whole. `guarding` is its gate, where only those of `users` are let through. Of a lane, `service` and `tools` are what it answers with, `lane_lines` what it holds of
 //! the log, and `recorded` whether it has to look at the journal's room. `sweeper` and `stopping` are the
 //! threads that end sessions and the server, and `figures` is what is counted and shown. `readers` and
 //! `writing_journal` are the threads that a disk may hold up, which are then left behind.
@@ -44,6 +44,7 @@ mod sweeper;
 mod threads;
 mod tools;
 mod unread;
+mod users;
 mod visiting;
 mod writing;
 mod writing_journal;

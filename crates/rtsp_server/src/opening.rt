@@ -1,10 +1,10 @@
 //! What a server opens before its threads run.
 
 use crate::fault::ServerFault;
-use crate::guarding::open_users;
 use crate::shared::Shared;
 use crate::socket_lane::SocketLane;
 use crate::threads::OnePacer;
+use crate::users::open_users;
 use mio::net::TcpListener;
 use rtsp_content::{Operation, Table};
 use rtsp_lock::{BookHandle, open_book};
