@@ -4,6 +4,7 @@
 ghost use Rattle.rtsp_lock.specs.Calls.{IsSeatOf, SameSeat};
 
 use crate::devices::{Drawing, Noting, Ticking};
+use crate::refused_headers::{REFUSED as REFUSED_HEADERS, Refused};
 use crate::server::{as_sent, table_of};
 use rtsp_book::Receipt;
 use rtsp_content::Table;
@@ -19,7 +20,7 @@ use rtsp_record::Whole;
 use rtsp_state::Room;
 use rtsp_traits::{NoShares, PortSet};
 use rtsp_watch::{Told, Witness};
-use std::alloc::Global;
+use std::alloc::{AllocError, Global};
 use std::sync::Wait;
 
 const ASKER: Asker = Asker {
@@ -216,6 +217,46 @@ CSeq: 8
 Public: OPTIONS, DESCRIBE, SETUP, PLAY, PAUSE, TEARDOWN, GET_PARAMETER, SET_PARAMETER
 
 ";
+
+// The answer to a request of number 1.
+fn answer_to(alloc: Global, refused: Refused) -> Result<String, AllocError> {
+    let stale = match refused {
+        Refused::Malformed => return format!(in alloc; "RTSP/2.0 400 Bad Request\nCSeq: 1\n\n"),
+        Refused::Stale => ", stale=true",
+        Refused::Asked => "",
+    };
+    let (all, nonce) = (
+        "realm=\"rtspd\", qop=\"auth\"",
+        "18bcc4162c1c70e6eb79bda279144930",
+    );
+    format!(in alloc;
+        "RTSP/2.0 401 Unauthorized\nCSeq: 1\n\
+        WWW-Authenticate: Digest {all}, algorithm=SHA-256{stale}, nonce=\"{nonce}\"\n\
+        WWW-Authenticate: Digest {all}, algorithm=MD5{stale}, nonce=\"{nonce}\"\n\n"
+    )
+}
+
+// Whether a SETUP with these headers is refused so, and leaves no entry.
+fn is_refused<R: AllocGlobal + Wait>(rt: &R, headers: &str, refused: Refused) -> Option<bool> {
+    let alloc = rt.alloc();
+    let end = if headers.is_empty() { "" } else { "\n" };
+    let request = format!(in alloc;
+        "SETUP rtsp://h/tone/a RTSP/2.0\nCSeq: 1\n\
+        Transport: RTP/AVP/TCP;interleaved=0-1\n{headers}{end}\n"
+    );
+    let answer = answer_to(alloc, refused).ok()?;
+    is_answered(rt, request.ok()?.as_str(), answer.as_str(), 0)
+}
+
+#[test]
+fn each_wrong_header_is_refused_and_leaves_no_entry(rt: HostRuntime) {
+    for (number, (headers, refused)) in REFUSED_HEADERS.iter().enumerate() {
+        assert!(rt;
+            is_refused(&rt, headers, *refused) == Some(true),
+            "row {number}"
+        );
+    }
+}
 
 #[test]
 fn what_is_refused_leaves_no_entry(rt: HostRuntime) {

@@ -38,6 +38,8 @@ mod plays;
 #[cfg(test)]
 mod ports;
 #[cfg(test)]
+mod refused_headers;
+#[cfg(test)]
 mod repairs;
 #[cfg(test)]
 mod rows;
