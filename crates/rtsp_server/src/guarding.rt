@@ -84,10 +84,10 @@ impl<R: Wait + rt::Clock> Porter for AnswerCounter<'_, R> {
 
 /// What answers the pieces of a connection, and its gate.
 #[derive(Drop)]
-struct GuardedFront<'a, 'u, R> {
-    front: Front<'a, R>,
-    gate: Gate,
-    users: &'u Users,
+pub(crate) struct GuardedFront<'a, 'u, R> {
+    pub(crate) front: Front<'a, R>,
+    pub(crate) gate: Gate,
+    pub(crate) users: &'u Users,
 }
 
 // Has a piece of a connection's input answered as `answer_piece` does, as far as it is let through.
@@ -226,7 +226,8 @@ impl<R: Wait + Net + rt::Clock> PieceAnswerer for GuardedFront<'_, '_, R> {
 }
 
 impl<R: Wait + Net + rt::Clock> GuardedFront<'_, '_, R> {
-    fn visit(
+    /// Reads as `Front::visit` does, and has what is let through at the gate answered.
+    pub(crate) fn visit(
         &mut self,
         input: &mut Connection,
         room: &mut Room,
@@ -240,26 +241,4 @@ impl<R: Wait + Net + rt::Clock> GuardedFront<'_, '_, R> {
             &service, outlet, self, input, room, piece, part, reads_all, until,
         )
     }
-}
-
-/// Reads as `Front::visit` does, and has what is let through at the gate answered.
-pub(crate) fn visit_guarded<R: Wait + Net + rt::Clock>(
-    front: Front<'_, R>,
-    gate: &mut Gate,
-    users: &Users,
-    input: &mut Connection,
-    room: &mut Room,
-    piece: &mut [u8],
-    part: Part,
-    reads_all: bool,
-    until: u64,
-) -> Read {
-    let mut guarded = GuardedFront {
-        front,
-        gate: *gate,
-        users,
-    };
-    let read = guarded.visit(input, room, piece, part, reads_all, until);
-    *gate = guarded.gate;
-    read
 }

@@ -2,7 +2,7 @@
 
 use crate::answering::Front;
 use crate::client::Client;
-use crate::guarding::visit_guarded;
+use crate::guarding::GuardedFront;
 use crate::service::Service;
 use crate::tools::Tools;
 use crate::visiting::{Part, Read};
@@ -57,9 +57,16 @@ impl Client {
         };
         let (piece, reads_all) = (piece.as_mut_slice(), *is_ending);
         match (gate.as_mut(), service.shared.users.as_ref()) {
-            (Some(gate), Some(users)) => visit_guarded(
-                front, gate, users, input, room, piece, part, reads_all, until,
-            ),
+            (Some(gate), Some(users)) => {
+                let mut guarded = GuardedFront {
+                    front,
+                    gate: *gate,
+                    users,
+                };
+                let read = guarded.visit(input, room, piece, part, reads_all, until);
+                *gate = guarded.gate;
+                read
+            }
             _ => front.visit(input, room, piece, part, reads_all, until),
         }
     }
