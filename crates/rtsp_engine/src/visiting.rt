@@ -46,16 +46,16 @@ pub trait PieceIn {
 /// Who answers the items of a connection, as far as its input has come.
 pub trait PieceAnswerer {
     /// What stays of it from one piece of the input to the next.
-    ghost Kept: { Type 0 };
+    ghost State: { Type 0 };
 
     /// As it is now: what is served, to whom, and what the connection's seat of the lock knows.
-    ghost serving: { Self → Kept };
+    ghost serving: { Self → State };
 
     /// How an item is answered: with which bytes, and what is so afterwards.
-    ghost answers: { Kept → Item → List ℕ → Kept → Type 0 };
+    ghost answers: { State → Item → List ℕ → State → Type 0 };
 
     /// What may have been done where memory ran out, and the item has no answer.
-    ghost gives_up: { Kept → Item → Kept → Type 0 };
+    ghost gives_up: { State → Item → State → Type 0 };
 
     /// Takes a piece of the connection's input, as `Connection::push` does.
     fn push(

@@ -153,7 +153,7 @@ pub(crate) fn settle<R: Wait + rt::Clock>(
 }
 
 impl<R: Wait + Net + rt::Clock> PieceAnswerer for Front<'_, R> {
-    ghost Kept = { Serving };
+    ghost State = { Serving };
 
     ghost serving = { λ f. serving_of f.service.table.now f.asker f.handle.now.seat };
 

@@ -162,7 +162,7 @@ fn answer_guarded<R: Wait + Net + rt::Clock, W: Words, P: Plays>(
 }
 
 impl<R: Wait + Net + rt::Clock> PieceAnswerer for GuardedFront<'_, '_, R> {
-    ghost Kept = { Kept Serving };
+    ghost State = { Kept Serving };
 
     ghost serving = { λ f. keeps f.gate f.users.now (serving_of f.front.service.table.now f.front.asker f.front.handle.now.seat) };
 
