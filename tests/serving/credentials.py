@@ -84,7 +84,7 @@ def asked(server: Server) -> Tuple[Connection, str]:
 def is_untouched(checks: Checks, port: int, where: str) -> None:
     """That the book and its journal are as at the start."""
     found = figures(port)
-    names = ("rtspd_sessions", "rtspd_journal_entries,state=kept", "rtspd_uplink_bits_per_second,state=held")
+    names = ("rtspd_sessions", "rtspd_journal_entries,state=written", "rtspd_uplink_bits_per_second,state=held")
     held = {it: found[it] for it in found if it in names or it.startswith("rtspd_port_pairs") and it.endswith("held")}
     checks.same(f"what is held {where}", {it: 0.0 for it in held}, held)
 

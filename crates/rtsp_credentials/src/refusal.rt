@@ -28,23 +28,3 @@ pub enum Refusal {
     /// So many responses of the connection were wrong that no more are looked at.
     TooManyWrong,
 }
-
-impl Refusal {
-    /// As the log names it.
-    pub fn name(self) -> &'static [u8] {
-        match self {
-            Refusal::Missing => b"missing",
-            Refusal::Repeated => b"repeated",
-            Refusal::OtherScheme => b"other scheme",
-            Refusal::Malformed => b"malformed",
-            Refusal::OtherUri => b"other URI",
-            Refusal::OtherRealm => b"other realm",
-            Refusal::OtherAlgorithm => b"other algorithm",
-            Refusal::OtherProtection => b"other protection",
-            Refusal::Stale => b"stale",
-            Refusal::Replayed => b"replayed",
-            Refusal::Wrong => b"wrong",
-            Refusal::TooManyWrong => b"too many wrong",
-        }
-    }
-}

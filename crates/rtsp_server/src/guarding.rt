@@ -21,7 +21,7 @@ use rtsp_engine::{
 use rtsp_grammar::{MessageFault, Request};
 use rtsp_guard::{Porter, push_lent};
 use rtsp_lock::BookHandle;
-use rtsp_log::{Event, RefusedCredentials, UserName};
+use rtsp_log::{CredentialsCause, Event, RefusedCredentials, UserName};
 use rtsp_pacing::NotedPlays;
 use rtsp_sockets::{PieceClock, PortBinder, RandomWords};
 use rtsp_state::Room;
@@ -52,10 +52,22 @@ pub(crate) fn open_gate<R>(
     Ok(Some(Gate::open(number, protection_for(players))))
 }
 
-// Whether the log tells of it: each player begins with no credentials, or with those of an earlier
-// connection.
-fn is_told(refusal: Refusal) -> bool {
-    !matches!(refusal, Refusal::Missing | Refusal::Stale)
+// Why, as the log tells it. Nothing where it tells nothing: each player begins with no credentials, or
+// with those of an earlier connection.
+fn cause_of(refusal: Refusal) -> Option<CredentialsCause> {
+    match refusal {
+        Refusal::Missing | Refusal::Stale => None,
+        Refusal::Repeated => Some(CredentialsCause::Repeated),
+        Refusal::OtherScheme => Some(CredentialsCause::OtherScheme),
+        Refusal::Malformed => Some(CredentialsCause::Malformed),
+        Refusal::OtherAlgorithm => Some(CredentialsCause::OtherAlgorithm),
+        Refusal::OtherProtection => Some(CredentialsCause::OtherProtection),
+        Refusal::OtherUri => Some(CredentialsCause::OtherUri),
+        Refusal::OtherRealm => Some(CredentialsCause::OtherRealm),
+        Refusal::Replayed => Some(CredentialsCause::Replayed),
+        Refusal::Wrong => Some(CredentialsCause::Wrong),
+        Refusal::TooManyWrong => Some(CredentialsCause::TooManyWrong),
+    }
 }
 
 // The user that a request says it is from.
@@ -68,16 +80,14 @@ fn name_in(request: &Request) -> UserName {
 
 impl<R: Wait + rt::Clock> Porter for AnswerCounter<'_, R> {
     fn refused(&self, refusal: Refusal, request: &Request) {
-        if is_told(refusal) {
+        if let Some(cause) = cause_of(refusal) {
             let Service { rt, shared, .. } = self.service;
-            shared.log.event(
-                rt,
-                Event::CredentialsRefused(RefusedCredentials {
-                    peer: self.asker.peer,
-                    why: refusal.name(),
-                    user: name_in(request),
-                }),
-            );
+            let refused = RefusedCredentials {
+                peer: self.asker.peer,
+                cause,
+                user: name_in(request),
+            };
+            shared.log.event(rt, Event::CredentialsRefused(refused));
         }
     }
 }

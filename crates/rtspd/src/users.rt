@@ -45,9 +45,12 @@ fn have_fault(alloc: Global, text: &[u8], lines: usize) -> bool {
 // have one where they go up to it.
 fn line_of_fault(alloc: Global, text: &[u8]) -> usize {
     let mut right = 0;
-    let mut wrong = 1 + text.iter().filter(|byte| **byte == b'\n').count();
-    while wrong.saturating_sub(right) > 1 {
-        let middle = right + (wrong - right) / 2;
+    let mut wrong = text.split(|byte| *byte == b'\n').count();
+    for _ in 0..usize::BITS {
+        let middle = right.saturating_add(wrong.saturating_sub(right) / 2);
+        if middle == right {
+            break;
+        }
         if have_fault(alloc, text, middle) {
             wrong = middle;
         } else {
