@@ -44,7 +44,7 @@ fn have_fault(alloc: Global, text: &[u8], lines: usize) -> bool {
 // The number of the first line that has a fault. What is behind it isn't looked at, so the first lines
 // have one where they go up to it.
 fn line_of_fault(alloc: Global, text: &[u8]) -> usize {
-    let mut right = 0;
+    let mut right: usize = 0;
     let mut wrong = text.split(|byte| *byte == b'\n').count();
     for _ in 0..usize::BITS {
         let middle = right.saturating_add(wrong.saturating_sub(right) / 2);
