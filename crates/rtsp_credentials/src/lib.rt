@@ -1,9 +1,10 @@
 //! Who a request is from: Digest (RFC 7616), as RFC 7826 section 19.1 has it.
 //!
-//! `credentials` is what the Authorization header says, by `parameters`; `users` are those of a server,
-//! which `users_file` reads. `gate` judges the requests of a connection, and `challenge` is what it asks
-//! of whom it refuses; `by_md5` and `by_sha256` have the hashes. The definitions of `specs/`: Digest (the response), Verdict (which request is let
-//! through, as it is computed and in the words of the RFC), Grammar (the header), UsersFile.
+//! `credentials` is what the Authorization header says, by `parameters`; `users` are those of a
+//! server, which `users_file` reads. `gate` judges the requests of a connection, and `challenge` is
+//! what it asks of whom it refuses; `by_md5` and `by_sha256` have the hashes. The definitions of
+//! `specs/`: Digest (the response), Verdict (which request is let through, as it is computed and in
+//! the words of the RFC), Grammar (the header), UsersFile.
 
 #![tactic(auto)]
 
