@@ -99,7 +99,9 @@ impl Sink for Keeps {
 
     fn octets(&mut self, track: u16, _unit: u32, out: &mut [u8]) -> Result<(), SinkFault> {
         out.fill(0);
-        if track == 0 && let Some(front) = out.first_chunk_mut::<22>() {
+        if track == 0
+            && let Some(front) = out.first_chunk_mut::<22>()
+        {
             *front = self.slot;
         }
         Ok(())
@@ -218,7 +220,13 @@ fn begins_at(alloc: Global) -> Option<[u32; 5]> {
     let table = Table::read(alloc, FILM.as_bytes()).ok()?;
     let film = table.presentation(0)?;
     let rate = u32::try_from(film.rate(film.track(0)?)).ok()?;
-    Some([film.start_at(0), film.start_at(24), film.start_at(99), film.longest_gap(), rate])
+    Some([
+        film.start_at(0),
+        film.start_at(24),
+        film.start_at(99),
+        film.longest_gap(),
+        rate,
+    ])
 }
 
 #[test]

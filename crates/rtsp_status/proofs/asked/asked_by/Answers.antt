@@ -8,4 +8,4 @@ returns-then-is_look c = c.looked_at.ensures c.args.method.now (c.is_look.ensure
 pub returns-in-POST : goal.returns-in-POST
 returns-in-POST c =
     subst (λ (m : List ℕ). Asks m c.args.path.now c.args.nearness c.args.is_open c.args.is_plain c.posted_to.result)
-        (sym c.in-POST.is) (c.posted_to.ensures c.args.is_open c.args.is_plain)
+    (sym c.in-POST.is) (c.posted_to.ensures c.args.is_open c.args.is_plain)
