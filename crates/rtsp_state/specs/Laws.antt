@@ -162,7 +162,8 @@ pub record AnswersInOrder : Type 0 where
   pub planned : (a : Asking) (given : Response) → plan_of a ≡ plans.Answer given → AreInOrder given.headers
   -- a step and an admission, whatever came of them
   pub stepped : (plan : StepPlan) (made : Result (List Record) Refusal) → AreInOrder (step_answer plan made).headers
-  pub set_up : (plan : SetupPlan) (source : Option ℕ) (drawn : SessionKey) (made : Result Admitted Refusal) → AreInOrder (setup_answer plan source drawn made).headers
+  pub set_up : (plan : SetupPlan) (source : Option ℕ) (drawn : SessionKey) (made : Result Admitted Refusal)
+      → AreInOrder (setup_answer plan source drawn made).headers
   -- a refusal, and a refused step
   pub fault : (start : ResponseStart) (f : Fault) → AreInOrder (refused start f).headers
   pub refusal : (start : ResponseStart) (r : Refusal) → AreInOrder (refusal_response start r).headers
