@@ -1,7 +1,7 @@
 //! How a server stood over the last quarter of an hour.
 
 use crate::snapshot::{Lateness, Refusals, Snapshot};
-use std::alloc::{AllocError, Global};
+use std::alloc::Global;
 use std::collections::VecDeque;
 
 /// How often a sample is taken, in milliseconds.
@@ -106,12 +106,12 @@ impl Counted {
 }
 
 impl History {
-    /// No sample yet, with memory for all that are kept.
-    pub fn open(alloc: Global) -> Result<History, AllocError> {
-        Ok(History {
-            samples: VecDeque::with_capacity(alloc, SAMPLES)?,
+    /// No sample yet.
+    pub fn new(alloc: Global) -> History {
+        History {
+            samples: VecDeque::new(alloc),
             last: None,
-        })
+        }
     }
 
     /// Whether a sample is to be taken at this moment, in milliseconds since the server began.
@@ -123,7 +123,8 @@ impl History {
     }
 
     /// Takes a sample: how the server stands at this moment, by when so many bytes of RTP packets were
-    /// sent. The first one only tells from where those that follow are counted.
+    /// sent. The first one only tells from where those that follow are counted. One for which there is no
+    /// memory is left out.
     pub fn note(&mut self, snapshot: &Snapshot, bytes: u64, moment: u64) {
         let now = Counted::of(snapshot, bytes, moment);
         if let Some(last) = &self.last {
