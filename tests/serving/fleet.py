@@ -35,13 +35,12 @@ ASKS = """
 import socket, sys
 held, answered = [], 0
 for _ in range(int(sys.argv[1])):
-    talk = socket.create_connection(("10.77.0.1", 554), timeout=5)
-    talk.sendall(b"OPTIONS * RTSP/2.0\\r\\nCSeq: 1\\r\\n\\r\\n")
     try:
-        answered += talk.recv(999).startswith(b"RTSP/2.0 200")
+        held.append(socket.create_connection(("10.77.0.1", 554), timeout=5))
+        held[-1].sendall(b"OPTIONS * RTSP/2.0\\r\\nCSeq: 1\\r\\n\\r\\n")
+        answered += held[-1].recv(999).startswith(b"RTSP/2.0 200")
     except OSError:
         pass
-    held.append(talk)
 print(answered, flush=True)
 sys.stdin.read()
 """

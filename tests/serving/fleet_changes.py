@@ -3,6 +3,7 @@ comes."""
 import re
 import subprocess
 import sys
+import time
 from typing import List
 
 from checks import TOP, Checks, Failed
@@ -25,6 +26,8 @@ from .fleet import (
 from .runner import serving_test
 
 NAMES = "abcd"
+# HAProxy asks each agent so often, in seconds, and a little.
+ASKED_WITHIN = 1.3
 COMMAND = r"`((?:add|set|clear|enable|disable) [^`]+)`"
 # Asks the listener of a server's figures from its own machine, and says the status.
 ASKS_FOR = """
@@ -77,6 +80,9 @@ def a_fleet_that_drains(checks: Checks) -> None:
         *leave, come_back = commands("One goes")
         for command in leave:
             checks.same(command, "", told_to(made.admin, command).strip())
+        # As long as HAProxy takes to ask the agent of who is told, too.
+        time.sleep(ASKED_WITHIN)
+        is_seen(checks, made, 0, "DRAIN")
         for number in 0, 1:
             checks.same("a drain", "200", status_of(made, number, "POST", "/drain"))
             checks.same("ready", "503", status_of(made, number, "GET", "/ready"))
@@ -99,21 +105,25 @@ def a_fleet_that_drains(checks: Checks) -> None:
 
 @serving_test(limit=60)
 def a_fleet_that_grows(checks: Checks) -> None:
-    """A fourth server is added without a reload, and the next player comes to it: its plays are whole."""
+    """A fourth server is added without a reload, and the next players come to it: plays there are whole."""
     with fleet(checks) as made:
         if not made:
             return
-        talks = come_to_stay(checks, made, 2)
+        talks = come_to_stay(checks, made, 3)
+        before = homes(made, 0, 1)
         made.begin_server(AT_FIRST)
         made.tells(AT_FIRST, "listening on")
         for command in commands("One comes"):
             checks.that(command, "o such" not in told_to(made.admin, command))
         is_seen(checks, made, AT_FIRST, "UP")
-        # A player who hasn't been there.
-        told_to(made.admin, f"clear table servers key {PLAYERS[0]}")
-        ((before,),) = homes(made, 0)
+        for player in 0, 1:
+            # As if it had never come.
+            told_to(made.admin, f"clear table servers key {PLAYERS[player]}")
+            talks.append(made.asks(player, 1))
+            checks.same("a new player is answered", 1, answered(talks[-1]))
+        checks.same("where", [[*there, AT_FIRST] for there in before], homes(made, 0, 1))
         for way in [], ["--tcp"]:
             done = ended(made.begin_play(0, "--seconds", "2", *way))
             checks.that(f"a play {way or 'over UDP'}: each packet", done.is_whole(100), done)
-        checks.same("where", [[before, AT_FIRST]], homes(made, 0))
+        checks.same("plays there", 2, len(made.lines(AT_FIRST, PLAYERS[0], '"PLAY"')))
         let_go(*talks)

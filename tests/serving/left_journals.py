@@ -21,8 +21,8 @@ from .server import Server
 FOR_LONG = 60_000
 # Within so many seconds a stop is over, after one signal and after two.
 ONCE, TWICE = 3.0, 0.3
-# So many seconds plays go on beside a drain.
-DRAINS = 2.0
+# So many seconds plays go on beside a drain, whose end is looked for so often.
+DRAINS, LOOKS = 2.0, 1.0
 LEAVES = b"error the stop leaves a write to the journal's file behind"
 LAST = re.compile(
     rb"rtspd: a disk holds up (journal-\d{6}\.txt), which was left behind: "
@@ -141,10 +141,8 @@ def drains_held_up(checks: Checks, within: float, *methods: str) -> None:
 @serving_test(limit=90, is_timed=True)
 def a_drain_leaves_a_write_behind(checks: Checks) -> None:
     """It ends in a stop's time after the last session, and where one plays on, after `drain` seconds."""
-    drains_held_up(checks, ONCE, "TEARDOWN")
-    began = time.monotonic()
-    drains_held_up(checks, DRAINS + ONCE)
-    checks.that("plays went on for so long", time.monotonic() - began > DRAINS)
+    drains_held_up(checks, LOOKS + ONCE, "TEARDOWN")
+    drains_held_up(checks, DRAINS + LOOKS + ONCE)
 
 
 @serving_test(limit=90, is_timed=True)
