@@ -320,7 +320,7 @@ def a_fleet_behind_haproxy(checks: Checks) -> None:
         plays_again(checks, made, 1)
 
 
-@serving_test(limit=60)
+@serving_test(limit=60, is_timed=True)
 def a_fleet_by_gstreamer(checks: Checks) -> None:
     """By rtsps to the end of the stream, each octet as it was served: through the balancer, and over UDP past it."""
     if not gstreamer.is_here(checks, "gst-launch-1.0"):
