@@ -85,6 +85,10 @@ def a_fleet_that_drains(checks: Checks) -> None:
         is_seen(checks, made, 0, "DRAIN")
         for number in 0, 1:
             checks.same("a drain", "200", status_of(made, number, "POST", "/drain"))
+            # Who sticks there and comes before HAProxy has asked is closed at once: that is no error of the server.
+            late = made.asks(players[number], 3)
+            checks.that("late connections that are answered", answered(late) <= 3)
+            let_go(late)
             checks.same("ready", "503", status_of(made, number, "GET", "/ready"))
             is_seen(checks, made, number, "DRAIN")
         told_to(made.admin, "clear table servers data.server_id eq 2")
