@@ -3,7 +3,7 @@
 ghost use Rattle.std.specs.Prelude.{◌++◌, IfErr, OnOk};
 ghost use Rattle.rtsp_grammar.specs.Answer.{IsUndecided};
 ghost use Rattle.rtsp_traits.specs.Devices.{devices};
-ghost use Rattle.rtsp_engine.specs.Serving.{serving_of};
+ghost use Rattle.rtsp_engine.specs.Serving.{Serving, serving_of};
 ghost use Rattle.rtsp_watch.specs.Understanding.{AnswersUnderstood, GivesUpUnderstood, TakesPiece, FaultsPiece, gathered};
 ghost use Rattle.rtsp_watch.specs.Understanding.{LeavesTaken, LeavesFaulted};
 
@@ -116,6 +116,8 @@ fn answer_piece<R: Wait + Net + rt::Clock, W: Words, P: Plays>(
 }
 
 impl<R: Wait + Net + rt::Clock> PieceAnswerer for Front<'_, R> {
+    ghost State = { Serving };
+
     ghost serving = { λ f. serving_of f.service.table.now f.asker f.handle.now.seat };
 
     ghost answers = { AnswersUnderstood (devices ⟦<PortBinder<'static, R> as Binder>⟧.calls
