@@ -82,11 +82,12 @@ class Play(NamedTuple):
         return False
 
 
-def begun(server: Server, way: str, number: int) -> Play:
+def begun(server: Server, way: str, number: int, *more: str) -> Play:
+    """With more properties of its source."""
     folder = server.path / f"{way}{number}"
     folder.mkdir()
     words = ["gst-launch-1.0", "rtspsrc", "name=source", f"location={server.uri}"]
-    words += ["default-rtsp-version=2-0", f"protocols={way}", f"latency={1000 * LATENCY:.0f}"]
+    words += ["default-rtsp-version=2-0", f"protocols={way}", f"latency={1000 * LATENCY:.0f}", *more]
     # Each depayloader takes the pad whose payload it knows. With a filter of capabilities before them gst-launch tries
     # each on each pad, and where two pads appear at once, one misses its own.
     for track in server.presentation.tracks:

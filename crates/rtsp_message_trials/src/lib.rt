@@ -1,5 +1,5 @@
-//! Tests of the public names of rtsp_text and of the crates of messages, media and packets, in
-//! modules by subject. The crate has nothing else.
+//! Tests of the public names of rtsp_text and of the crates of messages, credentials, media and
+//! packets, in modules by subject. The crate has nothing else.
 
 #![tactic(auto)]
 
@@ -7,6 +7,7 @@
 mod configurations;
 #[cfg(test)]
 mod explanations;
+mod credentials;
 #[cfg(test)]
 mod films;
 #[cfg(test)]
