@@ -1,13 +1,14 @@
-//! Tests of the public names of rtsp_text and of the crates of messages, credentials, media and
-//! packets, in modules by subject. The crate has nothing else.
+//! Tests of the public names of rtsp_text and of the crates of messages, credentials, configurations,
+//! media and packets, in modules by subject. The crate has nothing else.
 
 #![tactic(auto)]
 
 #[cfg(test)]
 mod configurations;
 #[cfg(test)]
-mod explanations;
 mod credentials;
+#[cfg(test)]
+mod explanations;
 #[cfg(test)]
 mod films;
 #[cfg(test)]

@@ -22,41 +22,23 @@ impl Client {
         part: Part,
         until: u64,
     ) -> Read {
-        let Tools {
-            made,
-            words,
-            plays,
-            room,
-            heard,
-            piece,
-        } = tools;
-        let Client {
-            handle,
-            asker,
-            host,
-            outlet,
-            input,
-            gate,
-            is_ending,
-            activity,
-            ..
-        } = self;
         let mut front = Front {
             service: *service,
-            handle,
+            handle: &mut self.handle,
             lane,
-            asker: *asker,
-            host: *host,
-            outlet,
-            made,
-            words,
-            plays,
-            heard,
-            activity,
+            asker: self.asker,
+            host: self.host,
+            outlet: &self.outlet,
+            made: &mut tools.made,
+            words: &mut tools.words,
+            plays: &mut tools.plays,
+            heard: &tools.heard,
+            activity: &mut self.activity,
             has_room: true,
         };
-        let (piece, reads_all) = (piece.as_mut_slice(), *is_ending);
-        match (gate.as_mut(), service.shared.users.as_ref()) {
+        let (input, reads_all) = (&mut self.input, self.is_ending);
+        let (room, piece) = (&mut tools.room, tools.piece.as_mut_slice());
+        match (self.gate.as_mut(), service.shared.users.as_ref()) {
             (Some(gate), Some(users)) => {
                 let mut guarded = GuardedFront {
                     front,
