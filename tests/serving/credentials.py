@@ -13,6 +13,7 @@ from rtsp_client.credentials import Credentials, parameters
 from rtsp_client.messages import Message, written
 from rtsp_client.player import Player, Way
 
+from .command_lines import line_of, said
 from .events import Telling
 from .gstreamer import PLAYERS, SHORT, begun, is_here
 from .operator import figures, shown_at
@@ -243,25 +244,38 @@ FAULTS = {
 }
 
 
-def complaint_of(server: Server) -> Tuple[int, str]:
-    """How a server ends that doesn't start, and what it says."""
+class Complaint(NamedTuple):
+    """How a server ends that doesn't start, and what it says; how a look beforehand ends, and what it notes first."""
+
+    status: int
+    told: str
+    looked: int
+    noted: str
+
+
+def complaint_of(server: Server) -> Complaint:
     with server.folder:
         server.write_media()
         process = server.start()
-        _, said = process.communicate(timeout=20)
-        return process.returncode, said.decode()
+        _, told = process.communicate(timeout=20)
+        looked, noted, _ = said(server.path, "check", "--config", "server.toml")
+        return Complaint(process.returncode, told.decode(), looked, noted.decode().partition("\n")[0])
 
 
 @serving_test(limit=60)
 def a_wrong_file_of_users_is_told(checks: Checks) -> None:
-    """By its line and what is wrong there; the server doesn't start, with the status of a bad configuration."""
+    """By its line and what is wrong there, beforehand too; the server doesn't start, with the status of a bad configuration."""
     for text, why in FAULTS.items():
         server = Server(checks, users='"users"')
         (server.path / "users").write_text(text, newline="")
-        checks.same(repr(text[:60]), (1, f"rtspd: bad configuration\nrtspd: users: {why}\n"), complaint_of(server))
-    status, said = complaint_of(Server(checks, users='"nowhere"'))
-    checks.same("a file that isn't there", 4, status)
-    checks.that("its name is told", "rtspd: nowhere: " in said, said)
+        note = f"note: server.toml:{line_of(server.text, 'users')}: users: {why}"
+        wanted = Complaint(1, f"rtspd: bad configuration\nrtspd: users: {why}\n", 1, note)
+        checks.same(repr(text[:60]), wanted, complaint_of(server))
+    server = Server(checks, users='"nowhere"')
+    came, line = complaint_of(server), line_of(server.text, "users")
+    checks.same("a file that isn't there", (4, 4), (came.status, came.looked))
+    checks.that("its name is told", "rtspd: nowhere: " in came.told, came.told)
+    checks.that("its name is noted", came.noted.startswith(f"note: server.toml:{line}: nowhere: "), came.noted)
 
 
 @serving_test(limit=40)

@@ -1,9 +1,10 @@
-//! What is wrong with a file of users, for whoever started the server.
+//! What is wrong with a file of users, for whoever started the server or has its configuration looked at.
 
+use rtsp_command_line::Exit;
 use rtsp_credentials::{UsersFault, read_users};
-use std::alloc::Global;
+use std::alloc::{AllocError, Global};
 use std::fs::{self, File};
-use std::io::Eprint;
+use std::io::{Eprint, ErrorKind};
 use std::rt::Files;
 
 fn text_of(fault: UsersFault) -> &'static str {
@@ -60,28 +61,50 @@ fn line_of_fault(alloc: Global, text: &[u8]) -> usize {
     wrong
 }
 
+/// What is wrong with the file of users at this path, if anything is: how a server ends that would
+/// start with it, and why.
+pub(crate) fn users_fault<R: Files<File = File> + AllocGlobal>(
+    rt: &R,
+    path: &str,
+) -> Result<Option<(Exit, String)>, AllocError> {
+    let alloc = rt.alloc();
+    let text = match fs::read(rt, path) {
+        Ok(text) => text,
+        Err(error) if error.kind() == ErrorKind::OutOfMemory => return Err(AllocError),
+        Err(error) => {
+            let why = format!(in alloc; "{path}: {error}")?;
+            return Ok(Some((Exit::DeviceFailed, why)));
+        }
+    };
+    let fault = match read_users(alloc, &text) {
+        Ok(_) => return Ok(None),
+        Err(UsersFault::OutOfMemory) => return Err(AllocError),
+        Err(fault) => fault,
+    };
+    let reason = text_of(fault);
+    let why = if fault == UsersFault::Empty {
+        format!(in alloc; "{path}: {reason}")?
+    } else {
+        let line = line_of_fault(alloc, &text);
+        format!(in alloc; "{path}: line {line}: {reason}")?
+    };
+    Ok(Some((Exit::BadConfiguration, why)))
+}
+
 /// Tells what is wrong with the file of users at this path, if anything is.
 pub(crate) fn tell_of_users<R: Files<File = File> + AllocGlobal + Eprint>(
     rt: &R,
     path: &str,
 ) -> bool {
-    let text = match fs::read(rt, path) {
-        Ok(text) => text,
-        Err(error) => {
-            let _ = eprintln!(rt; "rtspd: {path}: {error}");
-            return true;
+    match users_fault(rt, path) {
+        Ok(None) => false,
+        Ok(Some((_, why))) => {
+            let _ = eprintln!(rt; "rtspd: {why}");
+            true
         }
-    };
-    let why = match read_users(rt.alloc(), &text) {
-        Ok(_) => return false,
-        Err(fault) => fault,
-    };
-    let reason = text_of(why);
-    if why == UsersFault::Empty || why == UsersFault::OutOfMemory {
-        let _ = eprintln!(rt; "rtspd: {path}: {reason}");
-    } else {
-        let line = line_of_fault(rt.alloc(), &text);
-        let _ = eprintln!(rt; "rtspd: {path}: line {line}: {reason}");
+        Err(_) => {
+            let _ = eprintln!(rt; "rtspd: {path}: there is no memory");
+            true
+        }
     }
-    true
 }
