@@ -242,6 +242,61 @@ def packets_pass_a_balancer_by(checks: Checks) -> None:
             checks.same("its own address", 200, set_up(talk, server.uri, PLAYER, port)[0])
 
 
+SOURCE = re.compile(r"src_addr=([^;]*)")
+OVER_UDP = {
+    'RTP/AVP;unicast;dest_addr=":{0}"/":{1}"': r'"{host}:(\d+)"/"{host}:(\d+)"',
+    'RTP/AVP;unicast;RTCP-mux;dest_addr=":{0}"': r'"{host}:(\d+)"',
+}
+
+
+def told_source(talk: Talk, uri: str, transport: str) -> Tuple[str, str]:
+    """What a SETUP is told of where packets come from, and its session."""
+    answer = talk.ask("SETUP", f"{uri}/a", [("Transport", transport)])
+    source = SOURCE.search(answer.header("Transport") or "")
+    return source[1] if source else "", (answer.header("Session") or "").partition(";")[0]
+
+
+@serving_test(limit=40)
+def the_host_is_told_behind_a_balancer(checks: Checks) -> None:
+    """Over UDP, by either version and on two ports or one, and packets come from it; whoever connects to it isn't told."""
+    with Server(checks, proxy=LISTED) as server, contextlib.closing(socket.socket(type=socket.SOCK_DGRAM)) as ear:
+        ear.bind((PLAYER, 0))
+        ear.settimeout(WITHIN)
+        port = ear.getsockname()[1]
+        direct = Talk(server, PLAYER)
+        with direct.socket, balanced(server, PLAYER, PLAYER) as talks:
+            for transport, form in OVER_UDP.items():
+                wanted = transport.format(port, port + 1)
+                for talk in talks:
+                    source, session = told_source(talk, server.uri, wanted)
+                    told = re.fullmatch(form.format(host=re.escape(server.host)), source)
+                    checks.that("the host of each port", told is not None, source)
+                    talk.ask("PLAY", server.uri, [("Session", session)])
+                    came = ear.recvfrom(2048)[1]
+                    checks.same("where a packet comes from", (server.host, int(told[1]) if told else 0), came)
+                    checks.same("its end", 200, talk.ask("TEARDOWN", server.uri, [("Session", session)]).status)
+                    emptied(ear)
+                source, session = told_source(direct, server.uri, wanted)
+                checks.that("directly there is none", re.fullmatch(form.format(host=""), source) is not None, source)
+                direct.ask("TEARDOWN", server.uri, [("Session", session)])
+            source, session = told_source(talks[0], server.uri, "RTP/AVP/TCP;unicast;interleaved=0-1")
+            checks.same("over the connection", "", source)
+            talks[0].ask("TEARDOWN", server.uri, [("Session", session)])
+            checking = Balanced(server, LOCAL)
+            with checking.socket:
+                source, session = told_source(checking, server.uri, next(iter(OVER_UDP)).format(9, 9))
+                checks.that("of the balancer's own there is none", re.fullmatch(r'":\d+"/":\d+"', source) is not None, source)
+
+
+def emptied(ear: socket.socket) -> None:
+    """Takes the packets that have come, until none comes for a while."""
+    ear.settimeout(0.1)
+    with contextlib.suppress(TimeoutError):
+        while ear.recv(2048):
+            pass
+    ear.settimeout(WITHIN)
+
+
 @serving_test(limit=30)
 def a_header_from_elsewhere_is_no_header(checks: Checks) -> None:
     """Where its address isn't listed it is what it was: a request that can't be read; without the key for all."""

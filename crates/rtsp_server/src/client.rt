@@ -111,7 +111,11 @@ impl Client {
         let conn = handle.draw(service.rt)?;
         Some(Client {
             handle,
-            asker: Asker { conn, peer },
+            asker: Asker {
+                conn,
+                peer,
+                source: None,
+            },
             naming,
             host,
             outlet,
@@ -330,7 +334,7 @@ impl Client {
         shared: &Shared,
         lane: &mut BookHandle,
     ) {
-        let Asker { conn, peer } = self.asker;
+        let Asker { conn, peer, .. } = self.asker;
         self.outlet.close(rt);
         shared.outlets.remove(rt, conn);
         if self.end_sessions(rt, shared, lane) {

@@ -1,7 +1,7 @@
 //! What is counted and shown of a server, for whoever runs it.
 
 use crate::channels::Channels;
-use crate::further::further;
+use crate::further::{bytes_sent, further};
 use crate::operating::{end_by_operator, sessions_text, standing};
 use crate::service::Service;
 use crate::session_names::{named, viewing_of};
@@ -10,7 +10,7 @@ use rtsp_content::Table;
 use rtsp_engine::Asker;
 use rtsp_lock::{BookHandle, HandOutFault, Mark, Then};
 use rtsp_log::{Access, EndCause, Event, moment};
-use rtsp_metrics::{BookFigures, Counts, Held, Method, Snapshot};
+use rtsp_metrics::{BookFigures, Counts, Held, History, Method, Snapshot};
 use rtsp_record::Entry;
 use rtsp_sockets::RunningClock;
 use rtsp_status::{Further, SessionMeant, Source, Standing};
@@ -206,6 +206,7 @@ pub(crate) struct Figures<'a, R> {
     pub(crate) handle: BookHandle,
     /// What the system says of the process, where it does.
     pub(crate) usage: Option<OwnUsage>,
+    pub(crate) history: History,
     /// No entry: nothing is handed out to it.
     pub(crate) nothing: Vec<Entry>,
 }
@@ -266,7 +267,8 @@ impl<R: Wait + Net + rt::Clock> Source for Figures<'_, R> {
     }
 
     fn further(&mut self, alloc: Global) -> Result<Further, AllocError> {
-        further(self.rt, alloc, self.shared, self.usage.as_ref())
+        let usage = self.usage.as_ref();
+        further(self.rt, alloc, self.shared, usage, &self.history)
     }
 
     fn standing(&mut self) -> Standing {
@@ -283,5 +285,13 @@ impl<R: Wait + Net + rt::Clock> Source for Figures<'_, R> {
 
     fn end(&mut self, session: SessionMeant) -> bool {
         end_by_operator(self.rt, self.shared, &mut self.handle, session)
+    }
+
+    fn note(&mut self) {
+        let now = self.shared.now(self.rt);
+        if self.history.is_due(now) {
+            let snapshot = self.snapshot();
+            self.history.note(&snapshot, bytes_sent(self.shared), now);
+        }
     }
 }

@@ -4,7 +4,7 @@ ghost use Rattle.std.specs.Prelude.{◌<◌, ◌^◌, ◌-◌, ◌≡◌, ◌≤
 ghost use Rattle.rtsp_grammar.specs.Writing.{response_text};
 ghost use Rattle.rtsp_text.specs.Hexadecimal.{hex_text};
 ghost use Rattle.rtsp_transport.specs.Granted.{transport_text};
-ghost use Rattle.rtsp_transport.specs.declared.write.Granted.TheVariants.{Udp, Mux, Inter};
+ghost use Rattle.rtsp_transport.specs.declared.write.Granted.TheVariants.{Udp, Mux, UdpFrom, MuxFrom, Inter};
 ghost use Rattle.rtsp_npt.specs.Printed.{time_text, range_text, stop_text};
 ghost use Rattle.rtsp_state.specs.Room.{Takes};
 
@@ -151,6 +151,46 @@ impl Room {
     {
         let granted = Granted::Mux {
             client,
+            server,
+            ssrc,
+        };
+        write_transport(&mut self.bytes, &granted).unwrap();
+    }
+
+    /// Writes a transport over UDP from another host than the one that the client connected to.
+    #[tactic(auto, using(crate::proofs::RoomLemmas::appended, crate::proofs::RoomLemmas::udp_from_most))]
+    pub(crate) fn put_udp_from(
+        &mut self,
+        client_rtp: u16,
+        client_rtcp: u16,
+        host: u32,
+        server_rtp: u16,
+        ssrc: u32,
+    )
+        requires { 118 ≤ self.old.spare }
+        ensures text { self.new.text ≡ self.old.text ++ transport_text (UdpFrom client_rtp client_rtcp host server_rtp ssrc) }
+        ensures room { Takes self.old self.new 118 }
+    {
+        let granted = Granted::UdpFrom {
+            client_rtp,
+            client_rtcp,
+            host,
+            server_rtp,
+            ssrc,
+        };
+        write_transport(&mut self.bytes, &granted).unwrap();
+    }
+
+    /// Writes a transport over UDP with RTP and RTCP on one port, from another host.
+    #[tactic(auto, using(crate::proofs::RoomLemmas::appended, crate::proofs::RoomLemmas::mux_from_most))]
+    pub(crate) fn put_mux_from(&mut self, client: u16, host: u32, server: u16, ssrc: u32)
+        requires { 118 ≤ self.old.spare }
+        ensures text { self.new.text ≡ self.old.text ++ transport_text (MuxFrom client host server ssrc) }
+        ensures room { Takes self.old self.new 118 }
+    {
+        let granted = Granted::MuxFrom {
+            client,
+            host,
             server,
             ssrc,
         };

@@ -45,6 +45,9 @@ pub trait Source: Drop {
 
     /// Ends a session. Whether there was such a one.
     fn end(&mut self, session: SessionMeant) -> bool;
+
+    /// A turn has come, some four a second: what is shown of how things went is noted.
+    fn note(&mut self);
 }
 
 /// A server that listens.
@@ -231,6 +234,7 @@ impl StatusServer {
             if halt.is_halted() {
                 break;
             }
+            service.note();
             let now = self.now(rt);
             self.serve_once(&mut service, now);
         }
