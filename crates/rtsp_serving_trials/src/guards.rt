@@ -26,6 +26,7 @@ use std::sync::Wait;
 const ASKER: Asker = Asker {
     conn: 1,
     peer: 0x7f00_0001,
+    source: None,
 };
 
 // Of the password `a secret`, both.
