@@ -304,7 +304,7 @@ fn a_play_is_not_begun_where_something_fails(rt: HostRuntime) {
     }
 }
 
-// SETUPs over two ports, over one and over the connection, of a player who came through a balancer.
+// SETUPs over two ports, over one, and over the connection, of a player who came through a balancer.
 const BEHIND_A_BALANCER: &str = "\
 SETUP rtsp://h/tone/a RTSP/2.0
 CSeq: 1
@@ -315,9 +315,12 @@ CSeq: 2
 Session: 00000000000000000000000000000001
 Transport: RTP/AVP;unicast;RTCP-mux;dest_addr=\":8002\"
 
-SETUP rtsp://h/tone/a RTSP/2.0
+TEARDOWN rtsp://h/tone RTSP/2.0
 CSeq: 3
 Session: 00000000000000000000000000000001
+
+SETUP rtsp://h/tone/a RTSP/2.0
+CSeq: 4
 Transport: RTP/AVP/TCP;interleaved=0-1
 
 ";
@@ -341,7 +344,10 @@ Media-Range: npt=0.000-10.000
 
 RTSP/2.0 200 OK
 CSeq: 3
-Session: 00000000000000000000000000000001;timeout=60
+
+RTSP/2.0 200 OK
+CSeq: 4
+Session: 00000000000000000000000000000003;timeout=60
 Transport: RTP/AVP/TCP;unicast;interleaved=0-1;ssrc=00000003
 Accept-Ranges: npt
 Media-Properties: Random-Access=0.020, Immutable, Unlimited
