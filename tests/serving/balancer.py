@@ -1,6 +1,7 @@
 """Behind a balancer: connections that begin with the header of a player whom the balancer names, of the PROXY protocol."""
 import contextlib
 import re
+import resource
 import socket
 import struct
 import time
@@ -9,6 +10,7 @@ from typing import Iterator, List, Optional, Tuple
 from checks import Checks
 from rtsp_client.messages import written
 
+from .crowds import MOST_CONNECTIONS, OTHER_DESCRIPTORS
 from .events import Telling, is_told
 from .operator import figures, shown_at
 from .runner import serving_test
@@ -193,6 +195,43 @@ def a_header_that_never_comes(checks: Checks) -> None:
             checks.that("in 5 s, or at the sweep behind", 4.5 < took < 9.0, took)
             checks.same("the player afterwards", 200, talk.ask("OPTIONS", "*", []).status)
         is_told(checks, server, "it is told", rb"warning a header .* was refused: it didn't come in time")
+
+
+@serving_test(limit=60, is_alone=True)
+def headers_that_never_come_on_all_connections(checks: Checks) -> None:
+    """As many connections of the balancer as the server lets in, and none sends one: each is closed, and memory stays."""
+    _, hard = resource.getrlimit(resource.RLIMIT_NOFILE)
+    count = min(MOST_CONNECTIONS, hard - OTHER_DESCRIPTORS)
+    with Telling(checks, proxy=LISTED) as server:
+        server.answers("before")
+        memory = server.resident_bytes()
+        silent = [Balanced(server, b"").socket for _ in range(count)]
+        began = time.monotonic()
+        for it in silent:
+            it.settimeout(12.0)
+        checks.same("what comes of each", {b""}, {comes(it) for it in silent})
+        took = time.monotonic() - began
+        checks.that("in 5 s, or at the sweep behind", took < 9.0, took)
+        with balanced(server, PLAYER) as (talk,):
+            checks.same("a player afterwards", 200, talk.ask("OPTIONS", "*", []).status)
+        each = (server.resident_bytes() - memory) / count
+        checks.that("each took less than 4 kB of memory", each < 4096, each)
+        is_told(checks, server, "it is told", rb"warning a header .* was refused: it didn't come in time")
+        for it in silent:
+            it.close()
+
+
+@serving_test(limit=30)
+def half_a_request_behind_a_header(checks: Checks) -> None:
+    """Connections that end within a request, as where TLS ends at the balancer: nothing is left of them."""
+    with Telling(checks, proxy=LISTED) as server:
+        before = server.descriptors_at_rest()
+        for front in line_for(PLAYER), binary_for(PLAYER), LOCAL:
+            for length in 1, len(OPTIONS) // 2, len(OPTIONS) - 1:
+                Balanced(server, front + OPTIONS[:length]).socket.close()
+        checks.same("descriptors", before, server.descriptors_at_rest())
+        with balanced(server, PLAYER) as (talk,):
+            checks.same("a player afterwards", 200, talk.ask("OPTIONS", "*", []).status)
 
 
 @serving_test(limit=30)
