@@ -15,6 +15,7 @@
 
 mod bound;
 mod clock;
+mod contents;
 mod cut;
 mod decisions;
 mod disk;
@@ -25,6 +26,7 @@ mod loan;
 mod media;
 mod media_file;
 mod message;
+mod opened_files;
 mod options;
 mod outlet;
 mod outlets;
@@ -34,6 +36,7 @@ mod ports;
 mod put;
 mod read_at;
 mod reader;
+mod renewing;
 mod shelf;
 mod slots;
 mod spaces;
@@ -46,6 +49,7 @@ mod wishes;
 mod words;
 
 pub use clock::{PieceClock, RunningClock};
+pub use contents::{Content, Contents, Seen};
 pub use decisions::{Decisions, LaneDecisions};
 pub use disk::READERS;
 pub use frame_room::{FrameRoom, LENT_IN_ALL, MOST_ROOM};

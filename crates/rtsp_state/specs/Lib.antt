@@ -26,6 +26,7 @@ pub mod Pause
 pub mod Teardown
 pub mod GetParameter
 pub mod SetParameter
+pub mod Aim
 pub mod StateTable
 pub mod Renewal
 pub mod Answer

@@ -3,6 +3,7 @@
 
 #![tactic(auto)]
 
+mod aim;
 mod context;
 mod describe;
 mod end_of_stream;
