@@ -55,6 +55,7 @@ pub use disk::READERS;
 pub use frame_room::{FrameRoom, LENT_IN_ALL, MOST_ROOM};
 pub use loan::{Loan, SharedRoom};
 pub use media::{HELD_LIMIT, Media, MediaFault, MediaOf, TrackPlace};
+pub use media_file::FileMark;
 pub use message::{ALL_ROOM, FRAME_ROOM, Message};
 pub use options::{FIRST_SEND_BUFFER, SEND_BUFFER, prepare};
 pub use outlet::{Outlet, SLOW_LIMIT, STALL_LIMIT};

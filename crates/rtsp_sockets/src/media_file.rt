@@ -13,9 +13,9 @@ use std::os::unix::fs::MetadataExt;
 use std::rt::Files;
 use std::io;
 
-// Which file it is, and since when it has its bytes, as the system tells.
+/// Which file it is, and since when it has its bytes, as the system tells.
 #[derive(Clone, Copy, PartialEq, Eq)]
-pub(crate) struct FileMark {
+pub struct FileMark {
     // The number of the disk that it is on.
     pub(crate) device: u64,
     number: u64,
@@ -25,7 +25,8 @@ pub(crate) struct FileMark {
 }
 
 impl FileMark {
-    pub(crate) fn of(metadata: &Metadata) -> FileMark {
+    /// That of the file of which the system tells this.
+    pub fn of(metadata: &Metadata) -> FileMark {
         FileMark {
             device: metadata.dev(),
             number: metadata.ino(),
