@@ -7,6 +7,7 @@ ghost use Rattle.rtsp_content.specs.Withdrawn.{AreOfferedDistinct, is_withdrawn}
 ghost use Rattle.rtsp_content.specs.PresentationValue.{presentation_names};
 ghost use Rattle.rtsp_text.specs.Results.{Gives};
 ghost use Rattle.rtsp_content.specs.declared.fault.TableFault.TheVariants.{OutOfMemory};
+ghost use Rattle.rtsp_content.specs.declared.limits.TheConstants.{MAX_PLACES};
 ghost use Rattle.rtsp_content.specs.Paths.{find_of, Names};
 ghost use Rattle.rtsp_content.specs.Server.{IsWithinLimits};
 ghost use Rattle.rtsp_content.specs.Table.{table_of, table_of_document};

@@ -42,12 +42,15 @@ fn played(shared: &Shared, table: &Table, name: &str, over: Transport) -> FilmFi
 
 // Whether no presentation at a place before this one has its name.
 fn is_first(table: &Table, place: usize, name: &str) -> bool {
-    let before = table.presentations().iter().take(place);
-    !before.into_iter().any(|other| other.name() == name)
+    !table
+        .presentations()
+        .iter()
+        .take(place)
+        .any(|other| other.name() == name)
 }
 
 // What was played of each presentation.
-fn films<'t>(
+fn film_lines<'t>(
     alloc: Global,
     shared: &Shared,
     table: &'t Table,
@@ -94,7 +97,7 @@ pub(crate) fn further<R: Wait + rt::Clock>(
     let Some(content) = shared.contents.current(rt) else {
         return Err(AllocError);
     };
-    let films = films(alloc, shared, &content.table)?;
+    let films = film_lines(alloc, shared, &content.table)?;
     let figures = shared.content_counts.read();
     let process = process(shared, usage);
     let writing = writing(rt, shared);

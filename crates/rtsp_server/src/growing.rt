@@ -8,14 +8,15 @@ use crate::watched_file::WatchedFile;
 use rtsp_content::{Operation, Table, TableFault};
 use rtsp_log::Event;
 use rtsp_metrics::Transport;
-use rtsp_sockets::{Content, Media, MediaFault};
+use rtsp_sockets::{Content, MediaFault};
 use rtsp_threads::CONFIGURATION_EVERY;
 use std::alloc::{AllocError, Global};
+use std::collections::VecDeque;
 use std::fs::File;
+use std::rt;
 use std::rt::Files;
 use std::sync::{Arc, Wait};
 use std::thread::Threads;
-use std::rt;
 
 // For how long, in milliseconds, what was replaced is kept: by then all threads have let go of it, so that
 // none of them closes files. For as long, too, files of what is withdrawn stay open that nobody watches.
@@ -66,7 +67,7 @@ impl From<MediaFault> for NotTaken {
 #[derive(Drop)]
 struct Replaced {
     at: u64,
-    _content: Arc<Content>,
+    content: Arc<Content>,
 }
 
 /// What takes a changed configuration up.
@@ -79,7 +80,7 @@ pub(crate) struct Growth {
     looked: u64,
     // When the content was replaced last, or files were seen last that are wanted no more.
     changed: u64,
-    replaced: Vec<Replaced>,
+    replaced: VecDeque<Replaced>,
 }
 
 impl Growth {
@@ -97,7 +98,7 @@ impl Growth {
             descriptors,
             looked: 0,
             changed: 0,
-            replaced: Vec::new(alloc),
+            replaced: VecDeque::new(alloc),
         }
     }
 
@@ -127,10 +128,12 @@ impl Growth {
 
     // Lets go of what was replaced long ago, which closes its files.
     fn let_go(&mut self, now: u64) {
-        while let Some(oldest) = self.replaced.first()
-            && oldest.at.saturating_add(KEPT) <= now
-        {
-            self.replaced.remove(0);
+        for _ in 0..self.replaced.len() {
+            match self.replaced.front() {
+                Some(oldest) if oldest.at.saturating_add(KEPT) <= now => {}
+                _ => return,
+            }
+            drop(self.replaced.pop_front());
         }
     }
 
@@ -157,7 +160,10 @@ impl Growth {
             }
             Err(why) => {
                 shared.content_counts.refuse();
-                let text = text.as_deref().unwrap_or(b"");
+                let text: &[u8] = match &text {
+                    Some(text) => text.as_slice(),
+                    None => b"",
+                };
                 match reason(rt, self.alloc, self.file.path(), text, why) {
                     Ok(reason) => shared.log.not_taken(rt, self.alloc, reason.as_bytes()),
                     Err(AllocError) => shared.log.not_taken(rt, self.alloc, b"out of memory"),
@@ -244,9 +250,9 @@ impl Growth {
         shared.gate.allow(connections);
         shared.contents.replace(rt, content);
         self.changed = now;
-        let _ = self.replaced.push(Replaced {
+        let _ = self.replaced.push_back(Replaced {
             at: now,
-            _content: old,
+            content: old,
         });
         Ok(())
     }
@@ -270,13 +276,17 @@ fn renewed<R: Files<File = File>>(
     Ok(renewed)
 }
 
-// Whether a session lives that has streams of this place.
-fn is_watched(shared: &Shared, place: u16) -> bool {
-    let sessions = |over| match shared.audience.film(place, over) {
+// How many sessions live that have streams of this place over a transport.
+fn sessions_of(shared: &Shared, place: u16, over: Transport) -> u64 {
+    match shared.audience.film(place, over) {
         Some(figures) => figures.sessions,
         None => 0,
-    };
-    sessions(Transport::Udp) > 0 || sessions(Transport::Tcp) > 0
+    }
+}
+
+// Whether a session lives that has streams of this place.
+fn is_watched(shared: &Shared, place: u16) -> bool {
+    sessions_of(shared, place, Transport::Udp) > 0 || sessions_of(shared, place, Transport::Tcp) > 0
 }
 
 // Of each place whether its media are wanted: where it is offered or watched, or was offered up to now, since
@@ -290,8 +300,10 @@ fn needed(
     let mut needed = Vec::new(alloc);
     for index in 0..table.presentations().len() {
         let place = u16::try_from(index).unwrap_or(u16::MAX);
-        let was_offered =
-            old.is_some_and(|old| old.media.has(index) && !old.table.is_withdrawn(place));
+        let was_offered = match old {
+            Some(old) => old.media.has(index) && !old.table.is_withdrawn(place),
+            None => false,
+        };
         let is_needed = !table.is_withdrawn(place) || was_offered || is_watched(shared, place);
         needed.push(is_needed).map_err(AllocError::from)?;
     }

@@ -4,6 +4,7 @@ use crate::growing::NotTaken;
 use rtsp_content::{Presentation, Table, TableFault, Track};
 use rtsp_explain::{Place, explain, line_of};
 use std::alloc::{AllocError, Global};
+use std::fs;
 use std::fs::File;
 use std::rt::Files;
 
@@ -16,18 +17,18 @@ pub(crate) fn reason<R: Files<File = File>>(
     why: NotTaken,
 ) -> Result<String, AllocError> {
     match why {
-        NotTaken::Unreadable => format!(in alloc; "{path}: it can't be read"),
+        NotTaken::Unreadable => Ok(format!(in alloc; "{path}: it can't be read")?),
         NotTaken::Refused(fault) => fault_reason(alloc, path, text, fault),
         NotTaken::Stays(key) => key_reason(alloc, path, text, key),
         NotTaken::Media(fault) => match media_reason(rt, alloc, path, text)? {
             Some(reason) => Ok(reason),
-            None => format!(in alloc; "{path}: {fault}"),
+            None => Ok(format!(in alloc; "{path}: {fault}")?),
         },
-        NotTaken::NoDescriptor => {
-            format!(in alloc; "{path}: its files leave no descriptors for the connections")
-        }
-        NotTaken::NoThread => format!(in alloc; "{path}: a thread can't be made"),
-        NotTaken::OutOfMemory => format!(in alloc; "{path}: out of memory"),
+        NotTaken::NoDescriptor => Ok(format!(in alloc;
+            "{path}: its files leave no descriptors for the connections"
+        )?),
+        NotTaken::NoThread => Ok(format!(in alloc; "{path}: a thread can't be made")?),
+        NotTaken::OutOfMemory => Ok(format!(in alloc; "{path}: out of memory")?),
     }
 }
 
@@ -40,8 +41,8 @@ fn fault_reason(
 ) -> Result<String, AllocError> {
     let findings = explain(alloc, path, text)?;
     match findings.faults.first() {
-        Some(line) => String::from_str(alloc, line.as_str()),
-        None => format!(in alloc; "{path}: {fault}"),
+        Some(line) => Ok(String::from_str(alloc, line.as_str())?),
+        None => Ok(format!(in alloc; "{path}: {fault}")?),
     }
 }
 
@@ -52,12 +53,12 @@ fn key_reason(alloc: Global, path: &str, text: &[u8], key: &str) -> Result<Strin
         Err(_) => None,
     };
     match line {
-        Some(line) => format!(in alloc;
+        Some(line) => Ok(format!(in alloc;
             "{path}:{line}: server.{key} is another, and stays as long as the server runs"
-        ),
-        None => format!(in alloc;
+        )?),
+        None => Ok(format!(in alloc;
             "{path}: server.{key} is another, and stays as long as the server runs"
-        ),
+        )?),
     }
 }
 
@@ -91,7 +92,7 @@ fn track_reason<R: Files<File = File>>(
     let path = track.file();
     let (units, octets) = (presentation.units(), track.unit_len());
     let wanted = u64::from(units) * u64::from(octets);
-    let length = match File::open(rt, path).and_then(|file| file.metadata()) {
+    let length = match fs::metadata(rt, path) {
         Ok(metadata) => metadata.len(),
         Err(error) => return Ok(Some(format!(in alloc; "{path}: {error}")?)),
     };

@@ -19,6 +19,7 @@
 
 mod all_lanes;
 mod answering;
+mod attending;
 mod balancers;
 mod channels;
 mod client;

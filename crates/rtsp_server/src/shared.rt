@@ -100,7 +100,7 @@ impl Drop for Shared {
             outlets: _outlets,
             lent: _lent,
             contents: _contents,
-            content_counts: _,
+            content_counts: _content_counts,
             ports: _ports,
             bells: _bells,
             stop_bell: _stop_bell,

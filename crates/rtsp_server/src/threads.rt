@@ -14,7 +14,7 @@ use rtsp_lock::BookHandle;
 use rtsp_log::{Event, LogWriter, SleepPause, StderrSink};
 use rtsp_pacing::{PacerParts, PacerPlays, PacerRoom, pace};
 use rtsp_status::StatusServer;
-use rtsp_threads::{CONFIGURATION_EVERY, OwnStatus, OwnUsage, PoolEnd, STANDING_LIMIT, StopBell, end_expired, run_pool};
+use rtsp_threads::{OwnStatus, OwnUsage, PoolEnd, STANDING_LIMIT, StopBell, end_expired, run_pool};
 use std::alloc::Global;
 use std::fs::File;
 use std::io::{Eprint, Write};
@@ -364,23 +364,6 @@ impl Parts {
             Ok(end)
         } else {
             Err(ServerFault::NoThread)
-        }
-    }
-}
-
-impl Parts {
-    // Makes the files that the thread which writes the journal asks for, and takes a changed configuration up,
-    // until the lanes are over.
-    fn attend<R: Threads + Wait + rt::Clock + Files<File = File> + Copy + Send + 'static>(
-        &self,
-        rt: &R,
-        growth: &mut Growth,
-    ) {
-        for _ in rt.forever() {
-            if self.attend_scribe(rt, Duration::from_millis(CONFIGURATION_EVERY)) {
-                break;
-            }
-            growth.turn(rt, &self.shared);
         }
     }
 }

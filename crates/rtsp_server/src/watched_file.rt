@@ -65,7 +65,7 @@ impl WatchedFile {
         let file = File::open(rt, self.path.as_str()).ok()?;
         let mut text = Vec::new(alloc);
         let mut piece = Vec::from_elem(alloc, 0u8, PIECE).ok()?;
-        for _ in 0..=MOST / PIECE {
+        for _ in 0..MOST / PIECE {
             let count = file.read_at(piece.as_mut_slice(), text.len() as u64).ok()?;
             if count == 0 {
                 return Some(text);

@@ -98,7 +98,7 @@ pub struct MediaOf<F: ReadAt> {
 pub type Media = MediaOf<File>;
 
 // A value that threads share.
-pub(crate) fn shared<T>(alloc: Global, value: T) -> Result<Arc<T>, MediaFault> {
+pub(crate) fn shared<T: Drop>(alloc: Global, value: T) -> Result<Arc<T>, MediaFault> {
     Arc::new(alloc, value).map_err(|_| MediaFault::OutOfMemory)
 }
 

@@ -51,7 +51,7 @@ pub(crate) struct MediaFile<F: ReadAt> {
 // What it means that a file can't be opened.
 fn fault_of(error: io::Error) -> MediaFault {
     match error.raw_os_error() {
-        Some(libc::EMFILE | libc::ENFILE) => MediaFault::NoDescriptor,
+        Some(libc::EMFILE) => MediaFault::NoDescriptor,
         _ => MediaFault::Unreadable,
     }
 }
