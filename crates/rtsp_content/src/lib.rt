@@ -10,6 +10,7 @@ mod found;
 mod growing;
 mod journal_files;
 mod keys;
+mod laws;
 mod limits;
 mod meaning;
 mod media_path;
@@ -28,6 +29,7 @@ pub use example::EXAMPLE;
 pub use fault::TableFault;
 pub use found::Found;
 pub use journal_files::{JournalFiles, WhenFull};
+pub use laws::{law_extends_chain, law_keeps_places};
 pub use limits::{
     MAX_CONNECTIONS, MAX_OCTETS, MAX_PACKETS, MAX_PLACES, MAX_TRACKS, MAX_UNIT_OCTETS, SLOT_HEAD,
 };

@@ -28,6 +28,7 @@ pub mod GetParameter
 pub mod SetParameter
 pub mod Aim
 pub mod StateTable
+pub mod Growth
 pub mod Renewal
 pub mod Answer
 pub mod Laws
