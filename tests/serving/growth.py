@@ -1,17 +1,18 @@
 """Content that changes while it is served: a film is added, withdrawn or replaced, and no play notices."""
 import concurrent.futures
 import os
-import pathlib
-import re
 import subprocess
 import time
 from typing import List, Optional, Tuple
 
+import film_player
 from checks import Checks
+from films import IMPORT
 from rtsp_client.connection import Connection
 from rtsp_client.player import Player, Way
 
 from .events import Telling, is_told, stops
+from .film_players import Kind, is_here, is_whole
 from .operator import figures, shown_at
 from .plays import numbers_fit, set_up_all
 from .runner import serving_test
@@ -194,6 +195,38 @@ def a_replaced_film_is_served_anew(checks: Checks) -> None:
         for play in plays:
             play.fits(checks, f"the old one over {play.player.way.value}", TONE.tracks, TONE.units)
         checks.same("one presentation is offered", 1, server.figure("rtspd_presentations"))
+
+
+def comes_to(server: Growing, film: Presentation, status: int) -> int:
+    """The status of a description, once it is as wanted or the time is over."""
+    until = time.monotonic() + AT_MOST
+    while server.described(film) != status and time.monotonic() < until:
+        time.sleep(0.1)
+    return server.described(film)
+
+
+def imports(server: Growing, *words: str) -> None:
+    done = subprocess.run([str(IMPORT), *words, "--config", "server.toml"], cwd=server.path, capture_output=True, text=True)
+    server.checks.same(f"import {words}", (0, ""), (done.returncode, done.stderr))
+
+
+@serving_test(limit=120, is_timed=True)
+def import_beside_a_running_server(checks: Checks) -> None:
+    """The film is there at once, and GStreamer plays it; taken out again it is there no more, and no play notices."""
+    if not is_here(checks, "an import beside a running server"):
+        return
+    server = Growing(checks, TONE._replace(units=2000), players='"gstreamer"')
+    wanted = Presentation("film")
+    with server, concurrent.futures.ThreadPoolExecutor(1) as pool:
+        film = Kind().make(server.path / "film.mp4")
+        play = Play(pool, server.player(Way.TCP), 60)
+        imports(server, str(film), wanted.name)
+        checks.same("once it is imported", 200, comes_to(server, wanted, 200))
+        came = film_player.play(server.uri_of(wanted), film, "tcp")
+        is_whole(checks, "the film beside a play", came)
+        imports(server, "--remove", wanted.name)
+        checks.same("once it is taken out", 404, comes_to(server, wanted, 404))
+        play.fits(checks, "beside it", TONE.tracks, 2000)
 
 
 def refused(checks: Checks, server: Growing, what: str, text: Optional[str], why: bytes) -> None:
