@@ -1,12 +1,13 @@
 -- What a table that goes on leaves as it is.
-use Rattle.std.proofs.Common.{◌≡◌, ◌∙◌, sym, refl, ap, subst, ℕ, zero, suc, ◌+◌, ◌<◌, ◌≤◌, Bool, true, false, List, [], ◌∷◌, ◌++◌, Option, Some, None, slice_get, length, inl, inr, ◌⊎◌, arith, append_assoc, append-nil}
+use Rattle.std.proofs.Common.{◌≡◌, ◌∙◌, sym, refl, ap, subst, ℕ, zero, suc, ◌+◌, ◌<◌, ◌≤◌, Bool, true, false, List, [], ◌∷◌, ◌++◌, Option, Some, None, slice_get, length, inl, inr, ◌⊎◌, arith, append_assoc, append-nil, length-append}
+use Rattle.std.proofs.Math.ListN.{set}
 use Rattle.std.specs.Prelude.{replicate}
 use Rattle.std.proofs.lemmas.Bool.{cases_lt, false≢true}
 use Rattle.std.proofs.lemmas.Option.{slice_get_within, same_Some}
 use Rattle.std.proofs.lemmas.List.{length-replicate}
 use Rattle.rtsp_content.specs.PresentationValue.{PresentationValue, presentation_names}
 use Rattle.rtsp_content.specs.TableValue.{TableValue}
-use Rattle.rtsp_content.specs.Withdrawn.{is_withdrawn, AreOfferedDistinct}
+use Rattle.rtsp_content.specs.Withdrawn.{is_gone, is_withdrawn, AreOfferedDistinct}
 use Rattle.rtsp_content.specs.Growing.{Extends, IsFront, IsFixed, StandsIn, IsOffered, Offers, OffersAlike, KeepsPlaces, ExtendsChain}
 
 pub get-longer : {X : Type 0} (xs ys : List X) (i : ℕ) (x : X) → slice_get xs i ≡ Some x → slice_get (xs ++ ys) i ≡ Some x
@@ -160,3 +161,68 @@ grown-end old wanted k new high it = λ p. (
   λ offered. it.all offered.0 p (omega (arith, high, slice_get_within wanted.presentations offered.0 p offered.1)) offered.1 offered.2,
   λ offered. let found = it.only offered.0 p offered.1 offered.2 in (found.i, found.stands, found.offered)
 )
+
+-- ---- one step
+
+length-set : (xs : List Bool) (i : ℕ) (b : Bool) → length (set xs i b) ≡ length xs
+length-set [] i b = refl
+length-set (x ∷ xs) zero b = refl
+length-set (x ∷ xs) (suc i) b = ap suc (length-set xs i b)
+
+get-set : (xs : List Bool) (i : ℕ) (b : Bool) → i < length xs → slice_get (set xs i b) i ≡ Some b
+get-set [] i b low = absurd (omega (arith, low))
+get-set (x ∷ xs) zero b low = refl
+get-set (x ∷ xs) (suc i) b low = get-set xs i b (omega (arith, low))
+
+get-other : (xs : List Bool) (i j : ℕ) (b : Bool) → ¬ (j ≡ i) → slice_get (set xs i b) j ≡ slice_get xs j
+get-other [] i j b n = refl
+get-other (x ∷ xs) zero zero b n = absurd (n refl)
+get-other (x ∷ xs) zero (suc j) b n = refl
+get-other (x ∷ xs) (suc i) zero b n = refl
+get-other (x ∷ xs) (suc i) (suc j) b n = get-other xs i j b (λ e. n (ap suc e))
+
+-- what stands there is offered
+pub offers-there : (old : List PresentationValue) (gone : List Bool) (p : PresentationValue) (place : ℕ) → length gone ≡ length old → StandsIn old p place → Offers old gone p old (set gone place false)
+offers-there old gone p place lengths stands = record {
+  front = ([], sym (append-nil old));
+  lengths = length-set gone place false ∙ lengths;
+  place = place;
+  stands = stands;
+  offered = ap is_gone (get-set gone place false (omega (arith, slice_get_within old place p stands, lengths)));
+  others = λ i q other at on. (at, ap is_gone (sym (get-other gone place i false other)) ∙ on);
+  stay = λ i q at on. elim (same_or i place) [
+    | inl same ↦ ap (λ j. is_withdrawn (set gone place false) j) same ∙ ap is_gone (get-set gone place false (omega (arith, slice_get_within old place p stands, lengths)))
+    | inr other ↦ ap is_gone (get-other gone place i false other) ∙ on
+  ];
+}
+
+get-end : {X : Type 0} (xs : List X) (x : X) (n : ℕ) → n ≡ length xs → slice_get (xs ++ x ∷ []) n ≡ Some x
+get-end [] x n e = rw e refl
+get-end (y ∷ xs) x zero e = absurd (omega (arith, e))
+get-end (y ∷ xs) x (suc n) e = get-end xs x n (omega (arith, e))
+
+-- behind the end of a list with one more nothing stands
+get-before : {X : Type 0} (xs : List X) (x : X) (i : ℕ) (q : X) → ¬ (i ≡ length xs) → slice_get (xs ++ x ∷ []) i ≡ Some q → slice_get xs i ≡ Some q
+get-before [] x zero q n e = absurd (n refl)
+get-before [] x (suc i) q n e = absurd cc
+get-before (y ∷ xs) x zero q n e = e
+get-before (y ∷ xs) x (suc i) q n e = get-before xs x i q (λ s. n (ap suc s)) e
+
+gone-before : (gone : List Bool) (i : ℕ) → i < length gone → is_withdrawn (gone ++ false ∷ []) i ≡ is_withdrawn gone i
+gone-before [] i low = absurd (omega (arith, low))
+gone-before (b ∷ gone) zero low = refl
+gone-before (b ∷ gone) (suc i) low = gone-before gone i (omega (arith, low))
+
+-- what is put behind all others is offered
+pub offers-behind : (old : List PresentationValue) (gone : List Bool) (p : PresentationValue) → length gone ≡ length old → Offers old gone p (old ++ p ∷ []) (gone ++ false ∷ [])
+offers-behind old gone p lengths = record {
+  front = (p ∷ [], refl);
+  lengths = length-append gone (false ∷ []) ∙ ap (λ n. n + 1) lengths ∙ sym (length-append old (p ∷ []));
+  place = length old;
+  stands = get-end old p (length old) refl;
+  offered = ap is_gone (get-end gone false (length old) (sym lengths));
+  others = λ i q other at on.
+      let before = get-before old p i q other at in
+      (before, sym (gone-before gone i (omega (arith, slice_get_within old i q before, lengths))) ∙ on);
+  stay = λ i q at on. gone-before gone i (omega (arith, slice_get_within old i q at, lengths)) ∙ on;
+}
