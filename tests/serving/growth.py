@@ -283,6 +283,29 @@ def a_configuration_that_isnt_watched(checks: Checks) -> None:
         checks.same("what is served", (0, 404), (server.number(), server.described(SHORT)))
 
 
+@serving_test(limit=60, is_timed=True)
+def a_film_too_large_for_memory_is_added(checks: Checks) -> None:
+    """It is read ahead by threads that come with it, beside a play of what is held in memory."""
+    large = Presentation("large", 1_800_000, 20, (Track("l"),))
+    server = Growing(checks, TONE)
+    with server, concurrent.futures.ThreadPoolExecutor(1) as pool:
+        play = Play(pool, server.player(Way.UDP), 20)
+        threads = len(os.listdir(f"/proc/{server.process.pid}/task"))
+        (server.path / "l.raw").write_bytes(b"".join(map(large.tracks[0].unit, range(500))))
+        os.truncate(server.path / "l.raw", large.units * large.tracks[0].octets)
+        server.offer(TONE, large)
+        checks.same("further threads", threads + 4, len(os.listdir(f"/proc/{server.process.pid}/task")))
+        player = server.player_of(large, Way.TCP)
+        (stream,) = set_up_all(player)
+        player.play(0.0)
+        player.listen(6.0, lambda: len(stream.reception.packets) >= 150)
+        came = [it.payload for it in stream.reception.packets]
+        checks.that("its units come", len(came) >= 150, len(came))
+        checks.same("as the file has them", [*map(large.tracks[0].unit, range(len(came)))], came)
+        player.tear_down()
+        play.fits(checks, "beside it", TONE.tracks, TONE.units)
+
+
 def changes(checks: Checks, seconds: float, count: int) -> None:
     """The configuration's file changes each second beside plays; once it stands it is taken up."""
     server = Growing(checks, TONE)
