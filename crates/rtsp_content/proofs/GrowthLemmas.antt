@@ -1,14 +1,13 @@
 -- What a table that goes on leaves as it is.
 use Rattle.std.proofs.Common.{◌≡◌, ◌∙◌, sym, refl, ap, subst, ℕ, zero, suc, ◌+◌, ◌<◌, ◌≤◌, Bool, true, false, List, [], ◌∷◌, ◌++◌, Option, Some, None, slice_get, length, inl, inr, ◌⊎◌, arith, append_assoc, append-nil, length-append}
-use Rattle.std.proofs.Math.ListN.{set}
-use Rattle.std.specs.Prelude.{replicate}
+use Rattle.std.specs.Prelude.{replicate, slice_set}
 use Rattle.std.proofs.lemmas.Bool.{cases_lt, false≢true}
 use Rattle.std.proofs.lemmas.Option.{slice_get_within, same_Some}
 use Rattle.std.proofs.lemmas.List.{length-replicate}
 use Rattle.rtsp_content.specs.PresentationValue.{PresentationValue, presentation_names}
 use Rattle.rtsp_content.specs.TableValue.{TableValue}
 use Rattle.rtsp_content.specs.Withdrawn.{is_gone, is_withdrawn, AreOfferedDistinct}
-use Rattle.rtsp_content.specs.Growing.{Extends, IsFront, IsFixed, StandsIn, IsOffered, Offers, OffersAlike, KeepsPlaces, ExtendsChain}
+use Rattle.rtsp_content.specs.Growing.{Extends, IsFront, IsFixed, StandsIn, IsOffered, Offers, OffersWhat, KeepsPlaces, ExtendsChain}
 
 pub get-longer : {X : Type 0} (xs ys : List X) (i : ℕ) (x : X) → slice_get xs i ≡ Some x → slice_get (xs ++ ys) i ≡ Some x
 get-longer [] ys i x e = absurd cc
@@ -46,9 +45,9 @@ same_or : (i j : ℕ) → (i ≡ j) ⊎ ¬ (i ≡ j)
 same_or i j = elim (cases_lt i j) [
   | inl low ↦ inr (λ e. absurd (omega (arith, low, e)))
   | inr high ↦ elim (cases_lt j i) [
-      | inl low ↦ inr (λ e. absurd (omega (arith, low, e)))
-      | inr other ↦ inl (omega (arith, high, other))
-    ]
+    | inl low ↦ inr (λ e. absurd (omega (arith, low, e)))
+    | inr other ↦ inl (omega (arith, high, other))
+  ]
 ]
 
 -- one of the name at a place
@@ -133,16 +132,16 @@ grown-offer old wanted k ps ws p ps' ws' apart it here on step = record {
       let two = named-at ps' j name at_j in
       elim (same_or i step.place) [
         | inl same_i ↦ elim (same_or j step.place) [
-            | inl same_j ↦ same_i ∙ sym same_j
-            | inr other_j ↦ absurd (clash two.p (is_p i one.p same_i one.stands name one.is ∙ sym two.is) (let was = step.others j two.p other_j two.stands off_j in it.only j two.p was.0 was.1))
-          ]
+          | inl same_j ↦ same_i ∙ sym same_j
+          | inr other_j ↦ absurd (clash two.p (is_p i one.p same_i one.stands name one.is ∙ sym two.is) (let was = step.others j two.p other_j two.stands off_j in it.only j two.p was.0 was.1))
+        ]
         | inr other_i ↦ elim (same_or j step.place) [
-            | inl same_j ↦ absurd (clash one.p (is_p j two.p same_j two.stands name two.is ∙ sym one.is) (let was = step.others i one.p other_i one.stands off_i in it.only i one.p was.0 was.1))
-            | inr other_j ↦
-                let was_i = step.others i one.p other_i one.stands off_i in
-                let was_j = step.others j two.p other_j two.stands off_j in
-                it.distinct i j name (name-of ps i one.p was_i.0 ∙ ap Some one.is) (name-of ps j two.p was_j.0 ∙ ap Some two.is) was_i.1 was_j.1
-          ]
+          | inl same_j ↦ absurd (clash one.p (is_p j two.p same_j two.stands name two.is ∙ sym one.is) (let was = step.others i one.p other_i one.stands off_i in it.only i one.p was.0 was.1))
+          | inr other_j ↦
+              let was_i = step.others i one.p other_i one.stands off_i in
+              let was_j = step.others j two.p other_j two.stands off_j in
+              it.distinct i j name (name-of ps i one.p was_i.0 ∙ ap Some one.is) (name-of ps j two.p was_j.0 ∙ ap Some two.is) was_i.1 was_j.1
+        ]
       ];
 } where
   is_it : (i : ℕ) (q : PresentationValue) → i ≡ k → StandsIn wanted.presentations q i → p ≡ q
@@ -156,25 +155,25 @@ grown-offer old wanted k ps ws p ps' ws' apart it here on step = record {
       let at : k ≡ found.i = apart k found.i q.name (name-of wanted.presentations k p here ∙ ap Some same) (name-of wanted.presentations found.i q found.stands) on found.offered in
       omega (arith, found.below, at)
 
-pub grown-end : (old : List PresentationValue) (wanted : TableValue) (k : ℕ) (new : TableValue) → length wanted.presentations ≤ k → Grown old wanted k new.presentations new.withdrawn → OffersAlike wanted new
-grown-end old wanted k new high it = λ p. (
+pub grown-end : (old : List PresentationValue) (wanted : TableValue) (k : ℕ) (ps : List PresentationValue) (ws : List Bool) → length wanted.presentations ≤ k → Grown old wanted k ps ws → OffersWhat wanted ps ws
+grown-end old wanted k ps ws high it = λ p. (
   λ offered. it.all offered.0 p (omega (arith, high, slice_get_within wanted.presentations offered.0 p offered.1)) offered.1 offered.2,
-  λ offered. let found = it.only offered.0 p offered.1 offered.2 in (found.i, found.stands, found.offered)
+  λ offered. let found = it.only offered.0 p offered.1 offered.2 in (found.i, found.stands, found.offered),
 )
 
 -- ---- one step
 
-length-set : (xs : List Bool) (i : ℕ) (b : Bool) → length (set xs i b) ≡ length xs
+length-set : (xs : List Bool) (i : ℕ) (b : Bool) → length (slice_set xs i b) ≡ length xs
 length-set [] i b = refl
 length-set (x ∷ xs) zero b = refl
 length-set (x ∷ xs) (suc i) b = ap suc (length-set xs i b)
 
-get-set : (xs : List Bool) (i : ℕ) (b : Bool) → i < length xs → slice_get (set xs i b) i ≡ Some b
+get-set : (xs : List Bool) (i : ℕ) (b : Bool) → i < length xs → slice_get (slice_set xs i b) i ≡ Some b
 get-set [] i b low = absurd (omega (arith, low))
 get-set (x ∷ xs) zero b low = refl
 get-set (x ∷ xs) (suc i) b low = get-set xs i b (omega (arith, low))
 
-get-other : (xs : List Bool) (i j : ℕ) (b : Bool) → ¬ (j ≡ i) → slice_get (set xs i b) j ≡ slice_get xs j
+get-other : (xs : List Bool) (i j : ℕ) (b : Bool) → ¬ (j ≡ i) → slice_get (slice_set xs i b) j ≡ slice_get xs j
 get-other [] i j b n = refl
 get-other (x ∷ xs) zero zero b n = absurd (n refl)
 get-other (x ∷ xs) zero (suc j) b n = refl
@@ -182,16 +181,16 @@ get-other (x ∷ xs) (suc i) zero b n = refl
 get-other (x ∷ xs) (suc i) (suc j) b n = get-other xs i j b (λ e. n (ap suc e))
 
 -- what stands there is offered
-pub offers-there : (old : List PresentationValue) (gone : List Bool) (p : PresentationValue) (place : ℕ) → length gone ≡ length old → StandsIn old p place → Offers old gone p old (set gone place false)
+pub offers-there : (old : List PresentationValue) (gone : List Bool) (p : PresentationValue) (place : ℕ) → length gone ≡ length old → StandsIn old p place → Offers old gone p old (slice_set gone place false)
 offers-there old gone p place lengths stands = record {
   front = ([], sym (append-nil old));
-  lengths = length-set gone place false ∙ lengths;
+  lengths = length-slice_set gone place false ∙ lengths;
   place = place;
   stands = stands;
-  offered = ap is_gone (get-set gone place false (omega (arith, slice_get_within old place p stands, lengths)));
+  offered = ap is_gone (get-slice_set gone place false (omega (arith, slice_get_within old place p stands, lengths)));
   others = λ i q other at on. (at, ap is_gone (sym (get-other gone place i false other)) ∙ on);
   stay = λ i q at on. elim (same_or i place) [
-    | inl same ↦ ap (λ j. is_withdrawn (set gone place false) j) same ∙ ap is_gone (get-set gone place false (omega (arith, slice_get_within old place p stands, lengths)))
+    | inl same ↦ ap (λ j. is_withdrawn (slice_set gone place false) j) same ∙ ap is_gone (get-slice_set gone place false (omega (arith, slice_get_within old place p stands, lengths)))
     | inr other ↦ ap is_gone (get-other gone place i false other) ∙ on
   ];
 }

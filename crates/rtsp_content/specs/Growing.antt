@@ -37,9 +37,14 @@ IsOffered all withdrawn p = (place : ℕ) × StandsIn all p place × (is_withdra
 abbrev pub IsOfferedIn : TableValue → PresentationValue → Type 0
 IsOfferedIn table p = IsOffered table.presentations table.withdrawn p
 
+-- what a table offers is offered at some place, and nothing else is
+abbrev pub OffersWhat : TableValue → List PresentationValue → List Bool → Type 0
+OffersWhat wanted all withdrawn =
+    (p : PresentationValue) → (IsOfferedIn wanted p → IsOffered all withdrawn p) × (IsOffered all withdrawn p → IsOfferedIn wanted p)
+
 -- both tables offer the same
 abbrev pub OffersAlike : TableValue → TableValue → Type 0
-OffersAlike one other = (p : PresentationValue) → (IsOfferedIn one p → IsOfferedIn other p) × (IsOfferedIn other p → IsOfferedIn one p)
+OffersAlike wanted table = OffersWhat wanted table.presentations table.withdrawn
 
 -- a presentation comes to be offered at some place, and at no other than before
 pub record Offers (old : List PresentationValue) (gone : List Bool) (p : PresentationValue) (new : List PresentationValue) (left : List Bool) : Type 0 where

@@ -1,8 +1,10 @@
 //! A table that is made longer by another configuration: each place keeps what stands there, and what
 //! isn't listed any more is withdrawn.
 
-ghost use Rattle.std.specs.Prelude.{◌≡◌, ◌≤◌, length, IfOk, IfNone, IfSome, OnOk, true};
-ghost use Rattle.rtsp_content.specs.Growing.{Extends, IsFixed, IsFront, OffersAlike, StandsIn};
+ghost use Rattle.std.specs.Prelude.{◌≡◌, ◌<◌, ◌++◌, ◌∷◌, [], length, IfOk, IfNone, IfSome, OnOk, true, false, slice_set};
+ghost use Rattle.rtsp_content.specs.Growing.{Extends, IsFixed, IsFront, OffersAlike, OffersWhat, StandsIn};
+ghost use Rattle.rtsp_content.specs.PresentationValue.{presentation_names};
+ghost use Rattle.rtsp_content.specs.Withdrawn.{is_withdrawn, AreOfferedDistinct};
 ghost use Rattle.rtsp_content.specs.Growing.{Offers};
 
 use crate::fault::TableFault;
@@ -37,6 +39,35 @@ fn place_of(
     None
 }
 
+// A copy.
+fn copy(presentation: &Presentation) -> Result<Presentation, AllocError>
+    ensures { IfOk result (λ p. p ≡ presentation.now) }
+{
+    presentation.clone()
+}
+
+// Offers what stands at a place.
+fn offer_there(withdrawn: &mut Vec<bool>, place: usize)
+    requires { place < length withdrawn.old.items }
+    ensures { withdrawn.new.items ≡ slice_set withdrawn.old.items place false }
+{
+    withdrawn[place] = false;
+}
+
+// Offers a presentation behind all others.
+fn offer_behind(
+    presentations: &mut Vec<Presentation>,
+    withdrawn: &mut Vec<bool>,
+    wanted: &Presentation,
+) -> Result<(), TableFault>
+    ensures stands { OnOk result (presentations.new.items ≡ presentations.old.items ++ wanted.now ∷ []) }
+    ensures offered { OnOk result (withdrawn.new.items ≡ withdrawn.old.items ++ false ∷ []) }
+{
+    presentations.push(copy(wanted)?)?;
+    withdrawn.push(false)?;
+    Ok(())
+}
+
 // Offers a presentation: at the place where it stands, or behind all others.
 fn offer(
     presentations: &mut Vec<Presentation>,
@@ -47,14 +78,43 @@ fn offer(
     requires { length withdrawn.old.items ≡ length presentations.old.items }
     ensures { OnOk result (Offers presentations.old.items withdrawn.old.items wanted.now presentations.new.items withdrawn.new.items) }
 {
-    match place_of(presentations.as_slice(), wanted, renewed) {
-        Some(place) => withdrawn[place] = false,
-        None => {
-            presentations.push(wanted.clone()?)?;
-            withdrawn.push(false)?;
+    let Some(place) = place_of(presentations.as_slice(), wanted, renewed) else {
+        return offer_behind(presentations, withdrawn, wanted);
+    };
+    offer_there(withdrawn, place);
+    Ok(())
+}
+
+// Whether what stands at a place is offered no more.
+fn is_gone(withdrawn: &[bool], place: usize) -> bool
+    ensures { result ≡ is_withdrawn withdrawn.now place }
+{
+    match withdrawn.get(place) {
+        Some(gone) => *gone,
+        None => false,
+    }
+}
+
+// What stands at the places of a table that goes on behind these, and which of it is offered no more.
+fn grown(
+    alloc: Global,
+    old: &Vec<Presentation>,
+    wanted: &Table,
+    renewed: &[bool],
+) -> Result<(Vec<Presentation>, Vec<bool>), TableFault>
+    ensures front { IfOk result (λ r. IsFront old.now.items r.0.items) }
+    ensures offers { IfOk result (λ r. OffersWhat wanted.now r.0.items r.1.items) }
+    ensures distinct { IfOk result (λ r. AreOfferedDistinct r.1.items (presentation_names r.0.items)) }
+{
+    let mut presentations = copies(old)?;
+    let mut withdrawn = Vec::from_elem(alloc, true, presentations.len())?;
+    for place in 0..wanted.presentations.len() {
+        if !is_gone(wanted.withdrawn.as_slice(), place) {
+            let presentation = &wanted.presentations[place];
+            offer(&mut presentations, &mut withdrawn, presentation, renewed)?;
         }
     }
-    Ok(())
+    Ok((presentations, withdrawn))
 }
 
 // The key of those that stay as long as a server runs which is another in the new numbers, if one is.
@@ -131,14 +191,7 @@ impl Table {
         if changed_key(&self.server, &wanted.server).is_some() {
             return Err(TableFault::Fixed);
         }
-        let mut presentations = copies(&self.presentations)?;
-        let mut withdrawn = Vec::from_elem(alloc, true, presentations.len())?;
-        for place in 0..wanted.presentations.len() {
-            if !matches!(wanted.withdrawn.get(place), Some(true)) {
-                let presentation = &wanted.presentations[place];
-                offer(&mut presentations, &mut withdrawn, presentation, renewed)?;
-            }
-        }
+        let (presentations, withdrawn) = grown(alloc, &self.presentations, wanted, renewed)?;
         if presentations.len() > MAX_PLACES {
             return Err(TableFault::TooMany);
         }

@@ -1,7 +1,7 @@
 //! Which place a request means: a session's own, or the one that is offered under the name.
 
-ghost use Rattle.std.specs.Prelude.{◌≡◌, ◌≤◌, length, bytes_eq, option_map, slice_get};
-ghost use Rattle.rtsp_content.specs.declared.limits.TheConstants.{MAX_PLACES};
+ghost use Rattle.std.specs.Prelude.{◌≡◌, ◌≤◌, ◌<◌, length, option_map, IfSome};
+ghost use Rattle.rtsp_content.specs.declared.limits.TheConstants.{MAX_PLACES, MAX_TRACKS};
 ghost use Rattle.rtsp_content.specs.Offering.{is_offered_as, offered_from, is_namesake, offered_like, meant_of, track_named, track_as};
 
 use crate::presentation::Presentation;
@@ -15,11 +15,7 @@ fn is_offered_as(presentation: &Presentation, gone: Option<&bool>, name: &str) -
 }
 
 // The place at which a presentation of this name is offered.
-fn offered_under(
-    presentations: &[Presentation],
-    withdrawn: &[bool],
-    name: &str,
-) -> Option<u16>
+fn offered_under(presentations: &[Presentation], withdrawn: &[bool], name: &str) -> Option<u16>
     requires { length presentations.now ≤ MAX_PLACES }
     ensures { result ≡ offered_from 0 presentations.now withdrawn.now name.now }
 {
@@ -39,6 +35,17 @@ fn is_namesake(one: Option<&Presentation>, other: Option<&Presentation>) -> bool
         (Some(one), Some(other)) => one.name() == other.name(),
         _ => false,
     }
+}
+
+// The place of the track of this name.
+fn track_named(presentation: &Presentation, name: &str) -> Option<usize>
+    ensures value { result ≡ track_named presentation.now name.now }
+    ensures within { IfSome result (λ j. j < MAX_TRACKS) }
+{
+    presentation
+        .tracks()
+        .iter()
+        .position(|track| track.name() == name)
 }
 
 impl Table {
@@ -79,17 +86,9 @@ impl Table {
             return Some(track);
         }
         let named = self.presentation(place)?.track(track)?;
-        track_named(self.presentation(meant)?, named.name())
+        match track_named(self.presentation(meant)?, named.name()) {
+            Some(track) => Some(track as u16),
+            None => None,
+        }
     }
-}
-
-// The track of this name.
-fn track_named(presentation: &Presentation, name: &str) -> Option<u16>
-    ensures { result ≡ track_named presentation.now name.now }
-{
-    let place = presentation
-        .tracks()
-        .iter()
-        .position(|track| track.name() == name)?;
-    Some(place as u16)
 }

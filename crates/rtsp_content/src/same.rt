@@ -2,6 +2,7 @@
 
 ghost use Rattle.std.specs.Prelude.{◌≡◌, true};
 
+use crate::packing::Packing;
 use crate::presentation::Presentation;
 use crate::starts::Starts;
 use crate::track::Track;
@@ -13,6 +14,13 @@ fn are_same_starts(a: &Starts, b: &Starts) -> bool
     a.units == b.units
 }
 
+// Whether packets stand alike in files.
+fn is_same_packing(a: Packing, b: Packing) -> bool
+    ensures { result ≡ true → a ≡ b }
+{
+    a == b
+}
+
 // Whether two tracks are the same.
 fn is_same_track(a: &Track, b: &Track) -> bool
     ensures { result ≡ true → a.now ≡ b.now }
@@ -22,7 +30,7 @@ fn is_same_track(a: &Track, b: &Track) -> bool
         && a.payload_type == b.payload_type
         && a.encoding == b.encoding
         && a.clock == b.clock
-        && a.packing == b.packing
+        && is_same_packing(a.packing, b.packing)
         && a.octets == b.octets
         && a.ticks == b.ticks
         && a.file == b.file

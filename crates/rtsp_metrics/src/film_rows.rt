@@ -37,8 +37,14 @@ fn write_content(
     let presentations = grouped(alloc, u128::from(content.presentations))?;
     let number = grouped(alloc, u128::from(content.number))?;
     let taken = grouped(alloc, u128::from(content.taken))?;
-    append_all(out, &[b"<p>", &presentations, b" are offered, by configuration "])?;
-    append_all(out, &[&number, b", taken up ", &taken, b" s after the start.\n"])
+    append_all(
+        out,
+        &[b"<p>", &presentations, b" are offered, by configuration "],
+    )?;
+    append_all(
+        out,
+        &[&number, b", taken up ", &taken, b" s after the start.\n"],
+    )
 }
 
 /// What is watched of each presentation, as a section of the page.

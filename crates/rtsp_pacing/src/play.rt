@@ -281,7 +281,13 @@ impl PacedPlay {
             (Turn::SinkFailed, Some(due)) if !is_past(phase, unit_ms, moment) => {
                 Next::At(next_unit(due, unit_ms, moment))
             }
-            (Turn::AtEnd | Turn::SinkFailed, _) => self.finish(alloc, desk, content, presentation, moment),
+            (Turn::AtEnd | Turn::SinkFailed, _) => self.finish(
+                alloc,
+                desk,
+                content,
+                presentation,
+                moment,
+            ),
             (Turn::OtherPlay, _) => self.wait(unit_ms, passed, moment),
             (Turn::More, None) => Next::Never,
         }

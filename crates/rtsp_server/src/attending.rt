@@ -13,11 +13,9 @@ use std::time::Duration;
 impl Parts {
     // Makes the files that the thread which writes the journal asks for, and takes a changed configuration up,
     // until the lanes are over.
-    pub(crate) fn attend<R: Threads + Wait + rt::Clock + Files<File = File> + Copy + Send + 'static>(
-        &self,
-        rt: &R,
-        growth: &mut Growth,
-    ) {
+    pub(crate) fn attend<
+        R: Threads + Wait + rt::Clock + Files<File = File> + Copy + Send + 'static,
+    >(&self, rt: &R, growth: &mut Growth) {
         for _ in rt.forever() {
             if self.attend_scribe(rt, Duration::from_millis(CONFIGURATION_EVERY)) {
                 break;
@@ -26,4 +24,3 @@ impl Parts {
         }
     }
 }
-

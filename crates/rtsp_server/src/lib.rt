@@ -59,8 +59,8 @@ mod watched_file;
 mod writing;
 mod writing_journal;
 
-pub use fault::ServerFault;
 pub use descriptors::descriptor_fault;
+pub use fault::ServerFault;
 pub use rtsp_chronicle::Doubt;
 pub use rtsp_lock::BookHandle;
 pub use rtsp_threads::{Lane, LaneTurn, PoolEnd, run_pool, whole_of};

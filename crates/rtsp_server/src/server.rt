@@ -203,7 +203,9 @@ impl Server {
     >(self, rt: &R, announcer: A, errors: E) -> Result<ServerEnd, ServerFault>
         ensures { IfOk result (λ end. IfSome end.book (λ k. book_of k.journal ≡ empty)) }
     {
-        let scribe = self.parts.open_scribe(rt, self.alloc, self.start.growth.operation())?;
+        let scribe = self
+            .parts
+            .open_scribe(rt, self.alloc, self.start.growth.operation())?;
         self.tell_of_descriptors(rt);
         let Self {
             alloc,

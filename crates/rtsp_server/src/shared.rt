@@ -16,7 +16,9 @@ use rtsp_log::{BATCH_LINES, Event, HeaderCause, Log, moment};
 use rtsp_metrics::{Audience, Counters};
 use rtsp_pacing::Bells;
 use rtsp_shares::{ShareTable, Watermark};
-use rtsp_sockets::{Content, Contents, Decisions, LENT_IN_ALL, Outlets, PortBinder, PortTable, SharedRoom};
+use rtsp_sockets::{
+    Content, Contents, Decisions, LENT_IN_ALL, Outlets, PortBinder, PortTable, SharedRoom,
+};
 use rtsp_status::Halt;
 use rtsp_threads::{
     FEW_LINES, Gate, LAST_ROOM, LOG_LINES, Refused, ScribeBell, StopBell, ask_for_room, end_place,

@@ -10,6 +10,7 @@ use std::rt::Files;
 
 // The most bytes of a configuration, and of a read.
 const MOST: usize = 16 * 1_024 * 1_024;
+
 const PIECE: usize = 64 * 1_024;
 
 // What is seen of the file: nothing where it isn't there.

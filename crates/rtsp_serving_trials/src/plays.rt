@@ -340,10 +340,7 @@ fn paced<R: Threads + Wait + Clock + AllocGlobal + Sync>(
     requires pacer { IsSeatOf seats.0 lock.now }
     requires player { IsSeatOf seats.1 lock.now }
 {
-    let Served {
-        contents,
-        stage,
-    } = served;
+    let Served { contents, stage } = served;
     let counters = Counters::new();
     let audience = Audience::open(rt.alloc(), 1).ok()?;
     let log = Log::new(rt.alloc(), 1, false).ok()?;
@@ -436,10 +433,7 @@ fn comes_so<
     let leaving = leaving_of(word);
     let pair = free_port(rt).ok()?;
     let stage = &Stage::open(rt, pair)?;
-    let served = Served {
-        contents,
-        stage,
-    };
+    let served = Served { contents, stage };
     let (paced, came) = sent(rt, served, pair, leaving)?;
     Some(is_just(&paced, &came, leaving, units))
 }

@@ -328,7 +328,9 @@ fn a_scribe_writes_at_its_end(rt: HostRuntime) {
 }
 
 // Whether no file is made that nobody asks for, and the wait for requests ends where it is left.
-fn makes_nothing_unasked<R: Files<File = File> + Wait + Clock + AllocGlobal>(rt: &R) -> Option<bool> {
+fn makes_nothing_unasked<R: Files<File = File> + Wait + Clock + AllocGlobal>(
+    rt: &R,
+) -> Option<bool> {
     let folder = JournalFolder::new(rt.alloc(), "no such folder").ok()?;
     let requests = FileRequests::new();
     requests.answer(rt, &folder);

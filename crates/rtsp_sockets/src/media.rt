@@ -128,7 +128,10 @@ impl MediaOf<File> {
             files: Vec::new(alloc),
             places: Vec::new(alloc),
             disks: Vec::new(alloc),
-            shelf: shared(alloc, Shelf::open(alloc, kept_limit(table.server().uplink))?)?,
+            shelf: shared(
+                alloc,
+                Shelf::open(alloc, kept_limit(table.server().uplink))?,
+            )?,
         };
         let mut opening = OpenedFiles::new(alloc, 0);
         for presentation in table.presentations() {
@@ -162,7 +165,9 @@ impl<F: ReadAt> MediaOf<F> {
             if file.held.is_none() {
                 self.add_disk(alloc, file.mark.device)?;
             }
-            self.files.push(Some(shared(alloc, file)?)).map_err(AllocError::from)?;
+            self.files
+                .push(Some(shared(alloc, file)?))
+                .map_err(AllocError::from)?;
         }
         Ok(())
     }

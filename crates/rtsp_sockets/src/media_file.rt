@@ -9,9 +9,9 @@ use crate::read_at::ReadAt;
 use crate::unit::copy_unit;
 use std::alloc::Global;
 use std::fs::{File, Metadata};
+use std::io;
 use std::os::unix::fs::MetadataExt;
 use std::rt::Files;
-use std::io;
 
 /// Which file it is, and since when it has its bytes, as the system tells.
 #[derive(Clone, Copy, PartialEq, Eq)]

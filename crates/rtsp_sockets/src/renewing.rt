@@ -34,9 +34,10 @@ impl<F: ReadAt> MediaOf<F> {
     fn keep(&mut self, alloc: Global, old: &MediaOf<F>, of: &Vec<Place>) -> Result<(), MediaFault> {
         let mut places = Vec::new(alloc);
         for place in of {
-            if let (Some(kept), Some(Some(file))) =
-                (self.files.get_mut(place.file), old.files.get(place.file))
-            {
+            if let (Some(kept), Some(Some(file))) = (
+                self.files.get_mut(place.file),
+                old.files.get(place.file),
+            ) {
                 *kept = Some(another(file)?);
             }
             places.push(*place).map_err(AllocError::from)?;
@@ -113,7 +114,10 @@ impl MediaOf<File> {
         for (place, presentation) in table.presentations().iter().enumerate() {
             match self.places.get(place) {
                 _ if !matches!(wanted.get(place), Some(true)) => {
-                    media.places.push(Vec::new(alloc)).map_err(AllocError::from)?;
+                    media
+                        .places
+                        .push(Vec::new(alloc))
+                        .map_err(AllocError::from)?;
                 }
                 Some(places) if !places.is_empty() => media.keep(alloc, self, places)?,
                 _ => {

@@ -113,11 +113,11 @@ aim-alike old new x s request view own peer moment method name (targets.Track ba
     let b = agree-by old new x p there.second there.is_second in
     let e' : is_namesake (slice_get new.presentations own) (slice_get new.presentations p) ≡ true = rw (a, b) e in
     rw (at-own old own p e, at-own new own p e', track-alike old new p t own a b) (go (track_as old p t own) a) where
-  go : (o : Option ℕ) → AgreeAt old new own
-      → ((known o >>= λ u. Ok (targets.Track base own u)) >>= λ aim. row (context_of new request view peer moment) method view name aim)
-      ≡ ((known o >>= λ u. Ok (targets.Track base own u)) >>= λ aim. row (context_of old request view peer moment) method view name aim)
-  go (Some u) a = row-alike old new s request view peer moment method name (targets.Track base own u) a
-  go None a = refl
+      go : (o : Option ℕ) → AgreeAt old new own
+          → ((known o >>= λ u. Ok (targets.Track base own u)) >>= λ aim. row (context_of new request view peer moment) method view name aim)
+          ≡ ((known o >>= λ u. Ok (targets.Track base own u)) >>= λ aim. row (context_of old request view peer moment) method view name aim)
+      go (Some u) a = row-alike old new s request view peer moment method name (targets.Track base own u) a
+      go None a = refl
 aim-alike old new x s request view own peer moment method name targets.Server e = row-alike old new s request view peer moment method name targets.Server tt
 aim-alike old new x s request view own peer moment method name targets.Star e = row-alike old new s request view peer moment method name targets.Star tt
 

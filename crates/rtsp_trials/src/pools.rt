@@ -98,12 +98,7 @@ fn is_set_up<R: Wait, B: Binder>(
 }
 
 impl OneSetup {
-    fn serve<R: Wait + Clock>(
-        &self,
-        rt: &R,
-        alloc: Global,
-        handle: &mut BookHandle,
-    ) -> Option<()> {
+    fn serve<R: Wait + Clock>(&self, rt: &R, alloc: Global, handle: &mut BookHandle) -> Option<()> {
         let table = &*self.table;
         let mut own = handle.split(rt)?;
         let conn = own.draw(rt)?;
