@@ -7,7 +7,7 @@ mod leaving;
 ghost use Rattle.std.specs.Prelude.{◌≡◌, ◌<◌, ◌≤◌, ◌↔◌, IsTrue, IfSome, Some, unwrap_or, if◌then◌else◌};
 ghost use Rattle.rtsp_pacing.specs.Beginning.{Begins, IsApart};
 
-use self::audience::Watched;
+use self::audience::{Watched, presentation_of};
 use crate::desk::PacerDesk;
 use crate::dropped::Dropped;
 use crate::frame_run::FrameRun;
@@ -83,17 +83,6 @@ enum Sending {
 pub(crate) enum Next {
     At(u64),
     Never,
-}
-
-// The place of the presentation of a session's streams.
-fn presentation_of(view: &SessionView) -> Option<u16> {
-    let admissions = view.admissions();
-    for place in 0..admissions.len() {
-        if let Some(stream) = admissions.at(place).1.stream {
-            return Some(stream.presentation);
-        }
-    }
-    None
 }
 
 // Whether the last unit of a play was due a unit ago, or earlier.
