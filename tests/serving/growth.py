@@ -231,8 +231,7 @@ def import_beside_a_running_server(checks: Checks) -> None:
 
 def refused(checks: Checks, server: Growing, what: str, text: Optional[str], why: bytes) -> None:
     """That a configuration isn't taken up, which one line tells, and no second one."""
-    line = rb"warning the configuration isn't taken up: server\.toml.*" + why + rb".*"
-    line = line.replace(rb"server\.toml", rb"(?:server\.toml|\S+\.raw)")
+    line = rb"warning the configuration isn't taken up: .*" + why + rb".*"
     before, number = server.told.count(line), server.number()
     refusals = server.figure("rtspd_content_refusals_total")
     server.put(text) if text is not None else os.unlink(server.path / "server.toml")
