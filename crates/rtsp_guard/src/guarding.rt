@@ -1,12 +1,16 @@
 //! One who answers behind a gate, as an `Answerer`.
 
+ghost use Rattle.std.specs.Prelude.{◌≡◌, OnOk, OnErr};
+ghost use Rattle.rtsp_grammar.specs.declared.message.Item.{Item};
+ghost use Rattle.rtsp_engine.specs.Served.{Puts};
 ghost use Rattle.rtsp_guard.specs.Guarding.{AnswersBehind, GivesUpBehind};
 
+use crate::estranging::estranged;
 use crate::porter::Porter;
 use crate::refusing::refuse;
 use rtsp_credentials::{Gate, Users};
 use rtsp_engine::Answerer;
-use rtsp_grammar::Item;
+use rtsp_grammar::{Item, Request};
 use rtsp_record::{Life, Setup};
 use rtsp_state::Room;
 use rtsp_watch::Recorder;
@@ -22,6 +26,20 @@ pub(crate) struct Guarded<'a, 'u, 'p, A, P> {
     pub(crate) answerer: &'a mut A,
 }
 
+// Has a request answered, and lets it go.
+fn answer_request<A: Answerer>(
+    alloc: Global,
+    answerer: &mut A,
+    request: Request,
+    room: &mut Room,
+) -> Result<(), AllocError>
+    ensures ok { OnOk result (Puts (λ bytes. A.answers answerer.old (Item.Request request) bytes answerer.new) room.old.text room.new.text) }
+    ensures err { OnErr result (A.gives_up answerer.old (Item.Request request) answerer.new) }
+    ensures mute { OnErr result (room.new.text ≡ room.old.text) }
+{
+    answerer.answer(alloc, &Item::Request(request), room)
+}
+
 impl<A: Answerer, P: Porter> Answerer for Guarded<'_, '_, '_, A, P> {
     ghost answers = { AnswersBehind A.answers A.gives_up };
 
@@ -30,10 +48,17 @@ impl<A: Answerer, P: Porter> Answerer for Guarded<'_, '_, '_, A, P> {
     fn answer(&mut self, alloc: Global, item: &Item, room: &mut Room) -> Result<(), AllocError> {
         match item {
             Item::Request(request) => match self.gate.passed(self.users, request) {
-                Ok(next) => {
-                    self.gate = next;
-                    self.answerer.answer(alloc, item, room)
-                }
+                Ok(next) => match self.porter.of_another(request)? {
+                    Some(by) => {
+                        let estranged = estranged(alloc, by, request)?;
+                        self.gate = next;
+                        answer_request(alloc, self.answerer, estranged, room)
+                    }
+                    None => {
+                        self.gate = next;
+                        self.answerer.answer(alloc, item, room)
+                    }
+                },
                 Err(refusal) => {
                     let gate = self.gate;
                     self.gate = gate.after(refusal);

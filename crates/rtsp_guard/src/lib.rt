@@ -10,6 +10,7 @@
 
 #![tactic(auto)]
 
+mod estranging;
 mod guarding;
 mod laws;
 mod lending;
@@ -22,6 +23,6 @@ pub use laws::{
     law_changes_nothing, law_pieces_change_nothing, law_same_verdict, law_visited_drawn,
 };
 pub use lending::push_lent;
-pub use porter::Porter;
+pub use porter::{NamedBy, Porter};
 pub use understanding::push_understood;
 pub use watching::{push_guarded, push_repaired_guarded};

@@ -38,6 +38,7 @@ mod letting_in;
 mod naming;
 mod opening;
 mod operating;
+mod owners;
 mod putting_aside;
 mod readers;
 mod recorded;

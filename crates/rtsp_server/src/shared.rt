@@ -6,6 +6,7 @@ use crate::draining::Draining;
 use crate::end_lines::EndLines;
 use crate::end_note::EndNote;
 use crate::opening::Opening;
+use crate::owners::Owners;
 use crate::stopping::StopTimes;
 use crate::unread::HELD_IN_ALL;
 use mio::net::TcpListener;
@@ -55,6 +56,8 @@ pub(crate) struct Shared {
     pub(crate) balancers: Balancers,
     /// Who is let through, where that isn't everybody.
     pub(crate) users: Option<Users>,
+    /// Which of them each session is of.
+    pub(crate) owners: Owners,
     /// What addresses have of the sessions, where each has a share of them.
     pub(crate) session_shares: Option<Mutex<ShareTable>>,
     pub(crate) outlets: Outlets,
@@ -96,6 +99,7 @@ impl Drop for Shared {
             gate: _gate,
             balancers: _balancers,
             users: _users,
+            owners: _owners,
             session_shares: _session_shares,
             outlets: _outlets,
             lent: _lent,
@@ -175,6 +179,7 @@ impl Shared {
             gate,
             balancers,
             users,
+            owners: Owners::new(alloc),
             session_shares,
             outlets: Outlets::new(alloc),
             lent,

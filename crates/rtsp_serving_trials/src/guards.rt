@@ -12,8 +12,8 @@ use rtsp_credentials::{Gate, Protection, Refusal, Users, read_users};
 use rtsp_engine::{Asker, Connection};
 use rtsp_grammar::Request;
 use rtsp_guard::{
-    Porter, law_changes_nothing, law_pieces_change_nothing, law_same_verdict, law_visited_drawn,
-    push_lent,
+    NamedBy, Porter, law_changes_nothing, law_pieces_change_nothing, law_same_verdict,
+    law_visited_drawn, push_lent,
 };
 use rtsp_lock::{AnyNumbers, BookLock, BookSeat, open};
 use rtsp_record::Whole;
@@ -49,6 +49,10 @@ impl Witness for Nobody {
 
 impl Porter for Nobody {
     fn refused(&self, _refusal: Refusal, _request: &Request) {}
+
+    fn of_another(&self, _request: &Request) -> Result<Option<NamedBy>, AllocError> {
+        Ok(None)
+    }
 }
 
 // What a piece of a connection's input is answered.
