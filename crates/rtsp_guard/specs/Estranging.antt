@@ -20,6 +20,9 @@ estranged_header by header = if is_named header.name (header_by by) then nobodys
 abbrev pub estranged : NamedBy → Request → Request
 estranged by request = record request { headers = map (estranged_header by) request.headers }
 
+abbrev pub IsEstranged : Request → Request → Type 0
+IsEstranged request seen = (by : NamedBy) × (seen ≡ estranged by request)
+
 -- a request that is let through is taken as it is, or as one of no session
 abbrev pub IsTakenAs : Request → Request → Type 0
-IsTakenAs request seen = (seen ≡ request) ⊎ ((by : NamedBy) × (seen ≡ estranged by request))
+IsTakenAs request seen = (seen ≡ request) ⊎ IsEstranged request seen

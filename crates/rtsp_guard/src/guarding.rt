@@ -1,8 +1,9 @@
 //! One who answers behind a gate, as an `Answerer`.
 
-ghost use Rattle.std.specs.Prelude.{◌≡◌, OnOk, OnErr};
+ghost use Rattle.std.specs.Prelude.{◌≡◌, IfOk, IfSome, OnOk, OnErr};
 ghost use Rattle.rtsp_grammar.specs.declared.message.Item.{Item};
 ghost use Rattle.rtsp_engine.specs.Served.{Puts};
+ghost use Rattle.rtsp_guard.specs.Estranging.{IsEstranged};
 ghost use Rattle.rtsp_guard.specs.Guarding.{AnswersBehind, GivesUpBehind};
 
 use crate::estranging::estranged;
@@ -24,6 +25,20 @@ pub(crate) struct Guarded<'a, 'u, 'p, A, P> {
     pub(crate) users: &'u Users,
     pub(crate) porter: &'p P,
     pub(crate) answerer: &'a mut A,
+}
+
+// The request as of no session, where it names a session of another user.
+fn estranged_by<P: Porter>(
+    alloc: Global,
+    porter: &P,
+    request: &Request,
+) -> Result<Option<Request>, AllocError>
+    ensures { IfOk result (λ found. IfSome found (IsEstranged request.now)) }
+{
+    match porter.of_another(request)? {
+        Some(by) => Ok(Some(estranged(alloc, by, request)?)),
+        None => Ok(None),
+    }
 }
 
 // Has a request answered, and lets it go.
@@ -48,17 +63,14 @@ impl<A: Answerer, P: Porter> Answerer for Guarded<'_, '_, '_, A, P> {
     fn answer(&mut self, alloc: Global, item: &Item, room: &mut Room) -> Result<(), AllocError> {
         match item {
             Item::Request(request) => match self.gate.passed(self.users, request) {
-                Ok(next) => match self.porter.of_another(request)? {
-                    Some(by) => {
-                        let estranged = estranged(alloc, by, request)?;
-                        self.gate = next;
-                        answer_request(alloc, self.answerer, estranged, room)
+                Ok(next) => {
+                    let estranged = estranged_by(alloc, self.porter, request)?;
+                    self.gate = next;
+                    match estranged {
+                        Some(request) => answer_request(alloc, self.answerer, request, room),
+                        None => self.answerer.answer(alloc, item, room),
                     }
-                    None => {
-                        self.gate = next;
-                        self.answerer.answer(alloc, item, room)
-                    }
-                },
+                }
                 Err(refusal) => {
                     let gate = self.gate;
                     self.gate = gate.after(refusal);
