@@ -2,7 +2,7 @@
 
 ghost use Rattle.std.specs.Prelude.{◌≡◌, ◌++◌, ◌∷◌, [], map, IfOk, OnOk};
 ghost use Rattle.rtsp_grammar.specs.HeaderView.{shown};
-ghost use Rattle.rtsp_guard.specs.Estranging.{header_by, estranged_header, estranged};
+ghost use Rattle.rtsp_guard.specs.Estranging.{header_by, names_by, estranged_header, estranged};
 
 use crate::porter::NamedBy;
 use rtsp_grammar::{Header, Headers, HeadersBuilder, Method, Request, Text, Version};
@@ -14,6 +14,18 @@ fn header_by(by: NamedBy) -> &'static [u8]
     match by {
         NamedBy::Session => b"Session",
         NamedBy::PipelinedRequests => b"Pipelined-Requests",
+    }
+}
+
+/// Whether headers name a session by this one.
+pub(crate) fn names_by(by: NamedBy, headers: &Headers) -> bool
+    ensures { result ≡ names_by by headers.now }
+{
+    match by {
+        NamedBy::Session => headers.count_of(b"Session") == 1,
+        NamedBy::PipelinedRequests => {
+            headers.count_of(b"Session") == 0 && headers.count_of(b"Pipelined-Requests") == 1
+        }
     }
 }
 

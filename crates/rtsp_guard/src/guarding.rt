@@ -6,7 +6,7 @@ ghost use Rattle.rtsp_engine.specs.Served.{Puts};
 ghost use Rattle.rtsp_guard.specs.Estranging.{IsEstranged};
 ghost use Rattle.rtsp_guard.specs.Guarding.{AnswersBehind, GivesUpBehind};
 
-use crate::estranging::estranged;
+use crate::estranging::{estranged, names_by};
 use crate::porter::Porter;
 use crate::refusing::refuse;
 use rtsp_credentials::{Gate, Users};
@@ -36,8 +36,8 @@ fn estranged_by<P: Porter>(
     ensures { IfOk result (λ found. IfSome found (IsEstranged request.now)) }
 {
     match porter.of_another(request)? {
-        Some(by) => Ok(Some(estranged(alloc, by, request)?)),
-        None => Ok(None),
+        Some(by) if names_by(by, &request.headers) => { Ok(Some(estranged(alloc, by, request)?)) }
+        _ => Ok(None),
     }
 }
 
