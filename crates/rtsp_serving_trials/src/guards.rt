@@ -13,7 +13,7 @@ use rtsp_engine::{Asker, Connection};
 use rtsp_grammar::Request;
 use rtsp_guard::{
     NamedBy, Porter, law_changes_nothing, law_pieces_change_nothing, law_same_verdict,
-    law_visited_drawn, push_lent,
+    law_strangers_change_nothing, law_visited_drawn, push_lent,
 };
 use rtsp_lock::{AnyNumbers, BookLock, BookSeat, open};
 use rtsp_record::Whole;
@@ -37,7 +37,10 @@ ann:rtspd:e8ffd2fd44412d64d47ab7cba87e1d3a73c15622f8fc33a663dd810f22926cba
 
 const NUMBER: u128 = 0x18bc_c416_2c1c_70e6_eb79_bda2_7914_4930;
 
-struct Nobody;
+/// Nobody is told of anything; all sessions are of another user, where requests name them so.
+struct Nobody {
+    another: Option<NamedBy>,
+}
 
 impl Witness for Nobody {
     fn asked(&self, _method: &[u8]) {}
@@ -51,7 +54,7 @@ impl Porter for Nobody {
     fn refused(&self, _refusal: Refusal, _request: &Request) {}
 
     fn of_another(&self, _request: &Request) -> Result<Option<NamedBy>, AllocError> {
-        Ok(None)
+        Ok(self.another)
     }
 }
 
@@ -63,6 +66,7 @@ fn answered<R: AllocGlobal + Wait>(
     seat: &mut BookSeat,
     lock: &BookLock,
     table: &Table,
+    another: Option<NamedBy>,
     text: &[u8],
 ) -> Option<Room>
     requires { IsSeatOf seat.old lock.now }
@@ -99,7 +103,7 @@ fn answered<R: AllocGlobal + Wait>(
         &mut NoShares,
         table,
         ASKER,
-        &Nobody,
+        &Nobody { another },
         &mut input,
         text,
         &mut room,
@@ -111,6 +115,7 @@ fn answered<R: AllocGlobal + Wait>(
 // Whether requests are answered so, by a server whose journal then has so many entries.
 fn is_answered<R: AllocGlobal + Wait>(
     rt: &R,
+    another: Option<NamedBy>,
     requests: &str,
     responses: &str,
     entries: usize,
@@ -136,6 +141,7 @@ fn is_answered<R: AllocGlobal + Wait>(
         &mut seat,
         &lock,
         &table,
+        another,
         text.as_bytes(),
     )?;
     let kept = seat.finish(rt, lock);
@@ -250,7 +256,7 @@ fn is_refused<R: AllocGlobal + Wait>(rt: &R, headers: &str, refused: Refused) ->
         Transport: RTP/AVP/TCP;interleaved=0-1\n{headers}{end}\n"
     );
     let answer = answer_to(alloc, refused).ok()?;
-    is_answered(rt, request.ok()?.as_str(), answer.as_str(), 0)
+    is_answered(rt, None, request.ok()?.as_str(), answer.as_str(), 0)
 }
 
 #[test]
@@ -265,7 +271,7 @@ fn each_wrong_header_is_refused_and_leaves_no_entry(rt: HostRuntime) {
 
 #[test]
 fn what_is_refused_leaves_no_entry(rt: HostRuntime) {
-    assert!(rt; is_answered(&rt, REFUSED, REFUSALS, 0) == Some(true));
+    assert!(rt; is_answered(&rt, None, REFUSED, REFUSALS, 0) == Some(true));
 }
 
 // A session of which each request but the first is also sent without credentials, with those of another
@@ -326,7 +332,30 @@ CSeq: 5
 
 #[test]
 fn a_user_s_session_is_ended_by_a_user(rt: HostRuntime) {
-    assert!(rt; is_answered(&rt, SESSION, ANSWERS, 8) == Some(true));
+    assert!(rt; is_answered(&rt, None, SESSION, ANSWERS, 8) == Some(true));
+}
+
+// The session is of another user. Who names it by its id is told that it isn't there.
+const STRANGER: &str = "\
+TEARDOWN rtsp://h/tone RTSP/2.0
+CSeq: 5
+Session: 00000000000000000000000000000001
+Authorization: Digest username=\"ann\", realm=\"rtspd\", nonce=\"18bcc4162c1c70e6eb79bda279144930\", uri=\"rtsp://h/tone\", response=\"57c053ff12cd3c24dcffd2231a0c4978950b7fbdf7b43f1fa6b6e2882ad73dec\", algorithm=SHA-256, qop=auth, cnonce=\"ca\", nc=00000002
+
+";
+
+const NOT_THERE: &str = "\
+RTSP/2.0 454 Session Not Found
+CSeq: 5
+
+";
+
+#[test]
+fn to_a_stranger_a_session_is_not_there(rt: HostRuntime) {
+    let another = Some(NamedBy::Session);
+    assert!(rt; is_answered(&rt, another, STRANGER, NOT_THERE, 0) == Some(true));
+    let by_number = Some(NamedBy::PipelinedRequests);
+    assert!(rt; is_answered(&rt, by_number, STRANGER, NOT_THERE, 0) == Some(true));
 }
 
 #[test]
@@ -334,5 +363,14 @@ fn the_laws_are_called() {
     law_changes_nothing::<HostRuntime, PortSet, Drawing, Ticking, Noting, NoShares, AnyNumbers>();
     law_pieces_change_nothing::<PortSet, Drawing, Ticking, Noting, NoShares>();
     law_same_verdict();
+    law_strangers_change_nothing::<
+        HostRuntime,
+        PortSet,
+        Drawing,
+        Ticking,
+        Noting,
+        NoShares,
+        AnyNumbers,
+    >();
     law_visited_drawn::<PortSet, Drawing, Ticking, Noting, NoShares>();
 }
