@@ -325,37 +325,32 @@ CSeq: 4
 WWW-Authenticate: Digest realm=\"rtspd\", qop=\"auth\", algorithm=SHA-256, nonce=\"18bcc4162c1c70e6eb79bda279144930\"
 WWW-Authenticate: Digest realm=\"rtspd\", qop=\"auth\", algorithm=MD5, nonce=\"18bcc4162c1c70e6eb79bda279144930\"
 
-RTSP/2.0 200 OK
-CSeq: 5
-
 ";
+
+// Whether the session is so to whoever ends it last, and the journal then has so many entries.
+fn is_ended<R: AllocGlobal + Wait>(
+    rt: &R,
+    another: Option<NamedBy>,
+    status: &str,
+    entries: usize,
+) -> Option<bool> {
+    let alloc = rt.alloc();
+    let answers = format!(in alloc; "{ANSWERS}RTSP/2.0 {status}\nCSeq: 5\n\n").ok()?;
+    is_answered(rt, another, SESSION, answers.as_str(), entries)
+}
 
 #[test]
 fn a_user_s_session_is_ended_by_a_user(rt: HostRuntime) {
-    assert!(rt; is_answered(&rt, None, SESSION, ANSWERS, 8) == Some(true));
+    assert!(rt; is_ended(&rt, None, "200 OK", 8) == Some(true));
 }
 
-// The session is of another user. Who names it by its id is told that it isn't there.
-const STRANGER: &str = "\
-TEARDOWN rtsp://h/tone RTSP/2.0
-CSeq: 5
-Session: 00000000000000000000000000000001
-Authorization: Digest username=\"ann\", realm=\"rtspd\", nonce=\"18bcc4162c1c70e6eb79bda279144930\", uri=\"rtsp://h/tone\", response=\"57c053ff12cd3c24dcffd2231a0c4978950b7fbdf7b43f1fa6b6e2882ad73dec\", algorithm=SHA-256, qop=auth, cnonce=\"ca\", nc=00000002
-
-";
-
-const NOT_THERE: &str = "\
-RTSP/2.0 454 Session Not Found
-CSeq: 5
-
-";
-
+// He names it by its id.
 #[test]
-fn to_a_stranger_a_session_is_not_there(rt: HostRuntime) {
-    let another = Some(NamedBy::Session);
-    assert!(rt; is_answered(&rt, another, STRANGER, NOT_THERE, 0) == Some(true));
+fn to_another_user_a_session_is_not_there(rt: HostRuntime) {
+    let by_id = Some(NamedBy::Session);
+    assert!(rt; is_ended(&rt, by_id, "454 Session Not Found", 5) == Some(true));
     let by_number = Some(NamedBy::PipelinedRequests);
-    assert!(rt; is_answered(&rt, by_number, STRANGER, NOT_THERE, 0) == Some(true));
+    assert!(rt; is_ended(&rt, by_number, "200 OK", 8) == Some(true));
 }
 
 #[test]
