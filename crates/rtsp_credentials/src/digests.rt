@@ -42,7 +42,7 @@ impl Digests {
     pub(crate) fn is_empty(&self) -> bool
         ensures { result ≡ (length self.now == 0) }
     {
-        self.secrets.is_empty()
+        self.secrets.len() == 0
     }
 
     /// H(A1) of a user.
