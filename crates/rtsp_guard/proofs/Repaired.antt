@@ -12,18 +12,19 @@ use Rattle.rtsp_guard.specs.Guarding.{Kept, AnswersGuarded, GivesUpGuarded, of, 
 use Rattle.rtsp_guard.specs.declared.guarding.Guarded.{Guarded}
 use Rattle.rtsp_guard.proofs.Behind.{Keeps, answers_stays, gives_up_stays, keeps_both}
 
+module _ {A : Type 0} (Answers : A → Item → List ℕ → A → Type 0) (GivesUp : A → Item → A → Type 0) where
+  abbrev R' : Kept A → Item → List ℕ → Kept A → Type 0
+  R' = AnswersRepaired (AnswersGuarded Answers GivesUp) (GivesUpGuarded Answers GivesUp)
+
+  abbrev L' : Kept A → Item → Kept A → Type 0
+  L' = GivesUpRepaired (AnswersGuarded Answers GivesUp) (GivesUpGuarded Answers GivesUp)
+
 module _ {A P : Type 0} (Answers : A → Item → List ℕ → A → Type 0) (GivesUp : A → Item → A → Type 0) where
   abbrev R : Guarded A P → Item → List ℕ → Guarded A P → Type 0
   R = AnswersRepaired (AnswersBehind Answers GivesUp) (GivesUpBehind Answers GivesUp)
 
   abbrev L : Guarded A P → Item → Guarded A P → Type 0
   L = GivesUpRepaired (AnswersBehind Answers GivesUp) (GivesUpBehind Answers GivesUp)
-
-  abbrev R' : Kept A → Item → List ℕ → Kept A → Type 0
-  R' = AnswersRepaired (AnswersGuarded Answers GivesUp) (GivesUpGuarded Answers GivesUp)
-
-  abbrev L' : Kept A → Item → Kept A → Type 0
-  L' = GivesUpRepaired (AnswersGuarded Answers GivesUp) (GivesUpGuarded Answers GivesUp)
 
   abbrev Stay : Guarded A P → Guarded A P → Type 0
   Stay = Keeps Answers GivesUp
@@ -46,7 +47,7 @@ module _ {A P : Type 0} (Answers : A → Item → List ℕ → A → Type 0) (Gi
   lost_keeps s t (items.Response response) h = behind_keeps s t (items.Response response) h
   lost_keeps s t (items.Frame frame) h = behind_keeps s t (items.Frame frame) h
 
-  lost_along : (s t : Guarded A P) (item : Item) → L s item t → L' (of s) item (of t)
+  lost_along : (s t : Guarded A P) (item : Item) → L s item t → L' Answers GivesUp (of s) item (of t)
   lost_along s t (items.Request request) (inl e) = inl (ap of e)
   lost_along s t (items.Request request) (inr h) = inr h.0
   lost_along s t (items.Response response) h = h.0
@@ -63,7 +64,7 @@ module _ {A P : Type 0} (Answers : A → Item → List ℕ → A → Type 0) (Gi
       → OnOk pushed (TakesRepaired (AnswersGuarded Answers GivesUp) (GivesUpGuarded Answers GivesUp) bytes rest (record { text = Some old; answerer = of s }) (record { text = Some text; answerer = new }))
   taken_repaired (Ok done) bytes rest old text s t new is h =
       subst (λ z. TakesRepaired (AnswersGuarded Answers GivesUp) (GivesUpGuarded Answers GivesUp) bytes rest (record { text = Some old; answerer = of s }) (record { text = Some text; answerer = z })) is
-      (answered_along R L R' L' of (λ s t item bytes h. h.0) lost_along bytes rest _ _ h)
+      (answered_along R L (R' Answers GivesUp) (L' Answers GivesUp) of (λ s t item bytes h. h.0) lost_along bytes rest _ _ h)
   taken_repaired (Err fault) bytes rest old text s t new is h = tt
 
   pub faulted_repaired : (pushed : Result (Unit {0}) MessageFault) (bytes old text : List ℕ) (s t : Guarded A P) (new : Kept A) → of t ≡ new
@@ -72,4 +73,4 @@ module _ {A P : Type 0} (Answers : A → Item → List ℕ → A → Type 0) (Gi
   faulted_repaired (Ok done) bytes old text s t new is h = tt
   faulted_repaired (Err fault) bytes old text s t new is h =
       subst (λ z. FaultsRepaired (AnswersGuarded Answers GivesUp) (GivesUpGuarded Answers GivesUp) bytes fault (record { text = Some old; answerer = of s }) (record { text = Some text; answerer = z })) is
-      (fault_along R L R' L' of (λ s t item bytes h. h.0) lost_along bytes fault _ _ h)
+      (fault_along R L (R' Answers GivesUp) (L' Answers GivesUp) of (λ s t item bytes h. h.0) lost_along bytes fault _ _ h)

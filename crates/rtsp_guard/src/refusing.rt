@@ -2,6 +2,7 @@
 
 ghost use Rattle.std.specs.Prelude.{◌≡◌, ◌++◌, ◌∷◌, [], None, IfOk, OnOk, OnErr};
 ghost use Rattle.rtsp_grammar.specs.Writing.{response_text};
+ghost use Rattle.rtsp_credentials.specs.Challenge.{challenge_text};
 ghost use Rattle.rtsp_engine.specs.Served.{Puts};
 ghost use Rattle.rtsp_guard.specs.Refusing.{is_malformed, number_line, challenge_line, challenge_lines, unauthorized, bad_request, numbered, refusal_text};
 
@@ -27,6 +28,21 @@ fn push_cseq(headers: &mut HeadersBuilder, cseq: u32) -> Result<(), AllocError>
     headers.push(b"CSeq", buffer.format(cseq).as_bytes())
 }
 
+// The value of a WWW-Authenticate header.
+fn challenge(
+    alloc: Global,
+    users: &Users,
+    gate: &Gate,
+    refusal: Refusal,
+    algorithm: Algorithm,
+) -> Result<Vec<u8>, AllocError>
+    ensures { IfOk result (λ value. value.items ≡ challenge_text users.now.realm gate.now algorithm refusal) }
+{
+    let mut value = Vec::new(alloc);
+    write_challenge(&mut value, users.realm.as_bytes(), gate, algorithm, refusal)?;
+    Ok(value)
+}
+
 fn push_challenge(
     alloc: Global,
     headers: &mut HeadersBuilder,
@@ -37,8 +53,7 @@ fn push_challenge(
 ) -> Result<(), AllocError>
     ensures { OnOk result (headers.new.headers ≡ headers.old.headers ++ challenge_line users.now gate.now refusal algorithm ∷ []) }
 {
-    let mut value = Vec::new(alloc);
-    write_challenge(&mut value, users.realm.as_bytes(), gate, algorithm, refusal)?;
+    let value = challenge(alloc, users, gate, refusal, algorithm)?;
     headers.push(b"WWW-Authenticate", value.as_slice())
 }
 

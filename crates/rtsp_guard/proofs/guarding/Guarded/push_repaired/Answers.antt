@@ -1,5 +1,5 @@
 use Rattle.rtsp_guard.proofs.Repaired.{repaired_keeps}
-use Rattle.rtsp_guard.proofs.watching.Guarded.push_repaired.Goals as goal
+use Rattle.rtsp_guard.proofs.guarding.Guarded.push_repaired.Goals as goal
 
 pub returns-clause-kept : goal.returns-clause-kept
 returns-clause-kept g c = (repaired_keeps g.A.Answerer.answers g.A.Answerer.gives_up c.push_repaired_watched.result _ _ _ _ c.push_repaired_watched.ensures.goes_on c.push_repaired_watched.ensures.ends).answerer
