@@ -229,7 +229,7 @@ def half_a_request_behind_a_header(checks: Checks) -> None:
         for front in line_for(PLAYER), binary_for(PLAYER), LOCAL:
             for length in 1, len(OPTIONS) // 2, len(OPTIONS) - 1:
                 Balanced(server, front + OPTIONS[:length]).socket.close()
-        checks.same("descriptors", before, server.descriptors_at_rest())
+        checks.same("descriptors", before, server.descriptors_fall_to(before, 5.0))
         with balanced(server, PLAYER) as (talk,):
             checks.same("a player afterwards", 200, talk.ask("OPTIONS", "*", []).status)
 
