@@ -100,8 +100,9 @@ def begun_in(folder: pathlib.Path, presentation: Presentation, media: pathlib.Pa
     return Play(presentation, media, folder, subprocess.Popen(words, cwd=folder, **pipes))
 
 
-def begun(server: Server, way: str, number: int) -> Play:
-    words = launch(server.presentation, server.uri, f"protocols={way}")
+def begun(server: Server, way: str, number: int, *more: str) -> Play:
+    """With more properties of its source."""
+    words = launch(server.presentation, server.uri, f"protocols={way}", *more)
     return begun_in(server.path / f"{way}{number}", server.presentation, server.path, words)
 
 

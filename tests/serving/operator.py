@@ -24,6 +24,7 @@ REFUSALS = {
     "No such path (404)": "path",
     "Not in this state (455)": "state",
     "Transport (461)": "transport",
+    "Credentials (401)": "credentials",
     "Other": "other",
 }
 LATE = {f"Within {ms} ms": str(ms / 1000) for ms in (1, 2, 5, 10, 20, 40, 100, 400)}

@@ -79,6 +79,39 @@ def harm(port: int, text: bytes, until: float) -> int:
     return came
 
 
+def connects_without_end(port: int, host: str, until: float) -> None:
+    """Opens connections that say nothing, and keeps a thousand of them."""
+    kept: List[socket.socket] = []
+    while time.monotonic() < until:
+        with contextlib.suppress(OSError):
+            kept.append(socket.create_connection((HERE, port), timeout=1, source_address=(host, 0)))
+        if len(kept) > 1_000:
+            kept.pop(0).close()
+    for talk in kept:
+        talk.close()
+
+
+@serving_test(limit=60)
+def a_scrape_beside_connections_without_end(checks: Checks) -> None:
+    """Another address opens connections to the figures without end and says nothing: each scrape comes through."""
+    port, address = shown_at()
+    with Server(checks, status=address) as server:
+        until = time.monotonic() + BESIDE
+        floods = [threading.Thread(target=connects_without_end, args=(port, "127.0.0.2", until)) for _ in range(4)]
+        for flood in floods:
+            flood.start()
+        took: List[float] = []
+        while time.monotonic() < until - 1:
+            began = time.monotonic()
+            checks.same("a scrape", 200, ask(port)[0])
+            took.append(time.monotonic() - began)
+            time.sleep(0.1)
+        for flood in floods:
+            flood.join()
+        checks.that("each within a second", max(took) < 1.0, max(took))
+        server.answers("then a player is answered")
+
+
 @serving_test(limit=60, is_alone=True)
 def plays_beside_strangers_at_the_figures(checks: Checks) -> None:
     """200 at a time who send garbage, half a head, a body, 2,000 requests or nothing: no player is refused, and no packet

@@ -91,6 +91,7 @@ fn refusal_section(alloc: Global, of: &Refusals) -> Result<Vec<u8>, AllocError>
             Row::Number(b"No such path (404)", of.path),
             Row::Number(b"Not in this state (455)", of.state),
             Row::Number(b"Transport (461)", of.transport),
+            Row::Number(b"Credentials (401)", of.credentials),
             Row::Number(b"Other", of.other),
         ],
     )

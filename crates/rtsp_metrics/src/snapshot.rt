@@ -98,6 +98,8 @@ pub struct Refusals {
     pub state: u64,
     /// No transport that the server has (461).
     pub transport: u64,
+    /// No user's credentials (401).
+    pub credentials: u64,
     /// Any other status from 400 on.
     pub other: u64,
 }
@@ -110,6 +112,7 @@ impl Refusals {
         path: 0,
         state: 0,
         transport: 0,
+        credentials: 0,
         other: 0,
     };
 }

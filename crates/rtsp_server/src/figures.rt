@@ -25,6 +25,9 @@ use std::sync::Wait;
 // The status of a response to a request for which there was no memory.
 const OUT_OF_MEMORY: u16 = 500;
 
+// That of a request that isn't let through: nothing was done for it.
+const UNAUTHORIZED: u16 = 401;
+
 // The status of one for which there was no more of something.
 const UNAVAILABLE: u16 = 503;
 
@@ -49,8 +52,8 @@ fn is_counting(method: Method) -> bool {
 /// Who is told of the answers to a piece of a player's input, and notes what they came to.
 #[derive(Drop)]
 pub(crate) struct AnswerCounter<'a, R> {
-    service: Service<'a, R>,
-    asker: Asker,
+    pub(crate) service: Service<'a, R>,
+    pub(crate) asker: Asker,
     heard: &'a Cell<Channels>,
     // The moment of the log's lines, in milliseconds since 1970: the clock is read once for the
     // requests of a piece, which are answered within some milliseconds.
@@ -106,7 +109,7 @@ impl<R: Wait + rt::Clock> AnswerCounter<'_, R> {
     // Notes which session was begun or has ended.
     fn note_session(&self, method: Method, told: &Told<'_>) {
         let Service { rt, shared, .. } = self.service;
-        if method == Method::Teardown {
+        if told.status != UNAUTHORIZED && method == Method::Teardown {
             shared.ends.note();
         }
         if let Some(viewing) = viewing_of(told, self.asker, self.service.now) {
@@ -173,7 +176,9 @@ impl<R: Wait + rt::Clock> Witness for AnswerCounter<'_, R> {
         if is_counting(method) {
             self.end_decision();
         }
-        if !matches!(method, Method::Options | Method::Describe) || told.session().is_some() {
+        let is_let_through = told.status != UNAUTHORIZED;
+        let may_record = !matches!(method, Method::Options | Method::Describe);
+        if is_let_through && (may_record || told.session().is_some()) {
             recorded.note();
         }
         self.note_session(method, told);

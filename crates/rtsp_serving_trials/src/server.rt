@@ -209,7 +209,8 @@ pub(crate) fn as_sent(alloc: Global, text: &str) -> Result<String, AllocError> {
     text.replace(alloc, "\n", "\r\n")
 }
 
-fn table_of(alloc: Global, lines: &str) -> Option<Table> {
+/// The configuration of a server with further lines.
+pub(crate) fn table_of(alloc: Global, lines: &str) -> Option<Table> {
     let text = format!(in alloc; "[server]\n{lines}\n{CONFIGURATION}");
     Table::read(alloc, text.ok()?.as_bytes()).ok()
 }

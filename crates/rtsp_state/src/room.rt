@@ -1,6 +1,7 @@
 //! The buffer that a connection's responses are written into.
 
-ghost use Rattle.std.specs.Prelude.{◌<◌, ◌^◌, ◌-◌, ◌≡◌, ◌≤◌, ◌++◌, [], length, decimal, OnOk};
+ghost use Rattle.std.specs.Prelude.{◌<◌, ◌^◌, ◌-◌, ◌≡◌, ◌≤◌, ◌++◌, [], length, decimal, OnOk, OnErr};
+ghost use Rattle.rtsp_grammar.specs.Writing.{response_text};
 ghost use Rattle.rtsp_text.specs.Hexadecimal.{hex_text};
 ghost use Rattle.rtsp_transport.specs.Granted.{transport_text};
 ghost use Rattle.rtsp_transport.specs.declared.write.Granted.TheVariants.{Udp, Mux, UdpFrom, MuxFrom, Inter};
@@ -8,6 +9,7 @@ ghost use Rattle.rtsp_npt.specs.Printed.{time_text, range_text, stop_text};
 ghost use Rattle.rtsp_state.specs.Room.{Takes};
 
 use itoa::Buffer;
+use rtsp_grammar::{Response, write_response};
 use rtsp_npt::{UnitLength, write_range, write_stop, write_time};
 use rtsp_transport::{Granted, write_session_id, write_ssrc, write_transport};
 use std::alloc::{AllocError, Global};
@@ -72,6 +74,14 @@ impl Room {
         ensures room { Takes self.old self.new (length text.now) }
     {
         self.bytes.extend_from_slice(text).unwrap();
+    }
+
+    /// Writes a response for which no room was made, or nothing.
+    pub fn append(&mut self, response: &Response) -> Result<(), AllocError>
+        ensures ok { OnOk result (self.new.text ≡ self.old.text ++ response_text response.now) }
+        ensures mute { OnErr result (self.new.text ≡ self.old.text) }
+    {
+        write_response(&mut self.bytes, response)
     }
 
     /// Writes a number in decimal.
