@@ -8,3 +8,6 @@ pub const LIFE: u64 = 5_000;
 
 /// The most bytes of the head of a request.
 pub const HEAD: usize = 4_096;
+
+/// The most connections that are taken in at a time: as many as a system holds that wait.
+pub const ACCEPTED: usize = 4_096;

@@ -2,7 +2,7 @@
 
 use crate::asked::SessionMeant;
 use crate::halt::Halt;
-use crate::limits::{HEAD, LIFE, PEERS};
+use crate::limits::{ACCEPTED, HEAD, LIFE, PEERS};
 use crate::peer::Peer;
 use crate::service::StatusService;
 use crate::shown::Further;
@@ -187,7 +187,7 @@ impl StatusServer {
     }
 
     fn accept_all(&mut self, now: u64) {
-        for _ in 0..PEERS {
+        for _ in 0..ACCEPTED {
             match self.listener.accept() {
                 Ok((stream, address)) => self.receive(stream, address, now),
                 Err(_) => return,
