@@ -5,7 +5,7 @@ import re
 import subprocess
 import sys
 from pathlib import Path
-from typing import Any, Dict, Iterator, List, NamedTuple, Optional, Tuple
+from typing import Any, Dict, Iterator, List, NamedTuple, Optional, Sequence, Tuple
 
 from checks import TOP, Checks
 from rtsp_client.connection import Connection, Refused
@@ -22,6 +22,8 @@ from .runner import serving_test
 from .server import HERE, Server
 
 NAME, PASSWORD, REALM = "ann", "a secret", "rtspd"
+# Another user, where there is one.
+OTHER = "bob"
 ALGORITHMS = {"MD5": hashlib.md5, "SHA-256": hashlib.sha256}
 # What a connection may have wrong.
 MOST_WRONG = 8
@@ -68,10 +70,10 @@ def nonce_of(answer: Message) -> str:
 
 
 @contextlib.contextmanager
-def guarded(checks: Checks, **settings: Any) -> Iterator[Telling]:
-    """A server that has one user, and whose log goes to a file."""
+def guarded(checks: Checks, names: Sequence[str] = (NAME,), **settings: Any) -> Iterator[Telling]:
+    """A server that has these users, of one password, and whose log goes to a file."""
     server = Telling(checks, users='"users"', **{"presentation": SHORT, **settings})
-    (server.path / "users").write_text(lines_for(NAME, PASSWORD))
+    (server.path / "users").write_text("".join(lines_for(it, PASSWORD) for it in names))
     with server:
         yield server
 
@@ -228,6 +230,60 @@ def a_user_plays(checks: Checks) -> None:
                 player.describe()
                 checks.that("a wrong password is refused", False)
             player.close()
+
+
+def in_session(talk: Connection, server: Server, method: str, session: str) -> Message:
+    """What a request of a session is answered."""
+    uri = f"{server.uri}/b" if method == "SETUP" else server.uri
+    transport = [("Transport", 'RTP/AVP;unicast;dest_addr=":9000"/":9001"')] if method == "SETUP" else []
+    return talk.ask(method, uri, [("Session", session), *transport])
+
+
+@serving_test(limit=60)
+def a_session_is_of_its_user(checks: Checks) -> None:
+    """Another's request in it is answered as in one that nobody has, and changes nothing; its own user goes on from any connection."""
+    port, shown = shown_at()
+    with guarded(checks, (NAME, OTHER), status=shown) as server:
+        player = Player(server.uri, Way.UDP, credentials=Credentials(NAME, PASSWORD))
+        player.set_up(player.describe()[0])
+        own, before = player.session or "", figures(port)["rtspd_journal_entries,state=written"]
+        one, other = (Connection(HERE, server.port, credentials=Credentials(OTHER, PASSWORD)) for _ in range(2))
+        for method in ("GET_PARAMETER", "SET_PARAMETER", "OPTIONS", "PLAY", "PAUSE", "SETUP", "TEARDOWN"):
+            answer = in_session(one, server, method, own)
+            checks.same(method, 454, answer.status)
+            checks.same(f"{method}: as in nobody's session", in_session(other, server, method, "1" * 32), answer)
+            checks.same(f"{method}: in capitals", 454, in_session(one, server, method, own.upper() + ";timeout=60").status)
+            in_session(other, server, method, "1" * 32)
+        found = figures(port)
+        checks.same("it lives on", (1, before), (found["rtspd_sessions"], found["rtspd_journal_entries,state=written"]))
+        again = Connection(HERE, server.port, credentials=Credentials(NAME, PASSWORD))
+        for method in ("GET_PARAMETER", "SETUP", "PLAY", "PAUSE", "TEARDOWN"):
+            checks.same(f"its own user's {method}", 200, in_session(again, server, method, own).status)
+        checks.same("it has ended", 454, in_session(one, server, "PLAY", own).status)
+        for talk in (one, other, again):
+            talk.close()
+        player.close()
+
+
+@serving_test(limit=40)
+def a_number_of_pipelined_requests_is_of_its_user(checks: Checks) -> None:
+    """On a connection of two users the other's request by the number is answered 454, until the session has ended."""
+    with guarded(checks, (NAME, OTHER)) as server:
+        talk, nonce = asked(server)
+
+        def status_of(count: int, name: str, method: str, *headers: Tuple[str, str]) -> Optional[int]:
+            uri = f"{server.uri}/a" if method == "SETUP" else server.uri
+            proof = Proof(nonce, uri, method, f"{count:08x}", name)
+            return talk.ask(method, uri, [("Pipelined-Requests", "7"), *headers, proof.header()]).status
+
+        checks.same("a session", 200, status_of(1, NAME, "SETUP", *OVER_TCP))
+        asked_by = [(OTHER, "PLAY"), (OTHER, "GET_PARAMETER"), (OTHER, "TEARDOWN"), (NAME, "PLAY"), (OTHER, "PAUSE"), (NAME, "TEARDOWN")]
+        came = [status_of(number, *it) for number, it in enumerate(asked_by, 2)]
+        checks.same("by its number", [454, 454, 454, 200, 454, 200], came)
+        checks.same("another's SETUP by the number, afterwards", 200, status_of(10, OTHER, "SETUP", *OVER_TCP))
+        checks.same("and his PLAY", 200, status_of(11, OTHER, "PLAY"))
+        checks.same("and not the first one's", 454, status_of(12, NAME, "PLAY"))
+        talk.close()
 
 
 FAULTS = {

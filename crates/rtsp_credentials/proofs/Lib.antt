@@ -5,3 +5,4 @@ pub mod Lines
 pub mod Passing
 pub mod Values
 pub mod Spelled
+pub mod Listed

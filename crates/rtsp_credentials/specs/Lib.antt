@@ -5,7 +5,9 @@ pub mod Parameters
 pub mod ParameterView
 pub mod Credentials
 pub mod CredentialsView
+pub mod User
 pub mod Users
+pub mod Adding
 pub mod Verdict
 pub mod Laws
 pub mod UsersFile

@@ -1,11 +1,14 @@
 -- A file of users: lines name:realm:digest, as htdigest writes them.
-use Rattle.std.specs.Prelude.{ℕ, Bool, true, not, ◌==◌, ◌&&◌, ◌||◌, nat_lt, nat_le, is_some, List, [], ◌∷◌, ◌++◌, length, bytes_eq, Option, Some, None, Result, Ok, Err, if◌then◌else◌}
+use Rattle.std.specs.Prelude.{ℕ, Bool, true, not, ◌==◌, ◌&&◌, ◌||◌, nat_le, List, [], ◌∷◌, length, bytes_eq, Option, Some, None, Result, Ok, Err, if◌then◌else◌}
 use Rattle.std.specs.List.{list_all}
 use Rattle.rtsp_text.specs.Results.{◌>>=◌}
 use Rattle.rtsp_text.specs.SplitOnce.{split_once}
 use Rattle.rtsp_transport.specs.Split.{onto_first}
-use Rattle.rtsp_credentials.specs.Users.{offer_in, user_in}
-use Rattle.rtsp_credentials.specs.declared.users.User.{User}
+use Rattle.rtsp_credentials.specs.Adding.{must, table_with}
+use Rattle.rtsp_credentials.specs.Users.{offer_in}
+use Rattle.rtsp_credentials.specs.declared.algorithm.Algorithm.{Algorithm}
+use Rattle.rtsp_credentials.specs.declared.algorithm.Algorithm.TheVariants.{Md5, Sha256}
+use Rattle.rtsp_credentials.specs.declared.users.UserTable.{UserTable}
 use Rattle.rtsp_credentials.specs.declared.users.Users.{Users}
 use Rattle.rtsp_credentials.specs.declared.users_fault.UsersFault.{UsersFault}
 use Rattle.rtsp_credentials.specs.declared.users_fault.UsersFault.TheVariants as faults
@@ -29,21 +32,28 @@ is_name text = not (length text == 0) && list_all is_name_byte text
 abbrev pub is_digit : ℕ → Bool
 is_digit b = (nat_le 48 b && nat_le b 57) || (nat_le 97 b && nat_le b 102)
 
-abbrev pub is_digest : List ℕ → Bool
-is_digest text = (length text == 32 || length text == 64) && list_all is_digit text
+-- the hash function whose digests have so many hexadecimal digits
+abbrev pub algorithm_by : ℕ → Option Algorithm
+algorithm_by digits = if digits == 32 then Some Md5 else if digits == 64 then Some Sha256 else None
+
+-- the hash function that a text is a digest of
+abbrev pub algorithm_of : List ℕ → Option Algorithm
+algorithm_of text = if list_all is_digit text then algorithm_by (length text) else None
 
 abbrev pub halves_or : Option (List ℕ × List ℕ) → Result (List ℕ × List ℕ) UsersFault
 halves_or None = Err faults.NoLine
 halves_or (Some p) = Ok p
 
-abbrev pub must : Bool → UsersFault → Result (Unit {0}) UsersFault
-must holds fault = if holds then Ok tt else Err fault
+abbrev pub algorithm_or : Option Algorithm → Result Algorithm UsersFault
+algorithm_or None = Err faults.WrongDigest
+algorithm_or (Some algorithm) = Ok algorithm
 
--- a line's name, realm and digest
+-- a line's name, realm and digest, with the hash function that it is of
 pub record LineTexts : Type 0 where
   pub name : List ℕ
   pub realm : List ℕ
   pub digest : List ℕ
+  pub algorithm : Algorithm
 
 unfoldable pub line_of : List ℕ → Result LineTexts UsersFault
 line_of line = do
@@ -51,16 +61,16 @@ line_of line = do
   second ← halves_or (split_once 58 first.1)
   named ← must (is_name first.0) faults.WrongName
   ruled ← must (is_name second.0) faults.WrongRealm
-  hashed ← must (is_digest second.1) faults.WrongDigest
-  Ok (record { name = first.0; realm = second.0; digest = second.1 })
+  algorithm ← algorithm_or (algorithm_of second.1)
+  Ok (record { name = first.0; realm = second.0; digest = second.1; algorithm = algorithm })
 
 -- the realm and the users so far
 pub record FoundUsers : Type 0 where
   pub realm : Option (List ℕ)
-  pub users : List User
+  pub users : UserTable
 
 abbrev pub no_users : FoundUsers
-no_users = record { realm = None; users = [] }
+no_users = record { realm = None; users = record { md5 = []; sha256 = [] } }
 
 abbrev pub is_realm : Option (List ℕ) → List ℕ → Bool
 is_realm None realm = true
@@ -70,8 +80,8 @@ is_realm (Some first) realm = bytes_eq first realm
 unfoldable pub joined_by : FoundUsers → LineTexts → Result FoundUsers UsersFault
 joined_by found line = do
   same ← must (is_realm found.realm line.realm) faults.OtherRealm
-  once ← must (not (is_some (user_in found.users line.name (length line.digest)))) faults.Twice
-  Ok (record { realm = Some line.realm; users = found.users ++ (record { name = line.name; secret = line.digest }) ∷ [] })
+  users ← table_with found.users line.algorithm line.name line.digest
+  Ok (record { realm = Some line.realm; users = users })
 
 -- an empty line has none
 unfoldable pub added : FoundUsers → List ℕ → Result FoundUsers UsersFault

@@ -1,19 +1,21 @@
 //! The users of a server.
 
-ghost use Rattle.std.specs.Prelude.{◌≡◌, ◌==◌, length, is_some};
-ghost use Rattle.std.specs.Option.{option_copied};
+ghost use Rattle.std.specs.Prelude.{◌≡◌, ◌⊎◌, [], Ok, Err, OnOk, IfErr};
 ghost use Rattle.rtsp_text.specs.Slices.{held};
-ghost use Rattle.std.specs.List.{list_any};
-ghost use Rattle.rtsp_credentials.specs.Users.{digits_of, has_digits, is_user, offer_in, offer_of, secret_in, user_in};
+ghost use Rattle.rtsp_credentials.specs.Users.{has_users, offer_in, offer_of, secret_in};
+ghost use Rattle.rtsp_credentials.specs.declared.users_fault.UsersFault.TheVariants.{OutOfMemory};
 
 use crate::algorithm::Algorithm;
-use rtsp_text::{List, Text};
+use crate::digests::Digests;
+use crate::users_fault::UsersFault;
+use rtsp_text::Text;
+use std::alloc::Global;
 
-/// A user: a name, and H(A1) in hexadecimal digits, of MD5 or of SHA-256 as there are 32 or 64.
+/// Users, by the hash function that their digests are of. A user may have one of each.
 #[derive(Drop)]
-pub struct User {
-    pub name: Text,
-    pub secret: Text,
+pub struct UserTable {
+    pub md5: Digests,
+    pub sha256: Digests,
 }
 
 /// The hash functions that the digests of some users are of.
@@ -28,57 +30,9 @@ pub enum Offer {
 #[derive(Drop)]
 pub struct Users {
     pub realm: Text,
-    pub users: List<User>,
+    pub users: UserTable,
     /// What is offered to whoever is asked for credentials.
     pub offer: Offer,
-}
-
-fn digits_of(algorithm: Algorithm) -> usize
-    ensures { result ≡ digits_of algorithm }
-{
-    match algorithm {
-        Algorithm::Md5 => 32,
-        Algorithm::Sha256 => 64,
-    }
-}
-
-impl User {
-    fn has_digits(&self, digits: usize) -> bool
-        ensures { result ≡ has_digits digits self.now }
-    {
-        self.secret.as_bytes().len() == digits
-    }
-
-    fn is(&self, name: &[u8], digits: usize) -> bool
-        ensures { result ≡ is_user name.now digits self.now }
-    {
-        self.name.as_bytes() == name && self.has_digits(digits)
-    }
-}
-
-// The first user of a name with a digest of so many digits.
-fn find_user<'a>(users: &'a List<User>, name: &[u8], digits: usize) -> Option<&'a User>
-    ensures { option_copied result ≡ user_in users.now name.now digits }
-{
-    let mut all = users.as_slice().iter();
-    all.find(|user| user.is(name, digits))
-}
-
-/// Whether a user has a digest of so many digits.
-pub(crate) fn has_user(users: &List<User>, name: &[u8], digits: usize) -> bool
-    ensures { result ≡ is_some (user_in users.now name.now digits) }
-{
-    match find_user(users, name, digits) {
-        Some(_) => true,
-        None => false,
-    }
-}
-
-// Whether some user has a digest of so many digits.
-fn have_digits(users: &List<User>, digits: usize) -> bool
-    ensures { result ≡ list_any (has_digits digits) users.now }
-{
-    users.as_slice().iter().any(|user| user.has_digits(digits))
 }
 
 fn offer_of(has_sha256: bool, has_md5: bool) -> Offer
@@ -91,13 +45,42 @@ fn offer_of(has_sha256: bool, has_md5: bool) -> Offer
     }
 }
 
-/// The hash functions that the digests of these users are of.
-pub(crate) fn offer_in(users: &List<User>) -> Offer
-    ensures { result ≡ offer_in users.now }
-{
-    let has_sha256 = have_digits(users, digits_of(Algorithm::Sha256));
-    let has_md5 = have_digits(users, digits_of(Algorithm::Md5));
-    offer_of(has_sha256, has_md5)
+impl UserTable {
+    ghost use Rattle.rtsp_credentials.specs.Adding.{table_with};
+
+    /// No user.
+    pub(crate) fn new(alloc: Global) -> UserTable
+        ensures { result ≡ record { md5 = []; sha256 = [] } }
+    {
+        UserTable {
+            md5: Digests::new(alloc),
+            sha256: Digests::new(alloc),
+        }
+    }
+
+    /// The hash functions that the digests of these users are of.
+    pub(crate) fn offer(&self) -> Offer
+        ensures { result ≡ offer_in self.now }
+    {
+        offer_of(!self.sha256.is_empty(), !self.md5.is_empty())
+    }
+
+    /// Adds a user. It isn't to be used again after a fault.
+    pub(crate) fn add(
+        &mut self,
+        alloc: Global,
+        algorithm: Algorithm,
+        name: &[u8],
+        secret: &[u8],
+    ) -> Result<(), UsersFault>
+        ensures ok { OnOk result (table_with self.old algorithm name.now secret.now ≡ Ok self.new) }
+        ensures err { IfErr result (λ e. (e ≡ OutOfMemory) ⊎ (table_with self.old algorithm name.now secret.now ≡ Err e)) }
+    {
+        match algorithm {
+            Algorithm::Md5 => self.md5.add(alloc, name, secret),
+            Algorithm::Sha256 => self.sha256.add(alloc, name, secret),
+        }
+    }
 }
 
 impl Users {
@@ -105,7 +88,9 @@ impl Users {
     pub fn secret_of(&self, name: &[u8], algorithm: Algorithm) -> Option<&[u8]>
         ensures { held result ≡ secret_in self.now.users name.now algorithm }
     {
-        let user = find_user(&self.users, name, digits_of(algorithm))?;
-        Some(user.secret.as_bytes())
+        match algorithm {
+            Algorithm::Md5 => self.users.md5.secret_of(name),
+            Algorithm::Sha256 => self.users.sha256.secret_of(name),
+        }
     }
 }

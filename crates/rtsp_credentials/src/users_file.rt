@@ -6,13 +6,15 @@ ghost use Rattle.rtsp_text.specs.Slices.{held, halves};
 ghost use Rattle.rtsp_text.specs.Results.{Gives, GivesBy};
 ghost use Rattle.rtsp_text.specs.SplitOnce.{split_once};
 ghost use Rattle.rtsp_credentials.specs.Seen.{seen};
-ghost use Rattle.rtsp_credentials.specs.UsersFile.{lines, lines_left, is_name_byte, is_name, is_digit, is_digest, halves_or, must, line_of, is_realm, no_users, all_added, users_among, users_of};
+ghost use Rattle.rtsp_credentials.specs.Adding.{must};
+ghost use Rattle.rtsp_credentials.specs.UsersFile.{lines, lines_left, is_name_byte, is_name, is_digit, algorithm_by, algorithm_of, algorithm_or, halves_or, line_of, is_realm, no_users, all_added, users_among, users_of};
 ghost use Rattle.rtsp_credentials.specs.UsersFileView.{found_in};
 ghost use Rattle.rtsp_credentials.specs.declared.users_fault.UsersFault.TheVariants.{OutOfMemory};
 
-use crate::users::{User, Users, has_user, offer_in};
+use crate::algorithm::Algorithm;
+use crate::users::{UserTable, Users};
 use crate::users_fault::UsersFault;
-use rtsp_text::{List, Text, split_once};
+use rtsp_text::{Text, split_once};
 use std::alloc::Global;
 
 fn is_name_byte(byte: u8) -> bool
@@ -45,10 +47,32 @@ fn are_digits(text: &[u8]) -> bool
     text.iter().all(|byte| is_digit(*byte))
 }
 
-fn is_digest(text: &[u8]) -> bool
-    ensures { result ≡ is_digest text.now }
+// The hash function whose digests have so many digits.
+fn algorithm_by(digits: usize) -> Option<Algorithm>
+    ensures { result ≡ algorithm_by digits }
 {
-    (text.len() == 32 || text.len() == 64) && are_digits(text)
+    match digits {
+        32 => Some(Algorithm::Md5),
+        64 => Some(Algorithm::Sha256),
+        _ => None,
+    }
+}
+
+// The hash function that a text is a digest of.
+fn algorithm_of(text: &[u8]) -> Option<Algorithm>
+    ensures { result ≡ algorithm_of text.now }
+{
+    if are_digits(text) {
+        algorithm_by(text.len())
+    } else {
+        None
+    }
+}
+
+fn algorithm_or(algorithm: Option<Algorithm>) -> Result<Algorithm, UsersFault>
+    ensures { result ≡ algorithm_or algorithm }
+{
+    algorithm.ok_or(UsersFault::WrongDigest)
 }
 
 fn must(holds: bool, fault: UsersFault) -> Result<(), UsersFault>
@@ -75,6 +99,7 @@ struct Line<'a> {
     name: &'a [u8],
     realm: &'a [u8],
     digest: &'a [u8],
+    algorithm: Algorithm,
 }
 
 fn halves_or(text: &[u8]) -> Result<(&[u8], &[u8]), UsersFault>
@@ -97,11 +122,12 @@ impl<'a> Line<'a> {
         let (realm, digest) = halves_or(rest)?;
         must(is_name(name), UsersFault::WrongName)?;
         must(is_name(realm), UsersFault::WrongRealm)?;
-        must(is_digest(digest), UsersFault::WrongDigest)?;
+        let algorithm = algorithm_or(algorithm_of(digest))?;
         Ok(Line {
             name,
             realm,
             digest,
+            algorithm,
         })
     }
 }
@@ -110,7 +136,7 @@ impl<'a> Line<'a> {
 #[derive(Drop)]
 struct Found<'a> {
     realm: Option<&'a [u8]>,
-    users: List<User>,
+    users: UserTable,
 }
 
 // Whether it is the realm of the lines before, where there are some.
@@ -121,15 +147,6 @@ fn is_realm(found: Option<&[u8]>, realm: &[u8]) -> bool
         Some(first) => first == realm,
         None => true,
     }
-}
-
-fn user_of(alloc: Global, name: &[u8], digest: &[u8]) -> Result<User, UsersFault>
-    ensures { Gives OutOfMemory result (Ok (record { name = name.now; secret = digest.now })) }
-{
-    Ok(User {
-        name: Text::from_slice(alloc, name)?,
-        secret: Text::from_slice(alloc, digest)?,
-    })
 }
 
 impl<'a> Found<'a> {
@@ -143,10 +160,8 @@ impl<'a> Found<'a> {
         ensures err { IfErr result (λ e. (e ≡ OutOfMemory) ⊎ (joined_by (found_in self.old) (shown line.now) ≡ Err e)) }
     {
         must(is_realm(self.realm, line.realm), UsersFault::OtherRealm)?;
-        let is_there = has_user(&self.users, line.name, line.digest.len());
-        must(!is_there, UsersFault::Twice)?;
-        let user = user_of(alloc, line.name, line.digest)?;
-        self.users.push(user)?;
+        self.users
+            .add(alloc, line.algorithm, line.name, line.digest)?;
         self.realm = Some(line.realm);
         Ok(())
     }
@@ -172,7 +187,7 @@ fn found_of(alloc: Global, text: &[u8]) -> Result<Found<'_>, UsersFault>
 {
     let mut found = Found {
         realm: None,
-        users: List::new(alloc),
+        users: UserTable::new(alloc),
     };
     let mut left = Some(text);
     'lines: while let Some(text) = left {
@@ -192,7 +207,7 @@ fn users_among(alloc: Global, found: Found<'_>) -> Result<Users, UsersFault>
     let Found { realm, users } = found;
     match realm {
         Some(realm) => {
-            let offer = offer_in(&users);
+            let offer = users.offer();
             Ok(Users {
                 realm: Text::from_slice(alloc, realm)?,
                 users,

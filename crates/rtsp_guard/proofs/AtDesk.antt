@@ -41,11 +41,12 @@ module _ {R B W C P S N : Type 0} (d : Devices B W C P S) where
   turned_same refusal s t e = subst (λ (z : Kept (Desk R B W C P S N)). Same s z) (sym e) (same_parts s.answerer)
 
   by_same : (verdict : Result Gate Refusal) (s t : Kept (Desk R B W C P S N)) (request : Request) (bytes : List ℕ) → AnswersBy (AnswersAt d) (GivesUpAt d) verdict s request bytes t → Same s t
-  by_same (Ok gate) s t request bytes h = h.answers.1
+  by_same (Ok gate) s t request bytes h = h.reaches.answers.1
   by_same (Err refusal) s t request bytes h = turned_same refusal s t h.1
 
   up_same : (verdict : Result Gate Refusal) (s t : Kept (Desk R B W C P S N)) (request : Request) → GivesUpBy (AnswersAt d) (GivesUpAt d) verdict s request t → Same s t
-  up_same (Ok gate) s t request h = h.gives_up.1
+  up_same (Ok gate) s t request (inl same) = subst (λ (z : Kept (Desk R B W C P S N)). Same s z) (sym same) (same_parts s.answerer)
+  up_same (Ok gate) s t request (inr h) = h.gives_up.gives_up.1
   up_same (Err refusal) s t request h = turned_same refusal s t h
 
   here_same : (s t : Kept (Desk R B W C P S N)) (item : Item) (bytes : List ℕ) → Here s item bytes t → Same s t

@@ -1,5 +1,5 @@
 -- What was answered behind a gate.
-use Rattle.std.proofs.Common.{◌≡◌, ℕ, List, Some, Result, Ok, Err, OnOk, IfErr, refl, ◌∙◌, ap, subst}
+use Rattle.std.proofs.Common.{◌≡◌, ℕ, List, Some, Result, Ok, Err, OnOk, IfErr, refl, ◌∙◌, ap, subst, inl, inr}
 use Rattle.rtsp_grammar.specs.declared.fault.MessageFault.{MessageFault}
 use Rattle.rtsp_grammar.specs.declared.message.Item.{Item}
 use Rattle.rtsp_grammar.specs.declared.message.Item.TheVariants as items
@@ -23,11 +23,12 @@ turned_stays {A = A} refusal old new e = ap (λ (k : Kept A). k.users) e
 
 module _ {A : Type 0} (Answers : A → Item → List ℕ → A → Type 0) (GivesUp : A → Item → A → Type 0) where
   by_stays : (verdict : Result Gate Refusal) (old : Kept A) (request : Request) (bytes : List ℕ) (new : Kept A) → AnswersBy Answers GivesUp verdict old request bytes new → Stays old new
-  by_stays (Ok gate) old request bytes new h = h.users
+  by_stays (Ok gate) old request bytes new h = h.reaches.users
   by_stays (Err refusal) old request bytes new h = turned_stays refusal old new h.1
 
   up_stays : (verdict : Result Gate Refusal) (old : Kept A) (request : Request) (new : Kept A) → GivesUpBy Answers GivesUp verdict old request new → Stays old new
-  up_stays (Ok gate) old request new h = h.users
+  up_stays (Ok gate) old request new (inl same) = ap (λ (k : Kept A). k.users) same
+  up_stays (Ok gate) old request new (inr h) = h.gives_up.users
   up_stays (Err refusal) old request new h = turned_stays refusal old new h
 
   pub answers_stays : (item : Item) (old : Kept A) (bytes : List ℕ) (new : Kept A) → AnswersGuarded Answers GivesUp old item bytes new → Stays old new

@@ -30,11 +30,14 @@ module _ {B W C P S : Type 0} (d : Devices B W C P S) where
 
   by_drawn : (verdict : Result Gate Refusal) (s t : Kept Serving) (request : Request) (bytes : List ℕ) → IsAlone s
       → AnswersBy (AnswersFrom d) (GivesUpFrom d) verdict s request bytes t → AnswersBy (AnswersMeantDrawn d as_it_is) (GivesUpFrom d) verdict s request bytes t × IsAlone t
-  by_drawn (Ok gate) s t request bytes is h = reached gate (items.Request request) s t bytes is h
+  by_drawn (Ok gate) s t request bytes is h =
+      let r = reached gate (items.Request h.seen) s t bytes is h.reaches in
+      (record { seen = h.seen; taken = h.taken; reaches = r.0 }, r.1)
   by_drawn (Err refusal) s t request bytes is h = (h, subst (λ (z : Kept Serving). IsAlone z) (sym h.1) is)
 
   up_drawn : (verdict : Result Gate Refusal) (s t : Kept Serving) (request : Request) → IsAlone s → GivesUpBy (AnswersFrom d) (GivesUpFrom d) verdict s request t → IsAlone t
-  up_drawn (Ok gate) s t request is h = lost_drawn d as_it_is s.answerer t.answerer (items.Request request) is h.gives_up
+  up_drawn (Ok gate) s t request is (inl same) = still_alone s t same is
+  up_drawn (Ok gate) s t request is (inr h) = lost_drawn d as_it_is s.answerer t.answerer (items.Request h.seen) is h.gives_up.gives_up
   up_drawn (Err refusal) s t request is h = subst (λ (z : Kept Serving). IsAlone z) (sym h) is
 
   item_drawn : (item : Item) (s t : Kept Serving) (bytes : List ℕ) → IsAlone s

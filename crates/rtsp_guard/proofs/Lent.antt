@@ -72,12 +72,26 @@ module _ {R B W C P S N : Type 0} (d : Devices B W C P S) where
   by : (verdict : Result Gate Refusal) (s t : Kept (Desk R B W C P S N)) (request : Request) (bytes : List ℕ) → AnswersBy (AnswersAt d) (GivesUpAt d) verdict s request bytes t
       → AnswersBy (AnswersFrom d) (GivesUpFrom d) verdict (kept s) request bytes (kept t) × SameParts s.answerer t.answerer
   by (Ok gate) s t request bytes h =
-      (record { answers = from s.answerer t.answerer (items.Request request) bytes h.answers; goes_on = h.goes_on; users = h.users }, h.answers.1)
+      let r = h.reaches in (
+        record {
+          seen = h.seen;
+          taken = h.taken;
+          reaches = record { answers = from s.answerer t.answerer (items.Request h.seen) bytes r.answers; goes_on = r.goes_on; users = r.users };
+        },
+        r.answers.1,
+      )
   by (Err refusal) s t request bytes h = ((h.0, ap kept h.1), subst (λ (z : Kept (Desk R B W C P S N)). SameParts s.answerer z.answerer) (sym h.1) (same_parts s.answerer))
 
   up_by : (verdict : Result Gate Refusal) (s t : Kept (Desk R B W C P S N)) (request : Request) → GivesUpBy (AnswersAt d) (GivesUpAt d) verdict s request t
       → GivesUpBy (AnswersFrom d) (GivesUpFrom d) verdict (kept s) request (kept t)
-  up_by (Ok gate) s t request h = record { gives_up = lost_from s.answerer t.answerer (items.Request request) h.gives_up; goes_on = h.goes_on; users = h.users }
+  up_by (Ok gate) s t request (inl same) = inl (ap kept same)
+  up_by (Ok gate) s t request (inr h) =
+      let l = h.gives_up in
+      inr (record {
+        seen = h.seen;
+        taken = h.taken;
+        gives_up = record { gives_up = lost_from s.answerer t.answerer (items.Request h.seen) l.gives_up; goes_on = l.goes_on; users = l.users };
+      })
   up_by (Err refusal) s t request h = ap kept h
 
   item_by : (item : Item) (s t : Kept (Desk R B W C P S N)) (bytes : List ℕ) → Here s item bytes t → AnswersGuarded (AnswersFrom d) (GivesUpFrom d) (kept s) item bytes (kept t) × SameParts s.answerer t.answerer

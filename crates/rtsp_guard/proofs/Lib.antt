@@ -7,3 +7,4 @@ pub mod SameVerdict
 pub mod QuietPieces
 pub mod Putting
 pub mod Drawn
+pub mod Strangers

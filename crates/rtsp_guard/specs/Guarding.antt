@@ -1,5 +1,5 @@
 -- How the items of a connection are answered behind its gate.
-use Rattle.std.specs.Prelude.{◌≡◌, ℕ, List, Result, Ok, Err}
+use Rattle.std.specs.Prelude.{◌≡◌, ◌⊎◌, ℕ, List, Result, Ok, Err}
 use Rattle.rtsp_grammar.specs.declared.fault.MessageFault.{MessageFault}
 use Rattle.rtsp_grammar.specs.declared.message.Item.{Item}
 use Rattle.rtsp_grammar.specs.declared.message.Item.TheVariants as items
@@ -9,6 +9,7 @@ use Rattle.rtsp_credentials.specs.declared.users.Users.{Users}
 use Rattle.rtsp_credentials.specs.declared.refusal.Refusal.{Refusal}
 use Rattle.rtsp_credentials.specs.Verdict.{passed, after}
 use Rattle.rtsp_engine.specs.Served.{Output, Answered, FaultedAfter}
+use Rattle.rtsp_guard.specs.Estranging.{IsTakenAs}
 use Rattle.rtsp_guard.specs.Refusing.{refusal_text}
 use Rattle.rtsp_guard.specs.declared.guarding.Guarded.{Guarded}
 
@@ -41,14 +42,27 @@ module _ {A : Type 0} (Answers : A → Item → List ℕ → A → Type 0) (Give
     pub goes_on : new.gate ≡ gate
     pub users : new.users ≡ old.users
 
+  -- A request that is let through is answered as it is. One that names a session of another user is answered as of a session that
+  -- no server has, so that all that is done with a session is done by its own user.
+  pub record Passes (gate : Gate) (old : Kept A) (request : Request) (bytes : List ℕ) (new : Kept A) : Type 0 where
+    pub seen : Request
+    pub taken : IsTakenAs request seen
+    pub reaches : Reaches gate old (items.Request seen) bytes new
+
+  pub record GivesUpPassed (gate : Gate) (old : Kept A) (request : Request) (new : Kept A) : Type 0 where
+    pub seen : Request
+    pub taken : IsTakenAs request seen
+    pub gives_up : GivesUpAt gate old (items.Request seen) new
+
   -- By the verdict: a request that is let through is answered, and the gate goes on as it then is; one that isn't is refused,
   -- and who answers is as he was.
   abbrev pub AnswersBy : Result Gate Refusal → Kept A → Request → List ℕ → Kept A → Type 0
-  AnswersBy (Ok gate) old request bytes new = Reaches gate old (items.Request request) bytes new
+  AnswersBy (Ok gate) old request bytes new = Passes gate old request bytes new
   AnswersBy (Err refusal) old request bytes new = (bytes ≡ refusal_text old.users old.gate refusal request) × (new ≡ turned refusal old)
 
+  -- memory ran out over it, perhaps before anything was done
   abbrev pub GivesUpBy : Result Gate Refusal → Kept A → Request → Kept A → Type 0
-  GivesUpBy (Ok gate) old request new = GivesUpAt gate old (items.Request request) new
+  GivesUpBy (Ok gate) old request new = (new ≡ old) ⊎ GivesUpPassed gate old request new
   GivesUpBy (Err refusal) old request new = new ≡ turned refusal old
 
   abbrev pub AnswersGuarded : Kept A → Item → List ℕ → Kept A → Type 0

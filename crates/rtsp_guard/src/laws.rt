@@ -1,7 +1,7 @@
 //! Laws over desks behind gates, each the contract of a function that does nothing.
 
 ghost use Rattle.rtsp_traits.specs.Devices.{devices};
-ghost use Rattle.rtsp_guard.specs.Quiet.{ChangesNothing};
+ghost use Rattle.rtsp_guard.specs.Quiet.{ChangesNothing, StrangersChangeNothing};
 ghost use Rattle.rtsp_guard.specs.QuietPieces.{PiecesChangeNothing};
 ghost use Rattle.rtsp_guard.specs.Repaired.{SameVerdict};
 ghost use Rattle.rtsp_guard.specs.Understanding.{VisitedDrawn};
@@ -13,6 +13,20 @@ use rtsp_lock::Numbers;
 /// as it was, and so is the gate, but for how many responses were wrong.
 pub fn law_changes_nothing<R, B: Binder, W: Words, C: Clock, P: Plays, S: Shares, N: Numbers>()
     ensures { ChangesNothing R N (devices B.calls W.calls C.tells P.calls S.calls) }
+{}
+
+/// A request that is let through and names a session of another user changes nothing at the desk either:
+/// it is refused before a session is looked up.
+pub fn law_strangers_change_nothing<
+    R,
+    B: Binder,
+    W: Words,
+    C: Clock,
+    P: Plays,
+    S: Shares,
+    N: Numbers,
+>()
+    ensures { StrangersChangeNothing R N (devices B.calls W.calls C.tells P.calls S.calls) }
 {}
 
 /// A request that was repaired has the verdict that it has as the player wrote it.

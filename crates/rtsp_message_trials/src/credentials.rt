@@ -2,11 +2,11 @@
 
 use crate::rows::{Lines, cut, hold_lines};
 use rtsp_credentials::{
-    Algorithm, Count, Gate, Offer, Protection, Refusal, UsersFault, md5_response, md5_secret,
-    read_users, sha256_response, sha256_secret, write_challenge,
+    Algorithm, Count, Gate, Offer, Protection, Refusal, Users, UsersFault, md5_response,
+    md5_secret, read_users, sha256_response, sha256_secret, write_challenge,
 };
 use rtsp_grammar::{Item, MessageFault, read_item};
-use std::alloc::Global;
+use std::alloc::{AllocError, Global};
 
 const NONCE: &[u8] = b"7ypf/xlj9XXwfDPEoM4URrv/xwf94BcCAzFZH4GiTo0v";
 
@@ -287,6 +287,54 @@ impl Lines for FileLines {
 #[test]
 fn files_of_users_are_read(rt: HostRuntime) {
     hold_lines::<FileLines>(&rt, rt.alloc(), FILES);
+}
+
+// Files of so many users: each has a digest of both hash functions.
+fn many_users(alloc: Global, count: u32) -> Result<Vec<u8>, AllocError> {
+    let mut text = Vec::new(alloc);
+    for number in 0..count {
+        let lines = format!(in alloc;
+            "user{number}:rtspd:{number:032x}\nuser{number}:rtspd:{number:064x}\n"
+        )?;
+        text.extend_from_slice(lines.as_bytes())?;
+    }
+    Ok(text)
+}
+
+// Whether a user has such digests.
+fn has_digests(users: &Users, name: &[u8], md5: Option<&[u8]>, sha256: Option<&[u8]>) -> bool {
+    users.secret_of(name, Algorithm::Md5) == md5
+        && users.secret_of(name, Algorithm::Sha256) == sha256
+}
+
+const FIRST_DIGEST: &[u8] = b"0000000000000000000000000000000000000000000000000000000000000000";
+
+const LAST_DIGEST: &[u8] = b"000000000000000000000000000000000000000000000000000000000000270f";
+
+#[test]
+fn ten_thousand_users_are_read(rt: HostRuntime) {
+    let alloc = rt.alloc();
+    let Ok(mut text) = many_users(alloc, 10_000) else {
+        return;
+    };
+    let Ok(users) = read_users(alloc, &text) else {
+        assert!(rt; false);
+        return;
+    };
+    assert!(rt; has_digests(&users, b"user0", FIRST_DIGEST.get(32..), Some(FIRST_DIGEST)));
+    assert!(rt;
+        has_digests(
+            &users,
+            b"user9999",
+            LAST_DIGEST.get(32..),
+            Some(LAST_DIGEST)
+        )
+    );
+    assert!(rt; has_digests(&users, b"user10000", None, None));
+    assert!(rt; has_digests(&users, b"user", None, None));
+    let twice = text.extend_from_slice(b"user5000:rtspd:00000000000000000000000000000000");
+    assert!(rt; twice.is_ok());
+    assert!(rt; matches!(read_users(alloc, &text), Err(UsersFault::Twice)));
 }
 
 const CHALLENGE: &[u8] =

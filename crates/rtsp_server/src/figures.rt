@@ -3,6 +3,7 @@
 use crate::channels::Channels;
 use crate::further::{bytes_sent, further};
 use crate::operating::{end_by_operator, sessions_text, standing};
+use crate::owners::Claim;
 use crate::service::Service;
 use crate::session_names::{named, viewing_of};
 use crate::shared::Shared;
@@ -10,7 +11,7 @@ use rtsp_content::Table;
 use rtsp_engine::Asker;
 use rtsp_lock::{BookHandle, HandOutFault, Mark, Then};
 use rtsp_log::{Access, EndCause, Event, moment};
-use rtsp_metrics::{BookFigures, Counts, Held, History, Method, Snapshot};
+use rtsp_metrics::{BookFigures, Counts, Held, History, Method, Snapshot, Viewing};
 use rtsp_record::Entry;
 use rtsp_sockets::RunningClock;
 use rtsp_status::{Further, SessionMeant, Source, Standing};
@@ -61,6 +62,8 @@ pub(crate) struct AnswerCounter<'a, R> {
     // How many SETUPs may have opened a session.
     setups: Cell<u64>,
     is_unavailable: Cell<bool>,
+    // Who asks for a session, where only users are let through, until the request is answered.
+    pub(crate) claim: Cell<Option<Claim>>,
 }
 
 impl<'a, R: rt::Clock> AnswerCounter<'a, R> {
@@ -81,6 +84,7 @@ impl<'a, R: rt::Clock> AnswerCounter<'a, R> {
             moment,
             setups: Cell::new(0),
             is_unavailable: Cell::new(false),
+            claim: Cell::new(None),
         }
     }
 
@@ -106,6 +110,16 @@ impl<'a, R: rt::Clock> AnswerCounter<'a, R> {
 }
 
 impl<R: Wait + rt::Clock> AnswerCounter<'_, R> {
+    // Notes which user the session is of whose end will be told.
+    fn note_owner(&self, viewing: &Viewing) {
+        let Service { rt, shared, .. } = self.service;
+        if let Some(claim) = self.claim.take()
+            && shared.audience.viewing(rt, viewing.session).is_some()
+        {
+            shared.owners.note(rt, viewing.id, claim);
+        }
+    }
+
     // Notes which session was begun or has ended.
     fn note_session(&self, method: Method, told: &Told<'_>) {
         let Service { rt, shared, .. } = self.service;
@@ -114,6 +128,7 @@ impl<R: Wait + rt::Clock> AnswerCounter<'_, R> {
         }
         if let Some(viewing) = viewing_of(told, self.asker, self.service.now) {
             shared.audience.enter(rt, viewing);
+            self.note_owner(&viewing);
         }
         if let Some(life) = told.ended {
             shared.end_place(rt, life.session);

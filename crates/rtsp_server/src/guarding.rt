@@ -10,6 +10,7 @@ ghost use Rattle.rtsp_guard.specs.Understanding.{LeavesTaken, LeavesFaulted};
 
 use crate::answering::{Came, Front, settle};
 use crate::figures::AnswerCounter;
+use crate::owners::{Claim, Naming};
 use crate::service::Service;
 use crate::visiting::{Part, Read, visit_by};
 use rtsp_book::Receipt;
@@ -18,15 +19,15 @@ use rtsp_credentials::{Credentials, Gate, Protection, Refusal, Users};
 use rtsp_engine::{
     Asker, Binder, Clock, Connection, PieceAnswerer, Plays, Shares, Words, WordsFault,
 };
-use rtsp_grammar::{MessageFault, Request};
-use rtsp_guard::{Porter, push_lent};
+use rtsp_grammar::{MessageFault, Method, Request};
+use rtsp_guard::{NamedBy, Porter, push_lent};
 use rtsp_lock::BookHandle;
 use rtsp_log::{CredentialsCause, Event, RefusedCredentials, UserName};
 use rtsp_pacing::NotedPlays;
 use rtsp_sockets::{PieceClock, PortBinder, RandomWords};
 use rtsp_state::Room;
 use rtsp_threads::{LaneShares, PIECE};
-use std::alloc::Global;
+use std::alloc::{AllocError, Global};
 use std::net::{Ipv4Addr, Net};
 use std::rt;
 use std::sync::Wait;
@@ -44,7 +45,7 @@ pub(crate) fn open_gate<R>(
     service: &Service<'_, R>,
     words: &mut RandomWords,
 ) -> Result<Option<Gate>, WordsFault> {
-    if service.shared.users.is_none() {
+    if service.users.is_none() {
         return Ok(None);
     }
     let number = words.id()?;
@@ -89,6 +90,34 @@ impl<R: Wait + rt::Clock> Porter for AnswerCounter<'_, R> {
             };
             shared.log.event(rt, Event::CredentialsRefused(refused));
         }
+    }
+
+    fn of_another(&self, request: &Request) -> Result<Option<NamedBy>, AllocError> {
+        let Service {
+            rt,
+            alloc,
+            shared,
+            ..
+        } = self.service;
+        self.claim.set(None);
+        let naming = Naming::of(self.asker.conn, &request.headers);
+        let sets_up = matches!(request.method, Method::Setup);
+        if naming.is_none() && !sets_up {
+            return Ok(None);
+        }
+        let Ok(credentials) = Credentials::among(&request.headers) else {
+            return Ok(None);
+        };
+        let user = credentials.username;
+        if let Some(naming) = naming
+            && shared.owners.is_of_another(rt, naming, user)
+        {
+            return Ok(Some(naming.header()));
+        }
+        if sets_up {
+            self.claim.set(Some(Claim::new(alloc, user, naming)?));
+        }
+        Ok(None)
     }
 }
 

@@ -8,7 +8,8 @@
 //! connects. While the journal has no room `foresight` tells what may be read, and `putting_aside`
 //! has the others wait. `answering` is what is done with its input over its handle of the book,
 //! `writing` and `hearing` what is done with its output and its RTCP; `unread` is what it holds of a
-//! message that isn't whole. `guarding` is its gate, where only those of `users` are let through. Of
+//! message that isn't whole. `guarding` is its gate, where only those of `users` are let through, and `owners` which of them each
+//! session is of; `growing_users` takes a changed file of them up, which `watched_file` sees. Of
 //! a lane, `service` and `tools` are what it answers with, `lane_lines` what it holds of the log, and
 //! `recorded` whether it has to look at the journal's room. `sweeper` and `stopping` are the threads
 //! that end sessions and the server, and `figures` is what is counted and shown. `readers` and
@@ -20,6 +21,7 @@
 
 mod all_lanes;
 mod answering;
+mod attending;
 mod balancers;
 mod channels;
 mod client;
@@ -31,6 +33,7 @@ mod fault;
 mod figures;
 mod foresight;
 mod further;
+mod growing_users;
 mod guarding;
 mod hearing;
 mod lane_lines;
@@ -38,6 +41,7 @@ mod letting_in;
 mod naming;
 mod opening;
 mod operating;
+mod owners;
 mod putting_aside;
 mod readers;
 mod recorded;
@@ -52,7 +56,9 @@ mod threads;
 mod tools;
 mod unread;
 mod users;
+mod users_reason;
 mod visiting;
+mod watched_file;
 mod writing;
 mod writing_journal;
 
@@ -63,3 +69,4 @@ pub use rtsp_lock::BookHandle;
 pub use rtsp_threads::{Lane, LaneTurn, PoolEnd, run_pool, whole_of};
 pub use server::{Announce, Server, ServerEnd};
 pub use socket_lane::SocketLane;
+pub use users_reason::users_reason;

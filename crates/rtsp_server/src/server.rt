@@ -5,6 +5,7 @@ ghost use Rattle.std.specs.FinMap.{empty};
 ghost use Rattle.rtsp_record.specs.Books.{book_of};
 
 use crate::fault::ServerFault;
+use crate::growing_users::UsersGrowth;
 use crate::opening::{Handles, Listening, Opened, Sending};
 use crate::threads::{Beside, Parts, Served, Start};
 use crate::writing_journal::folder_of;
@@ -128,6 +129,7 @@ impl Server {
             last,
         } = handles;
         let folder = folder_of(alloc, &operation)?;
+        let users = UsersGrowth::open(rt, alloc, &operation)?;
         Ok(Server {
             alloc,
             parts: Parts {
@@ -143,6 +145,7 @@ impl Server {
                 others,
                 lanes,
                 pacers,
+                users,
                 is_short: false,
             },
             shown,

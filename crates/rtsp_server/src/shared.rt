@@ -6,11 +6,12 @@ use crate::draining::Draining;
 use crate::end_lines::EndLines;
 use crate::end_note::EndNote;
 use crate::opening::Opening;
+use crate::owners::Owners;
 use crate::stopping::StopTimes;
 use crate::unread::HELD_IN_ALL;
+use crate::users::CurrentUsers;
 use mio::net::TcpListener;
 use rtsp_content::{Operation, Server, Table};
-use rtsp_credentials::Users;
 use rtsp_lock::BookHandle;
 use rtsp_log::{BATCH_LINES, Event, HeaderCause, Log, moment};
 use rtsp_metrics::{Audience, Counters};
@@ -54,7 +55,9 @@ pub(crate) struct Shared {
     /// Those whose connections begin with a header.
     pub(crate) balancers: Balancers,
     /// Who is let through, where that isn't everybody.
-    pub(crate) users: Option<Users>,
+    pub(crate) users: Option<CurrentUsers>,
+    /// Which of them each session is of.
+    pub(crate) owners: Owners,
     /// What addresses have of the sessions, where each has a share of them.
     pub(crate) session_shares: Option<Mutex<ShareTable>>,
     pub(crate) outlets: Outlets,
@@ -96,6 +99,7 @@ impl Drop for Shared {
             gate: _gate,
             balancers: _balancers,
             users: _users,
+            owners: _owners,
             session_shares: _session_shares,
             outlets: _outlets,
             lent: _lent,
@@ -156,7 +160,7 @@ impl Shared {
         of: Opening<'_>,
         listener: TcpListener,
         connections: Option<u64>,
-        users: Option<Users>,
+        users: Option<CurrentUsers>,
     ) -> io::Result<Shared> {
         let numbers = of.table.server();
         let begun = Instant::now(rt)?;
@@ -175,6 +179,7 @@ impl Shared {
             gate,
             balancers,
             users,
+            owners: Owners::new(alloc),
             session_shares,
             outlets: Outlets::new(alloc),
             lent,

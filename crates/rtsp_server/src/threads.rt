@@ -2,6 +2,7 @@
 
 use crate::fault::ServerFault;
 use crate::figures::Figures;
+use crate::growing_users::UsersGrowth;
 use crate::server::Announce;
 use crate::shared::Shared;
 use crate::socket_lane::SocketLane;
@@ -61,6 +62,8 @@ pub(crate) struct Start {
     pub(crate) others: Vec<BookHandle>,
     pub(crate) lanes: Vec<SocketLane>,
     pub(crate) pacers: Vec<OnePacer>,
+    // What takes a changed file of users up, where there is one.
+    pub(crate) users: Option<UsersGrowth>,
     // Whether a thread that reads ahead couldn't be made.
     pub(crate) is_short: bool,
 }
@@ -73,6 +76,7 @@ impl Drop for Start {
             others: _others,
             lanes: _lanes,
             pacers: _pacers,
+            users: _users,
             is_short: _,
         } = self;
     }
@@ -390,6 +394,7 @@ impl Start {
             mut others,
             lanes,
             pacers,
+            users,
             is_short,
         } = self;
         let Some(sweeper) = others.pop() else {
@@ -412,7 +417,7 @@ impl Start {
                 return Err(ServerFault::NoThread);
             };
             let told = parts.announce(rt, announcer, address);
-            parts.attend_scribe(rt);
+            parts.attend(rt, users);
             let ended = pool.join(rt);
             told?;
             ended

@@ -12,8 +12,8 @@ use rtsp_credentials::{Gate, Protection, Refusal, Users, read_users};
 use rtsp_engine::{Asker, Connection};
 use rtsp_grammar::Request;
 use rtsp_guard::{
-    Porter, law_changes_nothing, law_pieces_change_nothing, law_same_verdict, law_visited_drawn,
-    push_lent,
+    NamedBy, Porter, law_changes_nothing, law_pieces_change_nothing, law_same_verdict,
+    law_strangers_change_nothing, law_visited_drawn, push_lent,
 };
 use rtsp_lock::{AnyNumbers, BookLock, BookSeat, open};
 use rtsp_record::Whole;
@@ -37,7 +37,10 @@ ann:rtspd:e8ffd2fd44412d64d47ab7cba87e1d3a73c15622f8fc33a663dd810f22926cba
 
 const NUMBER: u128 = 0x18bc_c416_2c1c_70e6_eb79_bda2_7914_4930;
 
-struct Nobody;
+/// Nobody is told of anything; all sessions are of another user, where requests name them so.
+struct Nobody {
+    another: Option<NamedBy>,
+}
 
 impl Witness for Nobody {
     fn asked(&self, _method: &[u8]) {}
@@ -49,6 +52,10 @@ impl Witness for Nobody {
 
 impl Porter for Nobody {
     fn refused(&self, _refusal: Refusal, _request: &Request) {}
+
+    fn of_another(&self, _request: &Request) -> Result<Option<NamedBy>, AllocError> {
+        Ok(self.another)
+    }
 }
 
 // What a piece of a connection's input is answered.
@@ -59,6 +66,7 @@ fn answered<R: AllocGlobal + Wait>(
     seat: &mut BookSeat,
     lock: &BookLock,
     table: &Table,
+    another: Option<NamedBy>,
     text: &[u8],
 ) -> Option<Room>
     requires { IsSeatOf seat.old lock.now }
@@ -95,7 +103,7 @@ fn answered<R: AllocGlobal + Wait>(
         &mut NoShares,
         table,
         ASKER,
-        &Nobody,
+        &Nobody { another },
         &mut input,
         text,
         &mut room,
@@ -107,6 +115,7 @@ fn answered<R: AllocGlobal + Wait>(
 // Whether requests are answered so, by a server whose journal then has so many entries.
 fn is_answered<R: AllocGlobal + Wait>(
     rt: &R,
+    another: Option<NamedBy>,
     requests: &str,
     responses: &str,
     entries: usize,
@@ -132,6 +141,7 @@ fn is_answered<R: AllocGlobal + Wait>(
         &mut seat,
         &lock,
         &table,
+        another,
         text.as_bytes(),
     )?;
     let kept = seat.finish(rt, lock);
@@ -246,7 +256,7 @@ fn is_refused<R: AllocGlobal + Wait>(rt: &R, headers: &str, refused: Refused) ->
         Transport: RTP/AVP/TCP;interleaved=0-1\n{headers}{end}\n"
     );
     let answer = answer_to(alloc, refused).ok()?;
-    is_answered(rt, request.ok()?.as_str(), answer.as_str(), 0)
+    is_answered(rt, None, request.ok()?.as_str(), answer.as_str(), 0)
 }
 
 #[test]
@@ -261,7 +271,7 @@ fn each_wrong_header_is_refused_and_leaves_no_entry(rt: HostRuntime) {
 
 #[test]
 fn what_is_refused_leaves_no_entry(rt: HostRuntime) {
-    assert!(rt; is_answered(&rt, REFUSED, REFUSALS, 0) == Some(true));
+    assert!(rt; is_answered(&rt, None, REFUSED, REFUSALS, 0) == Some(true));
 }
 
 // A session of which each request but the first is also sent without credentials, with those of another
@@ -315,14 +325,32 @@ CSeq: 4
 WWW-Authenticate: Digest realm=\"rtspd\", qop=\"auth\", algorithm=SHA-256, nonce=\"18bcc4162c1c70e6eb79bda279144930\"
 WWW-Authenticate: Digest realm=\"rtspd\", qop=\"auth\", algorithm=MD5, nonce=\"18bcc4162c1c70e6eb79bda279144930\"
 
-RTSP/2.0 200 OK
-CSeq: 5
-
 ";
+
+// Whether the session is so to whoever ends it last, and the journal then has so many entries.
+fn is_ended<R: AllocGlobal + Wait>(
+    rt: &R,
+    another: Option<NamedBy>,
+    status: &str,
+    entries: usize,
+) -> Option<bool> {
+    let alloc = rt.alloc();
+    let answers = format!(in alloc; "{ANSWERS}RTSP/2.0 {status}\nCSeq: 5\n\n").ok()?;
+    is_answered(rt, another, SESSION, answers.as_str(), entries)
+}
 
 #[test]
 fn a_user_s_session_is_ended_by_a_user(rt: HostRuntime) {
-    assert!(rt; is_answered(&rt, SESSION, ANSWERS, 8) == Some(true));
+    assert!(rt; is_ended(&rt, None, "200 OK", 8) == Some(true));
+}
+
+// He names it by its id.
+#[test]
+fn to_another_user_a_session_is_not_there(rt: HostRuntime) {
+    let by_id = Some(NamedBy::Session);
+    assert!(rt; is_ended(&rt, by_id, "454 Session Not Found", 5) == Some(true));
+    let by_number = Some(NamedBy::PipelinedRequests);
+    assert!(rt; is_ended(&rt, by_number, "200 OK", 8) == Some(true));
 }
 
 #[test]
@@ -330,5 +358,14 @@ fn the_laws_are_called() {
     law_changes_nothing::<HostRuntime, PortSet, Drawing, Ticking, Noting, NoShares, AnyNumbers>();
     law_pieces_change_nothing::<PortSet, Drawing, Ticking, Noting, NoShares>();
     law_same_verdict();
+    law_strangers_change_nothing::<
+        HostRuntime,
+        PortSet,
+        Drawing,
+        Ticking,
+        Noting,
+        NoShares,
+        AnyNumbers,
+    >();
     law_visited_drawn::<PortSet, Drawing, Ticking, Noting, NoShares>();
 }
