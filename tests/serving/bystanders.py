@@ -7,9 +7,10 @@ import os
 import threading
 import time
 from multiprocessing.connection import Connection as Channel
-from typing import Dict, List, NamedTuple, Tuple
+from typing import Dict, List, NamedTuple, Optional, Tuple
 
 from rtsp_client.connection import Refused
+from rtsp_client.credentials import Credentials
 from rtsp_client.messages import BadMessage, Message
 from rtsp_client.player import RTP_INFO, Player, Stream, Track, Way
 
@@ -42,10 +43,11 @@ class Heard(NamedTuple):
 class Listener:
     """A player who opens one session after another until its time is over."""
 
-    def __init__(self, uri: str, number: int, until: float) -> None:
+    def __init__(self, uri: str, number: int, until: float, credentials: Optional[Credentials]) -> None:
         self.uri = uri
         self.number = number
         self.until = until
+        self.credentials = credentials
         self.answered = 0
         self.fault = ""
         self.arrivals: List[Arrival] = []
@@ -61,7 +63,7 @@ class Listener:
 
     def live(self) -> None:
         """One session, over a connection of its own."""
-        player = Player(self.uri, Way.UDP)
+        player = Player(self.uri, Way.UDP, credentials=self.credentials)
         # Of each stream the places of its packets at which a play begins.
         begins: Dict[Stream, List[int]] = {}
         try:
@@ -109,9 +111,9 @@ def arrivals_of(stream: Stream, places: List[int]) -> List[Arrival]:
     return arrivals
 
 
-def listen(uri: str, numbers: range, until: float, told: Channel) -> None:
+def listen(uri: str, numbers: range, until: float, credentials: Optional[Credentials], told: Channel) -> None:
     """The players of one process."""
-    listeners = [Listener(uri, number, until) for number in numbers]
+    listeners = [Listener(uri, number, until, credentials) for number in numbers]
     threads = [threading.Thread(target=it.run) for it in listeners]
     for thread in threads:
         thread.start()
@@ -122,12 +124,13 @@ def listen(uri: str, numbers: range, until: float, told: Channel) -> None:
 
 
 class Bystanders:
-    """So many players, who open sessions for so many seconds from when the block is entered."""
+    """So many players, who open sessions for so many seconds from when the block is entered, as a user where one is given."""
 
-    def __init__(self, uri: str, count: int, seconds: float) -> None:
+    def __init__(self, uri: str, count: int, seconds: float, credentials: Optional[Credentials] = None) -> None:
         self.uri = uri
         self.count = count
         self.seconds = seconds
+        self.credentials = credentials
         self.running: List[Tuple[multiprocessing.Process, Channel]] = []
 
     def __enter__(self) -> "Bystanders":
@@ -135,7 +138,8 @@ class Bystanders:
         for first in range(0, self.count, IN_A_PROCESS):
             here, there = multiprocessing.Pipe()
             numbers = range(first, min(first + IN_A_PROCESS, self.count))
-            process = multiprocessing.Process(target=listen, args=(self.uri, numbers, until, there), daemon=True)
+            words = self.uri, numbers, until, self.credentials, there
+            process = multiprocessing.Process(target=listen, args=words, daemon=True)
             process.start()
             self.running.append((process, here))
         return self
