@@ -25,6 +25,10 @@ SESSION = ("play", "renew", "seek", "renew", "pause", "set up", "play", "renew")
 SOUGHT = 20.0
 
 
+# A name and a password.
+User = Tuple[str, str]
+
+
 class Arrival(NamedTuple):
     """When a packet came, in seconds, and how many milliseconds it was late beside the earliest of its play."""
 
@@ -43,11 +47,11 @@ class Heard(NamedTuple):
 class Listener:
     """A player who opens one session after another until its time is over."""
 
-    def __init__(self, uri: str, number: int, until: float, credentials: Optional[Credentials]) -> None:
+    def __init__(self, uri: str, number: int, until: float, user: Optional[User]) -> None:
         self.uri = uri
         self.number = number
         self.until = until
-        self.credentials = credentials
+        self.user = user
         self.answered = 0
         self.fault = ""
         self.arrivals: List[Arrival] = []
@@ -63,7 +67,7 @@ class Listener:
 
     def live(self) -> None:
         """One session, over a connection of its own."""
-        player = Player(self.uri, Way.UDP, credentials=self.credentials)
+        player = Player(self.uri, Way.UDP, credentials=self.user and Credentials(*self.user))
         # Of each stream the places of its packets at which a play begins.
         begins: Dict[Stream, List[int]] = {}
         try:
@@ -111,9 +115,9 @@ def arrivals_of(stream: Stream, places: List[int]) -> List[Arrival]:
     return arrivals
 
 
-def listen(uri: str, numbers: range, until: float, credentials: Optional[Credentials], told: Channel) -> None:
+def listen(uri: str, numbers: range, until: float, user: Optional[User], told: Channel) -> None:
     """The players of one process."""
-    listeners = [Listener(uri, number, until, credentials) for number in numbers]
+    listeners = [Listener(uri, number, until, user) for number in numbers]
     threads = [threading.Thread(target=it.run) for it in listeners]
     for thread in threads:
         thread.start()
@@ -126,11 +130,11 @@ def listen(uri: str, numbers: range, until: float, credentials: Optional[Credent
 class Bystanders:
     """So many players, who open sessions for so many seconds from when the block is entered, as a user where one is given."""
 
-    def __init__(self, uri: str, count: int, seconds: float, credentials: Optional[Credentials] = None) -> None:
+    def __init__(self, uri: str, count: int, seconds: float, user: Optional[User] = None) -> None:
         self.uri = uri
         self.count = count
         self.seconds = seconds
-        self.credentials = credentials
+        self.user = user
         self.running: List[Tuple[multiprocessing.Process, Channel]] = []
 
     def __enter__(self) -> "Bystanders":
@@ -138,7 +142,7 @@ class Bystanders:
         for first in range(0, self.count, IN_A_PROCESS):
             here, there = multiprocessing.Pipe()
             numbers = range(first, min(first + IN_A_PROCESS, self.count))
-            words = self.uri, numbers, until, self.credentials, there
+            words = self.uri, numbers, until, self.user, there
             process = multiprocessing.Process(target=listen, args=words, daemon=True)
             process.start()
             self.running.append((process, here))

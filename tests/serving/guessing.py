@@ -4,7 +4,6 @@ import socket
 import time
 
 from checks import Checks
-from rtsp_client.credentials import Credentials
 from rtsp_client.messages import written
 
 from .bystanders import Bystanders, judge
@@ -48,7 +47,7 @@ def plays_beside_guesses_without_end(checks: Checks) -> None:
     port, address = shown_at()
     room = {"pairs": 4 * PLAYERS, "uplink": 4 * PLAYERS * MINUTE.whole_rate}
     with Witness() as witness, guarded(checks, presentation=MINUTE, status=address, **room) as server:
-        with Bystanders(server.uri, PLAYERS, BESIDE, Credentials(NAME, PASSWORD)) as players:
+        with Bystanders(server.uri, PLAYERS, BESIDE, (NAME, PASSWORD)) as players:
             with flooded(server, GUESSERS, ELSEWHERE, guesses):
                 before, began, held = figures(port)[REFUSED], time.monotonic(), server.resident_bytes()
                 time.sleep(BESIDE - 3)
