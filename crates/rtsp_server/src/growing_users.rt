@@ -1,7 +1,7 @@
 //! Has a changed file of users taken up while the server runs.
 
 use crate::shared::Shared;
-use crate::users_reason::users_reason;
+use crate::users_reasons::users_reason;
 use crate::watched_file::WatchedFile;
 use rtsp_content::Operation;
 use rtsp_credentials::{Users, UsersFault, read_users};
