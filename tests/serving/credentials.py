@@ -286,6 +286,137 @@ def a_number_of_pipelined_requests_is_of_its_user(checks: Checks) -> None:
         talk.close()
 
 
+ALL_METHODS = ("DESCRIBE", "SETUP", "PLAY", "PAUSE", "GET_PARAMETER", "SET_PARAMETER", "TEARDOWN", "OPTIONS", "RECORD")
+# What a URI may have behind the host for the presentation of this name and its tracks, and how it may begin.
+PATHS = ("/{}", "/{}/", "/{}/a", "/{}/b", "/{}?x=1", "/{}/a?x", "/{}#x", "/./{}", "/x/../{}/a", "/{}/./a", "/{}/x/..", "/{}/%2E/a")
+FRONTS = ("rtsp://{}:{}", "RTSP://{}:{}", "rtsps://{}:{}", "rtsp://bob@{}:{}", "rtsp://LOCALHOST:{1}", "rtsp://elsewhere")
+# What names nothing, whoever asks.
+NO_PATHS = ("/%74one", "/Tone", "//{}", "/{}//", "/{}/c", "/{}/a/", "/{}x")
+
+
+@contextlib.contextmanager
+def films(checks: Checks, allow: str, **settings: Any) -> Iterator[Telling]:
+    """A server of two users with a presentation that has this list, one that has none, and one that is nobody's."""
+    server = Telling(checks, users='"users"', presentation=SHORT, **settings)
+    (server.path / "users").write_text("".join(lines_for(it, PASSWORD) for it in (NAME, OTHER)))
+    name = f'name = "{SHORT.name}"\n'
+    alone = server.text[server.text.index("[[presentation]]") :]
+    server.text = server.text.replace(name, f"{name}allow = {allow}\n")
+    server.text += alone.replace(name, 'name = "open"\n') + alone.replace(name, 'name = "shut"\nallow = []\n')
+    with server:
+        yield server
+
+
+def as_user(server: Server, name: str) -> Connection:
+    """A connection on which this user has been let through."""
+    talk = Connection(HERE, server.port, credentials=Credentials(name, PASSWORD))
+    talk.ask("DESCRIBE", beside(server.uri, "open"))
+    return talk
+
+
+def beside(uri: str, name: str) -> str:
+    """The URI of another presentation."""
+    return uri.replace(f"/{SHORT.name}", f"/{name}")
+
+
+def octets_of(talk: Connection, method: str, uri: str, *headers: Tuple[str, str]) -> bytes:
+    """An answer that has no body, to the byte."""
+    extra = OVER_TCP if method == "SETUP" else []
+    talk.send(method, uri, [*headers, *extra])
+    answer = b""
+    while not answer.endswith(b"\r\n\r\n"):
+        piece = talk.socket.recv(65_536)
+        if not piece:
+            return answer + b" and the end"
+        answer += piece
+    return answer
+
+
+def spellings(server: Server, name: str, paths: Sequence[str] = PATHS) -> List[str]:
+    """URIs of a presentation of this name, and of its tracks."""
+    fronts = [it.format(HERE, server.port) for it in FRONTS]
+    return [front + path.format(name) for front in fronts for path in paths]
+
+
+@serving_test(limit=90)
+def to_others_a_presentation_is_not_there(checks: Checks) -> None:
+    """Whom it doesn't name is answered to the byte as of a name that isn't served, whatever the method and the spelling."""
+    port, shown = shown_at()
+    with films(checks, '["ann"]', status=shown) as server:
+        one, other = as_user(server, OTHER), as_user(server, OTHER)
+        before = figures(port)["rtspd_journal_entries,state=written"]
+        for uri, absent in zip(spellings(server, SHORT.name), spellings(server, "none")):
+            for method in ALL_METHODS:
+                came, wanted = octets_of(one, method, uri), octets_of(other, method, absent)
+                checks.same(f"{method} {uri}", wanted, came)
+                is_absent = method not in ("OPTIONS", "RECORD")
+                checks.same(f"{method} {uri}: 404", is_absent, came.startswith(b"RTSP/2.0 404 Not Found\r\n"))
+        for headers in ([("Require", "x")], [("Pipelined-Requests", "1")], [("Session", "?")], [("Session", "0" * 32)], [("Range", "npt=x-")]):
+            for method in ALL_METHODS:
+                came, wanted = octets_of(one, method, server.uri, *headers), octets_of(other, method, beside(server.uri, "none"), *headers)
+                checks.same(f"{method} with {headers}", wanted, came)
+        checks.same("nothing is written", before, figures(port)["rtspd_journal_entries,state=written"])
+        own = as_user(server, NAME)
+        for uri in spellings(server, SHORT.name):
+            # A session is missed of what is there alone.
+            checks.same(f"its own user's PLAY of {uri}", 454, own.ask("PLAY", uri).status)
+        for uri in spellings(server, SHORT.name, NO_PATHS):
+            checks.same(f"its own user's PLAY of {uri}", 404, own.ask("PLAY", uri).status)
+        checks.same("its own user's DESCRIBE", 200, own.ask("DESCRIBE", server.uri).status)
+        for talk in (one, other, own):
+            checks.same("everybody's", 200, talk.ask("DESCRIBE", beside(server.uri, "open")).status)
+            checks.same("nobody's", 404, talk.ask("DESCRIBE", beside(server.uri, "shut")).status)
+            talk.close()
+
+
+@serving_test(limit=60)
+def nor_in_a_session(checks: Checks) -> None:
+    """A session of another presentation doesn't lead to it, nor does the session of a user whom it names; these live on."""
+    with films(checks, '["ann"]') as server:
+        one, other, own = as_user(server, OTHER), as_user(server, OTHER), as_user(server, NAME)
+        everybodys, absent = beside(server.uri, "open"), beside(server.uri, "none")
+        begun_by = [(own, server.uri), (one, everybodys), (other, everybodys)]
+        hers, his, his_other = (session_of(checks, talk, uri) for talk, uri in begun_by)
+        for method in ALL_METHODS:
+            for where, session, like in (("his", his, his_other), ("hers", hers, hers)):
+                came = octets_of(one, method, spelled(server.uri, method), ("Session", session))
+                wanted = octets_of(other, method, spelled(absent, method), ("Session", like))
+                checks.same(f"{method} in {where}", wanted.replace(like.encode(), session.encode()), came)
+        checks.same("it by everybody's URI", 454, one.ask("PLAY", everybodys, [("Session", hers)]).status)
+        for talk, uri, session in ((one, everybodys, his), (own, server.uri, hers)):
+            for method in ("PLAY", "PAUSE", "GET_PARAMETER", "TEARDOWN"):
+                checks.same(f"then {method} of {uri}", 200, talk.ask(method, uri, [("Session", session)]).status)
+        for talk in (one, other, own):
+            talk.close()
+
+
+def spelled(uri: str, method: str) -> str:
+    return f"{uri}/b" if method == "SETUP" else uri
+
+
+def session_of(checks: Checks, talk: Connection, uri: str) -> str:
+    answer = talk.ask("SETUP", f"{uri}/a", OVER_TCP)
+    checks.same(f"SETUP of {uri}", 200, answer.status)
+    return (answer.header("Session") or "").partition(";")[0]
+
+
+@serving_test(limit=60)
+def who_is_allowed_has_to_be_a_user(checks: Checks) -> None:
+    """Without a file of users the server doesn't start, and tells the key; names that the file hasn't are noted."""
+    server = Server(checks)
+    server.text = server.text.replace('name = "tone"\n', 'name = "tone"\nallow = ["ann"]\n')
+    line, why = line_of(server.text, "allow"), "is there without users in [server], so nobody could prove who it is for"
+    fault = f"server.toml:{line}: presentation[1].allow {why}"
+    checks.same("no users", Complaint(1, f"rtspd: bad configuration\nrtspd: {fault}\n", 1, fault), complaint_of(server))
+    with films(checks, '["eve", "ann"]') as server:
+        note = f"note: server.toml:{line_of(server.text, 'allow')}: tone: allow has \"eve\", who isn't in the file of users\n"
+        status, noted, _ = said(server.path, "check", "--config", "server.toml")
+        checks.same("a name that the file hasn't", (0, f"{note}the program takes it\n"), (status, noted.decode()))
+        talk = as_user(server, NAME)
+        checks.same("it is there for the other one", 200, talk.ask("DESCRIBE", server.uri).status)
+        talk.close()
+
+
 FAULTS = {
     "ann:rtspd\n": "line 1: it isn't NAME:REALM:DIGEST",
     "\n:rtspd:" + "0" * 32 + "\n": "line 2: its name is empty, or has a quote, a backslash or a control",

@@ -25,6 +25,9 @@ pub mod Table
 pub mod JournalFilesValue
 pub mod JournalFilesView
 pub mod JournalFiles
+pub mod AllowedValue
+pub mod AllowedView
+pub mod Allowed
 pub mod OperationValue
 pub mod OperationView
 pub mod Operation

@@ -269,7 +269,8 @@ pub fn table_at<'a>(table: &'a Table, key: &str) -> Result<&'a Table, TableFault
     }
 }
 
-fn item_count(items: &Array) -> usize
+/// How many items a list has.
+pub(crate) fn item_count(items: &Array) -> usize
     ensures { result ≡ item_count (array_view items.now) }
 {
     items.as_slice().len()

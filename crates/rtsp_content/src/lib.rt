@@ -3,6 +3,7 @@
 
 #![tactic(auto)]
 
+mod allowed;
 mod balancers;
 mod example;
 mod fault;
@@ -21,6 +22,7 @@ mod starts;
 mod table;
 mod track;
 
+pub use allowed::{Allowed, AllowedRow};
 pub use example::EXAMPLE;
 pub use fault::TableFault;
 pub use found::Found;

@@ -103,6 +103,7 @@ impl Explainer<'_> {
             place,
             items.get(..index).unwrap_or(&[]),
         )?;
+        self.allowed(server, table, place)?;
         self.unknown(table, &PRESENTATION, "track", place)?;
         let Some(tracks) = self.items(table, "track", MOST_TRACKS, place)? else {
             return Ok(0);

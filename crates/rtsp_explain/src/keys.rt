@@ -158,7 +158,7 @@ pub(crate) const SERVER: [Key; 22] = [
 ];
 
 /// `[[presentation]]`.
-pub(crate) const PRESENTATION: [Key; 4] = [
+pub(crate) const PRESENTATION: [Key; 5] = [
     Key {
         name: "name",
         rule: Rule::Text(Class::Name, 64),
@@ -182,6 +182,12 @@ pub(crate) const PRESENTATION: [Key; 4] = [
         rule: Rule::Starts(20_000),
         presence: Presence::Optional,
         what: "units at which a play may begin",
+    },
+    Key {
+        name: "allow",
+        rule: Rule::Names(1_000),
+        presence: Presence::Optional,
+        what: "of the users for whom alone it is there",
     },
 ];
 

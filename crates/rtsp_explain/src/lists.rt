@@ -58,6 +58,24 @@ pub(crate) fn addresses_fault(
     Ok(None)
 }
 
+/// Why a list isn't one of at most so many texts, if it isn't.
+pub(crate) fn names_fault(
+    alloc: Global,
+    items: &[Value],
+    most: usize,
+    wanted: &str,
+) -> Result<Option<String>, AllocError> {
+    if most < items.len() {
+        return count_fault(alloc, items, most, "names", wanted);
+    }
+    for (index, item) in items.iter().enumerate() {
+        if item.as_str().is_none() {
+            return has_at(alloc, kind_of(item), index, wanted);
+        }
+    }
+    Ok(None)
+}
+
 /// Why a list isn't one of 1 to so many ascending numbers, the first 0, if it isn't.
 pub(crate) fn starts_fault(
     alloc: Global,

@@ -1,6 +1,6 @@
 //! What a value has to be.
 
-use crate::lists::{addresses_fault, starts_fault};
+use crate::lists::{addresses_fault, names_fault, starts_fault};
 use crate::numbers::grouped;
 use std::alloc::{AllocError, Global};
 use toml::Value;
@@ -22,6 +22,8 @@ pub(crate) enum Rule {
     Any,
     /// A list of 1 to so many IPv4 addresses.
     Addresses(usize),
+    /// A list of at most so many texts.
+    Names(usize),
     /// A list of 1 to so many ascending numbers, the first 0.
     Starts(usize),
 }
@@ -79,6 +81,10 @@ impl Rule {
             Rule::Flag => format!(in alloc; "true or false: {what}"),
             Rule::OneOf(..) | Rule::Text(..) | Rule::Any => String::from_str(alloc, what),
             Rule::Addresses(most) => format!(in alloc; "1 to {most} IPv4 addresses ({what})"),
+            Rule::Names(most) => {
+                let most = grouped(alloc, i64::try_from(most).unwrap_or(i64::MAX))?;
+                format!(in alloc; "0 to {most} names ({what})")
+            }
             Rule::Starts(most) => {
                 let most = grouped(alloc, i64::try_from(most).unwrap_or(i64::MAX))?;
                 format!(in alloc; "1 to {most} ascending numbers, the first 0 ({what})")
@@ -127,6 +133,12 @@ impl Rule {
                     return of_kind(alloc, value, "", wanted.as_str());
                 };
                 addresses_fault(alloc, items.as_slice(), most, wanted.as_str())
+            }
+            Rule::Names(most) => {
+                let Some(items) = value.as_array() else {
+                    return of_kind(alloc, value, "", wanted.as_str());
+                };
+                names_fault(alloc, items.as_slice(), most, wanted.as_str())
             }
             Rule::Starts(most) => {
                 let Some(items) = value.as_array() else {

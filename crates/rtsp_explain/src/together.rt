@@ -67,6 +67,28 @@ impl Explainer<'_> {
         }
     }
 
+    /// Users are named only where there is a file of them.
+    pub(crate) fn allowed(
+        &mut self,
+        server: Option<&Table>,
+        presentation: &Table,
+        place: Place,
+    ) -> Result<(), AllocError> {
+        let (Some(server), Some(value)) = (server, presentation.get("allow")) else {
+            return Ok(());
+        };
+        if server.get("users").is_some() {
+            return Ok(());
+        }
+        for key in PRESENTATION.iter().filter(|key| key.name == "allow") {
+            if key.rule.fault(self.alloc, value, key.what)?.is_none() {
+                let why = "is there without users in [server], so nobody could prove who it is for";
+                self.fault(place, "allow", why)?;
+            }
+        }
+        Ok(())
+    }
+
     // All pairs have port numbers.
     fn pairs(&mut self, server: &Table) -> Result<(), AllocError> {
         let (Some(pairs), Some(first)) = (

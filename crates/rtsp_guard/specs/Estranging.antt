@@ -2,6 +2,7 @@
 use Rattle.std.specs.Prelude.{◌≡◌, ◌⊎◌, ℕ, Bool, true, ◌==◌, ◌&&◌, List, length, map, codes, if◌then◌else◌}
 use Rattle.rtsp_grammar.specs.Header.{HeaderText, is_named, values_of}
 use Rattle.rtsp_grammar.specs.declared.message.Request.{Request}
+use Rattle.rtsp_guard.specs.Hiding.{hidden}
 use Rattle.rtsp_guard.specs.declared.porter.NamedBy.{NamedBy}
 use Rattle.rtsp_guard.specs.declared.porter.NamedBy.TheVariants.{Session, PipelinedRequests}
 
@@ -28,6 +29,6 @@ estranged by request = record request { headers = map (estranged_header by) requ
 abbrev pub IsEstranged : Request → Request → Type 0
 IsEstranged request seen = (by : NamedBy) × (names_by by request.headers ≡ true) × (seen ≡ estranged by request)
 
--- a request that is let through is taken as it is, or as one of no session
+-- a request that is let through is taken as it is, or as one of no session, or as one about nothing that is served
 abbrev pub IsTakenAs : Request → Request → Type 0
-IsTakenAs request seen = (seen ≡ request) ⊎ IsEstranged request seen
+IsTakenAs request seen = (seen ≡ request) ⊎ IsEstranged request seen ⊎ (seen ≡ hidden request)

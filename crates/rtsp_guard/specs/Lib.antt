@@ -1,3 +1,4 @@
+pub mod Hiding
 pub mod Estranging
 pub mod Refusing
 pub mod Guarding

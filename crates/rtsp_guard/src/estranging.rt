@@ -54,13 +54,15 @@ fn estranged_headers(alloc: Global, by: NamedBy, headers: &Headers) -> Result<He
     Ok(built.into_headers())
 }
 
-fn copy_of(alloc: Global, text: &Text) -> Result<Text, AllocError>
+/// A copy of a text.
+pub(crate) fn copy_of(alloc: Global, text: &Text) -> Result<Text, AllocError>
     ensures { IfOk result (λ copy. copy ≡ text.now) }
 {
     Text::from_slice(alloc, text.as_bytes())
 }
 
-fn copy_of_method(alloc: Global, method: &Method) -> Result<Method, AllocError>
+/// A copy of a method.
+pub(crate) fn copy_of_method(alloc: Global, method: &Method) -> Result<Method, AllocError>
     ensures { IfOk result (λ copy. copy ≡ method.now) }
 {
     Ok(match method {
@@ -78,7 +80,8 @@ fn copy_of_method(alloc: Global, method: &Method) -> Result<Method, AllocError>
     })
 }
 
-fn copy_of_version(alloc: Global, version: &Version) -> Result<Version, AllocError>
+/// A copy of a version.
+pub(crate) fn copy_of_version(alloc: Global, version: &Version) -> Result<Version, AllocError>
     ensures { IfOk result (λ copy. copy ≡ version.now) }
 {
     Ok(match version {

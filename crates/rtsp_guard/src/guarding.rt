@@ -3,11 +3,12 @@
 ghost use Rattle.std.specs.Prelude.{◌≡◌, IfOk, IfSome, OnOk, OnErr};
 ghost use Rattle.rtsp_grammar.specs.declared.message.Item.{Item};
 ghost use Rattle.rtsp_engine.specs.Served.{Puts};
-ghost use Rattle.rtsp_guard.specs.Estranging.{IsEstranged};
+ghost use Rattle.rtsp_guard.specs.Estranging.{IsEstranged, IsTakenAs};
 ghost use Rattle.rtsp_guard.specs.Guarding.{AnswersBehind, GivesUpBehind};
 
 use crate::estranging::{estranged, names_by};
-use crate::porter::Porter;
+use crate::hiding::hidden;
+use crate::porter::{Foreign, NamedBy, Porter};
 use crate::refusing::refuse;
 use rtsp_credentials::{Gate, Users};
 use rtsp_engine::Answerer;
@@ -27,17 +28,33 @@ pub(crate) struct Guarded<'a, 'u, 'p, A, P> {
     pub(crate) answerer: &'a mut A,
 }
 
-// The request as of no session, where it names a session of another user.
-fn estranged_by<P: Porter>(
+// The request as of no session, where it names one by this header.
+fn estranged_by(
     alloc: Global,
-    porter: &P,
+    by: NamedBy,
     request: &Request,
 ) -> Result<Option<Request>, AllocError>
     ensures { IfOk result (λ found. IfSome found (IsEstranged request.now)) }
 {
+    if names_by(by, &request.headers) {
+        Ok(Some(estranged(alloc, by, request)?))
+    } else {
+        Ok(None)
+    }
+}
+
+// The request as it is taken, where it names what isn't there for its user.
+fn taken_as<P: Porter>(
+    alloc: Global,
+    porter: &P,
+    request: &Request,
+) -> Result<Option<Request>, AllocError>
+    ensures { IfOk result (λ found. IfSome found (IsTakenAs request.now)) }
+{
     match porter.of_another(request)? {
-        Some(by) if names_by(by, &request.headers) => { Ok(Some(estranged(alloc, by, request)?)) }
-        _ => Ok(None),
+        Some(Foreign::Session(by)) => estranged_by(alloc, by, request),
+        Some(Foreign::Presentation) => Ok(Some(hidden(alloc, request)?)),
+        None => Ok(None),
     }
 }
 
@@ -64,9 +81,9 @@ impl<A: Answerer, P: Porter> Answerer for Guarded<'_, '_, '_, A, P> {
         match item {
             Item::Request(request) => match self.gate.passed(self.users, request) {
                 Ok(next) => {
-                    let estranged = estranged_by(alloc, self.porter, request)?;
+                    let taken = taken_as(alloc, self.porter, request)?;
                     self.gate = next;
-                    match estranged {
+                    match taken {
                         Some(request) => answer_request(alloc, self.answerer, request, room),
                         None => self.answerer.answer(alloc, item, room),
                     }

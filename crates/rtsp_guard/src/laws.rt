@@ -1,6 +1,7 @@
 //! Laws over desks behind gates, each the contract of a function that does nothing.
 
 ghost use Rattle.rtsp_traits.specs.Devices.{devices};
+ghost use Rattle.rtsp_guard.specs.Hiding.{HidesAsAbsent};
 ghost use Rattle.rtsp_guard.specs.Quiet.{ChangesNothing, StrangersChangeNothing};
 ghost use Rattle.rtsp_guard.specs.QuietPieces.{PiecesChangeNothing};
 ghost use Rattle.rtsp_guard.specs.Repaired.{SameVerdict};
@@ -27,6 +28,12 @@ pub fn law_strangers_change_nothing<
     N: Numbers,
 >()
     ensures { StrangersChangeNothing R N (devices B.calls W.calls C.tells P.calls S.calls) }
+{}
+
+/// A request about a presentation that isn't there for its user is answered as the same request about a
+/// name that isn't served.
+pub fn law_hides_as_absent()
+    ensures { HidesAsAbsent }
 {}
 
 /// A request that was repaired has the verdict that it has as the player wrote it.

@@ -1,4 +1,4 @@
-//! Who is told of requests that aren't let through, and knows whose sessions are.
+//! Who is told of requests that aren't let through, and knows whose sessions and presentations are.
 
 use rtsp_credentials::Refusal;
 use rtsp_grammar::Request;
@@ -11,12 +11,21 @@ pub enum NamedBy {
     PipelinedRequests,
 }
 
+/// What a request names that isn't there for its user.
+#[derive(Clone, Copy, Debug, PartialEq, Eq)]
+pub enum Foreign {
+    /// A session of another user.
+    Session(NamedBy),
+    /// A presentation that is there for others alone.
+    Presentation,
+}
+
 /// Who is told of each request that isn't let through at a gate, before it is answered. What is told
 /// changes no byte of an answer.
 pub trait Porter {
     fn refused(&self, refusal: Refusal, request: &Request);
 
-    /// By which header a request that is let through names a session of another user, if it names one.
-    /// Who asks for a session isn't forgotten until the request is answered.
-    fn of_another(&self, request: &Request) -> Result<Option<NamedBy>, AllocError>;
+    /// What a request that is let through names that isn't there for its user, if it names such. Who asks
+    /// for a session isn't forgotten until the request is answered.
+    fn of_another(&self, request: &Request) -> Result<Option<Foreign>, AllocError>;
 }

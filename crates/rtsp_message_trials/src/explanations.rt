@@ -84,6 +84,10 @@ unit_ms = 20 | unit_ms = 20 & starts = [1] | x:11: FILM.starts has 1 at place 1;
 unit_ms = 20 | unit_ms = 20 & starts = [0, 5, 5] | x:11: FILM.starts has 5 at place 3; STARTS
 unit_ms = 20 | unit_ms = 20 & starts = [0, \"1\"] | x:11: FILM.starts has a text at place 2; STARTS
 unit_ms = 20 | unit_ms = 20 & starts = true | x:11: FILM.starts is true or false; STARTS
+unit_ms = 20 | unit_ms = 20 & allow = [\"ann\"] | x:11: FILM.allow ALONE
+unit_ms = 20 | unit_ms = 20 & allow = [] | x:11: FILM.allow ALONE
+unit_ms = 20 | unit_ms = 20 & allow = \"ann\" | x:11: FILM.allow is a text; NAMES
+unit_ms = 20 | unit_ms = 20 & allow = [\"ann\", 7] | x:11: FILM.allow has a number at place 2; NAMES
 octets = 160 | octets = 1401 | x:17: TRACK.octets is 1,401; SINGLE & RATE 576,400 ABOVE
 octets = 160 | octets = 120001 | x:17: TRACK.octets is 120,001; UNIT
 octets = 160 | packets = 2 & octets = 120001 | x:18: TRACK.octets is 120,001; UNIT
@@ -107,7 +111,7 @@ timeout = 60 | journal = 0 | x:6: server.journal is 0; ENTRIES
 ";
 
 // The longer texts.
-const WORDS: [(&str, &str); 20] = [
+const WORDS: [(&str, &str); 22] = [
     (
         "BALANCERS",
         "it has to be 1 to 16 IPv4 addresses (of balancers, whose connections begin with a header)",
@@ -115,6 +119,14 @@ const WORDS: [(&str, &str); 20] = [
     (
         "STARTS",
         "it has to be 1 to 20,000 ascending numbers, the first 0 (units at which a play may begin)",
+    ),
+    (
+        "NAMES",
+        "it has to be 0 to 1,000 names (of the users for whom alone it is there)",
+    ),
+    (
+        "ALONE",
+        "is there without users in [server], so nobody could prove who it is for",
     ),
     (
         "SINGLE",

@@ -4,6 +4,8 @@
 #![tactic(auto)]
 
 #[cfg(test)]
+mod allowed;
+#[cfg(test)]
 mod configurations;
 #[cfg(test)]
 mod credentials;

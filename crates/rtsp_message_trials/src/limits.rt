@@ -2,16 +2,24 @@
 //! is told of faults just where it is refused.
 
 use crate::rows::{Lines, cut, hold_lines};
-use rtsp_content::{EXAMPLE, Operation, Table, TableFault};
+use rtsp_content::{Allowed, EXAMPLE, Operation, Table, TableFault};
 use rtsp_explain::explain;
 use std::alloc::{AllocError, Global};
 
-// What comes of a configuration: of what is served, and else of what is kept and shown.
+// The first fault: of what is served, of what is kept and shown, or of who is allowed what.
+fn fault_of(alloc: Global, text: &[u8]) -> Option<TableFault> {
+    if let Err(fault) = Table::read(alloc, text) {
+        return Some(fault);
+    }
+    if let Err(fault) = Operation::read_at(alloc, text, "") {
+        return Some(fault);
+    }
+    Allowed::read(alloc, text).err()
+}
+
+// What comes of a configuration.
 fn fate(alloc: Global, text: &str) -> &'static str {
-    let fault = match Table::read(alloc, text.as_bytes()) {
-        Ok(_) => Operation::read_at(alloc, text.as_bytes(), "").err(),
-        Err(fault) => Some(fault),
-    };
+    let fault = fault_of(alloc, text.as_bytes());
     let has_told = match explain(alloc, "", text.as_bytes()) {
         Ok(findings) => !findings.faults.is_empty(),
         Err(_) => return "out of memory",
@@ -116,6 +124,10 @@ unit_ms = 20 | unit_ms = 20 & starts = [0, 7, 7] | bad value
 unit_ms = 20 | unit_ms = 20 & starts = [] | bad value
 unit_ms = 20 | unit_ms = 20 & starts = 0 | bad value
 unit_ms = 20 | unit_ms = 20 & starts = [0, 1.0] | bad value
+unit_ms = 20 | unit_ms = 20 & allow = [\"ann\"] | missing
+unit_ms = 20 | unit_ms = 20 & allow = [] | missing
+unit_ms = 20 | unit_ms = 20 & allow = \"ann\" | bad value
+unit_ms = 20 | unit_ms = 20 & allow = [\"ann\", 7] | bad value
 media = \"audio\" | media = \"video\" | taken
 media = \"audio\" | media = \"Audio\" | bad value
 pt = 0 | pt = 127 | taken

@@ -10,6 +10,7 @@ ghost use Rattle.rtsp_guard.specs.Understanding.{LeavesTaken, LeavesFaulted};
 
 use crate::answering::{Came, Front, settle};
 use crate::figures::AnswerCounter;
+use crate::hiding::is_there;
 use crate::owners::{Claim, Naming};
 use crate::service::Service;
 use crate::visiting::{Part, Read, visit_by};
@@ -20,7 +21,7 @@ use rtsp_engine::{
     Asker, Binder, Clock, Connection, PieceAnswerer, Plays, Shares, Words, WordsFault,
 };
 use rtsp_grammar::{MessageFault, Method, Request};
-use rtsp_guard::{NamedBy, Porter, push_lent};
+use rtsp_guard::{Foreign, Porter, push_lent};
 use rtsp_lock::BookHandle;
 use rtsp_log::{CredentialsCause, Event, RefusedCredentials, UserName};
 use rtsp_pacing::NotedPlays;
@@ -92,7 +93,7 @@ impl<R: Wait + rt::Clock> Porter for AnswerCounter<'_, R> {
         }
     }
 
-    fn of_another(&self, request: &Request) -> Result<Option<NamedBy>, AllocError> {
+    fn of_another(&self, request: &Request) -> Result<Option<Foreign>, AllocError> {
         let Service {
             rt,
             alloc,
@@ -102,17 +103,23 @@ impl<R: Wait + rt::Clock> Porter for AnswerCounter<'_, R> {
         self.claim.set(None);
         let naming = Naming::of(self.asker.conn, &request.headers);
         let sets_up = matches!(request.method, Method::Setup);
-        if naming.is_none() && !sets_up {
+        let allowed = shared.allowed.as_ref();
+        if naming.is_none() && !sets_up && allowed.is_none() {
             return Ok(None);
         }
         let Ok(credentials) = Credentials::among(&request.headers) else {
             return Ok(None);
         };
         let user = credentials.username;
+        if let Some(allowed) = allowed
+            && !is_there(&self.service, allowed, request, user)?
+        {
+            return Ok(Some(Foreign::Presentation));
+        }
         if let Some(naming) = naming
             && shared.owners.is_of_another(rt, naming, user)
         {
-            return Ok(Some(naming.header()));
+            return Ok(Some(Foreign::Session(naming.header())));
         }
         if sets_up {
             self.claim.set(Some(Claim::new(alloc, user, naming)?));

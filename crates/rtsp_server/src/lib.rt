@@ -36,6 +36,7 @@ mod further;
 mod growing_users;
 mod guarding;
 mod hearing;
+mod hiding;
 mod lane_lines;
 mod letting_in;
 mod naming;

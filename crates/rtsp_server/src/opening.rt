@@ -6,7 +6,7 @@ use crate::socket_lane::SocketLane;
 use crate::threads::OnePacer;
 use crate::users::open_users;
 use mio::net::TcpListener;
-use rtsp_content::{Operation, Table};
+use rtsp_content::{Allowed, Operation, Table};
 use rtsp_lock::{BookHandle, open_book};
 use rtsp_pacing::{PacerPlays, PacerRoom};
 use rtsp_sockets::{Media, Reader};
@@ -87,10 +87,11 @@ impl Opened {
         alloc: Global,
         table: &Table,
         operation: &Operation,
+        allowed: Option<Allowed>,
         address: SocketAddr,
         connections: Option<u64>,
     ) -> Result<Opened, ServerFault> {
-        match Opened::open_all(rt, alloc, table, operation, address, connections) {
+        match Opened::open_all(rt, alloc, table, operation, allowed, address, connections) {
             Err(ServerFault::DeviceFailed) => Err(refusal(table, operation)),
             opened => opened,
         }
@@ -101,6 +102,7 @@ impl Opened {
         alloc: Global,
         table: &Table,
         operation: &Operation,
+        allowed: Option<Allowed>,
         address: SocketAddr,
         connections: Option<u64>,
     ) -> Result<Opened, ServerFault> {
@@ -110,6 +112,7 @@ impl Opened {
         let opening = Opening {
             table,
             operation,
+            allowed,
             pacers: sending.pacers.len(),
         };
         let listening = opening.listen(rt, alloc, address, connections)?;
@@ -153,10 +156,11 @@ impl Handles {
 }
 
 // What a server is opened for.
-#[derive(Clone, Copy)]
+#[derive(Drop)]
 pub(crate) struct Opening<'a> {
     pub(crate) table: &'a Table,
     pub(crate) operation: &'a Operation,
+    pub(crate) allowed: Option<Allowed>,
     pub(crate) pacers: usize,
 }
 
@@ -183,10 +187,11 @@ impl Opening<'_> {
         connections: Option<u64>,
     ) -> Result<Listening, ServerFault> {
         let address = listener.local_addr()?;
+        let (table, operation) = (self.table, self.operation);
         let shared = self.share(rt, alloc, listener, connections)?;
-        let workers = usize::from(self.table.server().workers);
+        let workers = usize::from(table.server().workers);
         let lanes = open_lanes(rt, alloc, &shared, listener, workers)?;
-        let connections = connections_of(self.table, self.operation, listener)?;
+        let connections = connections_of(table, operation, listener)?;
         shared.gate.allow(connections);
         Ok(Listening {
             shared,

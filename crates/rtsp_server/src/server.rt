@@ -11,7 +11,7 @@ use crate::threads::{Beside, Parts, Served, Start};
 use crate::writing_journal::folder_of;
 use rtsp_book::Kept;
 use rtsp_chronicle::Doubt;
-use rtsp_content::{Operation, Table};
+use rtsp_content::{Allowed, Operation, Table};
 use rtsp_lock::{BookHandle, LockBook};
 use rtsp_log::Event;
 use rtsp_status::StatusServer;
@@ -93,7 +93,7 @@ impl Drop for Server {
 
 impl Server {
     /// A server of this configuration, which listens on this address, and keeps and shows what is
-    /// wanted of it. There are as many lanes as the configuration has workers, and half as many pacers
+    /// wanted of it; presentations are there for those alone who are allowed them. There are as many lanes as the configuration has workers, and half as many pacers
     /// as the machine has cores, but at least one; where the media isn't held in memory, some threads
     /// read it ahead. With a number of connections it ends after so many. Where the limit of descriptors
     /// leaves none for connections, it is `FewDescriptors`.
@@ -102,6 +102,7 @@ impl Server {
         alloc: Global,
         table: Table,
         operation: Operation,
+        allowed: Option<Allowed>,
         address: SocketAddr,
         connections: Option<u64>,
     ) -> Result<Server, ServerFault> {
@@ -110,7 +111,7 @@ impl Server {
             handles,
             sending,
             listening,
-        } = Opened::open(rt, alloc, &table, &operation, address, connections)?;
+        } = Opened::open(rt, alloc, &table, &operation, allowed, address, connections)?;
         let Sending {
             media,
             readers,

@@ -11,7 +11,7 @@ use crate::stopping::StopTimes;
 use crate::unread::HELD_IN_ALL;
 use crate::users::CurrentUsers;
 use mio::net::TcpListener;
-use rtsp_content::{Operation, Server, Table};
+use rtsp_content::{Allowed, Operation, Server, Table};
 use rtsp_lock::BookHandle;
 use rtsp_log::{BATCH_LINES, Event, HeaderCause, Log, moment};
 use rtsp_metrics::{Audience, Counters};
@@ -56,6 +56,8 @@ pub(crate) struct Shared {
     pub(crate) balancers: Balancers,
     /// Who is let through, where that isn't everybody.
     pub(crate) users: Option<CurrentUsers>,
+    /// For whom of them presentations are there, where that isn't everybody.
+    pub(crate) allowed: Option<Allowed>,
     /// Which of them each session is of.
     pub(crate) owners: Owners,
     /// What addresses have of the sessions, where each has a share of them.
@@ -99,6 +101,7 @@ impl Drop for Shared {
             gate: _gate,
             balancers: _balancers,
             users: _users,
+            allowed: _allowed,
             owners: _owners,
             session_shares: _session_shares,
             outlets: _outlets,
@@ -162,23 +165,30 @@ impl Shared {
         connections: Option<u64>,
         users: Option<CurrentUsers>,
     ) -> io::Result<Shared> {
-        let numbers = of.table.server();
+        let Opening {
+            table,
+            operation,
+            allowed,
+            pacers,
+        } = of;
+        let numbers = table.server();
         let begun = Instant::now(rt)?;
         let watermark = Watermark::new(alloc, usize::from(numbers.workers))?;
         let lent = Lent::open(alloc)?;
         let ports = PortTable::open(alloc, numbers.first_port, numbers.pairs)?;
-        let bells = Bells::new(alloc, of.pacers, numbers.sessions)?;
+        let bells = Bells::new(alloc, pacers, numbers.sessions)?;
         let gate = Gate::new(alloc, connections, numbers.connections_per_address)?;
-        let balancers = Balancers::open(alloc, of.operation.proxy())?;
+        let balancers = Balancers::open(alloc, operation.proxy())?;
         let session_shares = session_shares(alloc, numbers)?;
-        let audience = Audience::open(alloc, of.table.presentations().len())?;
-        let log = open_log(alloc, of.operation.access_log())?;
-        let end_lines = EndLines::open(alloc, of.table)?;
+        let audience = Audience::open(alloc, table.presentations().len())?;
+        let log = open_log(alloc, operation.access_log())?;
+        let end_lines = EndLines::open(alloc, table)?;
         Ok(Shared {
             listener,
             gate,
             balancers,
             users,
+            allowed,
             owners: Owners::new(alloc),
             session_shares,
             outlets: Outlets::new(alloc),
@@ -186,7 +196,7 @@ impl Shared {
             ports,
             bells,
             stop_bell: StopBell::new(),
-            scribe: scribe_bell(of.operation),
+            scribe: scribe_bell(operation),
             halt: Halt::new(),
             counters: Counters::new(),
             audience,
@@ -196,7 +206,7 @@ impl Shared {
             started: moment(rt),
             watermark: Mutex::new(watermark),
             ends: EndNote::new(),
-            draining: Draining::new(of.operation.drain()),
+            draining: Draining::new(operation.drain()),
             written_at: AtomicU64::new(0),
             lanes: AllLanes::new(alloc),
             decisions: Decisions::open(alloc, usize::from(numbers.workers))?,

@@ -12,8 +12,8 @@ use rtsp_credentials::{Gate, Protection, Refusal, Users, read_users};
 use rtsp_engine::{Asker, Connection};
 use rtsp_grammar::Request;
 use rtsp_guard::{
-    NamedBy, Porter, law_changes_nothing, law_pieces_change_nothing, law_same_verdict,
-    law_strangers_change_nothing, law_visited_drawn, push_lent,
+    Foreign, NamedBy, Porter, law_changes_nothing, law_hides_as_absent, law_pieces_change_nothing,
+    law_same_verdict, law_strangers_change_nothing, law_visited_drawn, push_lent,
 };
 use rtsp_lock::{AnyNumbers, BookLock, BookSeat, open};
 use rtsp_record::Whole;
@@ -37,9 +37,10 @@ ann:rtspd:e8ffd2fd44412d64d47ab7cba87e1d3a73c15622f8fc33a663dd810f22926cba
 
 const NUMBER: u128 = 0x18bc_c416_2c1c_70e6_eb79_bda2_7914_4930;
 
-/// Nobody is told of anything; all sessions are of another user, where requests name them so.
+/// Nobody is told of anything; all sessions are of another user, where requests name them so, or all
+/// presentations are there for others alone.
 struct Nobody {
-    another: Option<NamedBy>,
+    another: Option<Foreign>,
 }
 
 impl Witness for Nobody {
@@ -53,7 +54,7 @@ impl Witness for Nobody {
 impl Porter for Nobody {
     fn refused(&self, _refusal: Refusal, _request: &Request) {}
 
-    fn of_another(&self, _request: &Request) -> Result<Option<NamedBy>, AllocError> {
+    fn of_another(&self, _request: &Request) -> Result<Option<Foreign>, AllocError> {
         Ok(self.another)
     }
 }
@@ -66,7 +67,7 @@ fn answered<R: AllocGlobal + Wait>(
     seat: &mut BookSeat,
     lock: &BookLock,
     table: &Table,
-    another: Option<NamedBy>,
+    another: Option<Foreign>,
     text: &[u8],
 ) -> Option<Room>
     requires { IsSeatOf seat.old lock.now }
@@ -115,7 +116,7 @@ fn answered<R: AllocGlobal + Wait>(
 // Whether requests are answered so, by a server whose journal then has so many entries.
 fn is_answered<R: AllocGlobal + Wait>(
     rt: &R,
-    another: Option<NamedBy>,
+    another: Option<Foreign>,
     requests: &str,
     responses: &str,
     entries: usize,
@@ -330,7 +331,7 @@ WWW-Authenticate: Digest realm=\"rtspd\", qop=\"auth\", algorithm=MD5, nonce=\"1
 // Whether the session is so to whoever ends it last, and the journal then has so many entries.
 fn is_ended<R: AllocGlobal + Wait>(
     rt: &R,
-    another: Option<NamedBy>,
+    another: Option<Foreign>,
     status: &str,
     entries: usize,
 ) -> Option<bool> {
@@ -347,15 +348,31 @@ fn a_user_s_session_is_ended_by_a_user(rt: HostRuntime) {
 // He names it by its id.
 #[test]
 fn to_another_user_a_session_is_not_there(rt: HostRuntime) {
-    let by_id = Some(NamedBy::Session);
+    let by_id = Some(Foreign::Session(NamedBy::Session));
     assert!(rt; is_ended(&rt, by_id, "454 Session Not Found", 5) == Some(true));
-    let by_number = Some(NamedBy::PipelinedRequests);
+    let by_number = Some(Foreign::Session(NamedBy::PipelinedRequests));
     assert!(rt; is_ended(&rt, by_number, "200 OK", 8) == Some(true));
+}
+
+// What is answered then, and no entry.
+fn is_absent<R: AllocGlobal + Wait>(rt: &R) -> Option<bool> {
+    let (_, behind) = ANSWERS.split_once("\n\n")?;
+    let answers = format!(in rt.alloc();
+        "RTSP/2.0 404 Not Found\nCSeq: 1\n\n{behind}RTSP/2.0 404 Not Found\nCSeq: 5\n\n"
+    );
+    let hidden = Some(Foreign::Presentation);
+    is_answered(rt, hidden, SESSION, answers.ok()?.as_str(), 0)
+}
+
+#[test]
+fn to_another_user_a_presentation_is_not_there(rt: HostRuntime) {
+    assert!(rt; is_absent(&rt) == Some(true));
 }
 
 #[test]
 fn the_laws_are_called() {
     law_changes_nothing::<HostRuntime, PortSet, Drawing, Ticking, Noting, NoShares, AnyNumbers>();
+    law_hides_as_absent();
     law_pieces_change_nothing::<PortSet, Drawing, Ticking, Noting, NoShares>();
     law_same_verdict();
     law_strangers_change_nothing::<

@@ -1,6 +1,7 @@
 pub mod ReadLemmas
 pub mod PortLemmas
 pub mod PlainUriLemmas
+pub mod NowhereLemmas
 pub mod ListLemmas
 pub mod BareLemmas
 pub mod IdLemmas

@@ -10,6 +10,7 @@ pub mod Values
 pub mod PlainUri
 pub mod ParsedRequest
 pub mod OrderOfRefusals
+pub mod About
 pub mod Screen
 pub mod Context
 pub mod Room

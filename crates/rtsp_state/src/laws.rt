@@ -1,11 +1,17 @@
 //! What holds of every answer. These functions do nothing: their contracts are the laws.
 
+ghost use Rattle.rtsp_state.specs.About.{NamesNothing};
 ghost use Rattle.rtsp_state.specs.Laws.{ReadsOnce, AnswersRefusal, ShowsAllowed, AllowedIsValid, AnswersInOrder, ShowsSession};
 ghost use Rattle.rtsp_state.specs.Renewal.{RenewsInSteps};
 
 /// What is handed on of a request is what it says, so that nothing of it is read again.
 pub fn law_reads_once()
     ensures { ReadsOnce }
+{}
+
+/// A URI without a path names nothing, whatever is served.
+pub fn law_names_nothing()
+    ensures { NamesNothing }
 {}
 
 /// A renewal moves the end of its session by the configuration's `renewal_step` at least. After each

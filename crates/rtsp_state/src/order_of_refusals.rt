@@ -131,7 +131,8 @@ fn media_of<'a>(alloc: Global, table: &Table, text: &'a [u8]) -> Result<Target<'
     }
 }
 
-fn target_of<'a>(
+/// The fifth place: what the URI names.
+pub fn target_of<'a>(
     alloc: Global,
     table: &Table,
     method: Method,

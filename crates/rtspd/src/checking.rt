@@ -3,9 +3,9 @@
 use crate::reasons::folder_fault;
 use crate::running::read_file;
 use crate::serving::{address_of, fault_exit};
-use crate::users::users_fault;
+use crate::users::{has_user, users_at, users_fault};
 use rtsp_command_line::Exit;
-use rtsp_content::{Operation, Presentation, Table, TableFault, Track};
+use rtsp_content::{Allowed, Operation, Presentation, Table, TableFault, Track};
 use rtsp_engine::{ByteOut, CountedWriter};
 use rtsp_explain::{Findings, Place, explain, grouped, line_of};
 use rtsp_server::descriptor_fault;
@@ -236,6 +236,35 @@ fn look_at_users<R: Files<File = File> + AllocGlobal>(
     }
 }
 
+// Notes who is allowed a presentation, and isn't in the file of users.
+fn look_at_allowed<R: Files<File = File> + AllocGlobal>(
+    rt: &R,
+    report: &mut Report<'_, '_>,
+    path: &str,
+    allowed: &Allowed,
+) -> Result<(), AllocError> {
+    let Some(users) = users_at(rt, path) else {
+        return Ok(());
+    };
+    for (index, row) in allowed.rows().iter().enumerate() {
+        let place = Place::Presentation(index.saturating_add(1));
+        for user in row.users().unwrap_or(&[]) {
+            if has_user(&users, user.as_bytes()) {
+                continue;
+            }
+            let (name, user) = (
+                row.name(),
+                std::str::from_utf8(user.as_bytes()).unwrap_or(""),
+            );
+            let why = format!(in report.alloc;
+                "{name}: allow has {user:?}, who isn't in the file of users"
+            )?;
+            report.note(Some((place, "allow")), why.as_str())?;
+        }
+    }
+    Ok(())
+}
+
 // Looks at the folder of the journal's files.
 fn look_at_folder<R: Files<File = File> + AllocGlobal>(
     rt: &R,
@@ -278,11 +307,15 @@ fn look_at_descriptors(
 fn look<R: Files<File = File> + AllocGlobal + Net<Listener = TcpListener, Stream = TcpStream>>(
     rt: &R,
     report: &mut Report<'_, '_>,
-    table: &Table,
-    operation: &Operation,
+    configured: &Configured,
     listen: Option<SocketAddr>,
     default: SocketAddr,
 ) -> Result<(), AllocError> {
+    let Configured {
+        table,
+        operation,
+        allowed,
+    } = configured;
     let status = match operation.status() {
         Some(text) => look_at_status(rt, report, text)?,
         None => None,
@@ -291,6 +324,9 @@ fn look<R: Files<File = File> + AllocGlobal + Net<Listener = TcpListener, Stream
     look_at_listening(rt, report, listen, default, status)?;
     if let Some(path) = operation.users() {
         look_at_users(rt, report, path)?;
+        if let Some(allowed) = allowed {
+            look_at_allowed(rt, report, path, allowed)?;
+        }
     }
     if let Some(files) = operation.journal() {
         look_at_folder(rt, report, files.folder())?;
@@ -298,11 +334,23 @@ fn look<R: Files<File = File> + AllocGlobal + Net<Listener = TcpListener, Stream
     look_at_descriptors(report, table, operation)
 }
 
-// What a configuration says, as `serve` reads it.
-fn read(alloc: Global, bytes: &[u8], path: &str) -> Result<(Table, Operation), TableFault> {
-    let table = Table::read_at(alloc, bytes, path)?;
-    let operation = Operation::read_at(alloc, bytes, path)?;
-    Ok((table, operation))
+// What a configuration says.
+#[derive(Drop)]
+struct Configured {
+    table: Table,
+    operation: Operation,
+    allowed: Option<Allowed>,
+}
+
+impl Configured {
+    // Reads it as `serve` does.
+    fn read(alloc: Global, bytes: &[u8], path: &str) -> Result<Configured, TableFault> {
+        Ok(Configured {
+            table: Table::read_at(alloc, bytes, path)?,
+            operation: Operation::read_at(alloc, bytes, path)?,
+            allowed: Allowed::read(alloc, bytes)?,
+        })
+    }
 }
 
 /// Tells on the writer what the program thinks of the configuration of a file, and of what that names;
@@ -349,9 +397,9 @@ fn tell<R: Files<File = File> + AllocGlobal + Net<Listener = TcpListener, Stream
     let (alloc, path) = (report.alloc, report.path);
     let findings = explain(alloc, path, bytes)?;
     report.findings(&findings)?;
-    match read(alloc, bytes, path) {
-        Ok((table, operation)) => {
-            look(rt, report, &table, &operation, listen, default)?;
+    match Configured::read(alloc, bytes, path) {
+        Ok(configured) => {
+            look(rt, report, &configured, listen, default)?;
             report.taken()
         }
         Err(TableFault::OutOfMemory) => Err(AllocError),

@@ -1,7 +1,7 @@
 //! Why there is no server, for whoever started it.
 
 use crate::checking::do_clash;
-use crate::running::read_operation;
+use crate::running::{read_allowed, read_operation};
 use crate::serving::address_of;
 use crate::users::tell_of_users;
 use rtsp_command_line::{CommandLine, Exit, USAGE, read_words};
@@ -147,6 +147,12 @@ fn tell_of_operation<
         }
         return true;
     };
+    if read_allowed(rt, config).is_err() {
+        if let Ok(text) = fs::read(rt, config) {
+            tell_of_faults(rt, config, &text, TableFault::Missing);
+        }
+        return true;
+    }
     if let Some(files) = operation.journal()
         && tell_of_folder(rt, files.folder())
     {

@@ -11,7 +11,7 @@ use rtsp_book::PlainBook;
 use rtsp_command_line::{
     CommandLine, EXPLANATION, Exit, Help, USAGE, VERSION, read_help, read_words,
 };
-use rtsp_content::{EXAMPLE, Operation, Table, TableFault};
+use rtsp_content::{Allowed, EXAMPLE, Operation, Table, TableFault};
 use rtsp_engine::{ByteOut, CountedReader, CountedWriter, ServeEnd, StreamFault, TURNS};
 use rtsp_grammar::MessageFault;
 use rtsp_journal_text::{JournalFault, book_text, read_journal, write_journal};
@@ -198,6 +198,15 @@ pub(crate) fn read_operation<R: Files + AllocGlobal>(
 ) -> Result<Operation, Exit> {
     let text = read_file(rt, config)?;
     configured(Operation::read_at(rt.alloc(), &text, config))
+}
+
+// For whom presentations are there by the configuration of a file, where that isn't everybody.
+pub(crate) fn read_allowed<R: Files + AllocGlobal>(
+    rt: &R,
+    config: &str,
+) -> Result<Option<Allowed>, Exit> {
+    let text = read_file(rt, config)?;
+    configured(Allowed::read(rt.alloc(), &text))
 }
 
 // All that there is to hold by a configuration, for an audit. Where the journal is written to files, one

@@ -1,6 +1,6 @@
 //! The program that serves the connections of a socket.
 
-use crate::running::{read_operation, read_table};
+use crate::running::{read_allowed, read_operation, read_table};
 use rtsp_command_line::Exit;
 use rtsp_engine::{ByteOut, CountedWriter};
 use rtsp_server::{Announce, Doubt, Server, ServerEnd, ServerFault};
@@ -125,7 +125,17 @@ where
     let _held = hold_standard_streams(rt, rt.alloc())?;
     let table = read_table(rt, Some(config))?;
     let operation = read_operation(rt, config)?;
-    let server = match Server::open(rt, rt.alloc(), table, operation, address, connections) {
+    let allowed = read_allowed(rt, config)?;
+    let opened = Server::open(
+        rt,
+        rt.alloc(),
+        table,
+        operation,
+        allowed,
+        address,
+        connections,
+    );
+    let server = match opened {
         Ok(server) => server,
         Err(fault) => return Err(fault_exit(fault)),
     };

@@ -1,7 +1,7 @@
 //! What is wrong with a file of users, for whoever started the server or has its configuration looked at.
 
 use rtsp_command_line::Exit;
-use rtsp_credentials::{UsersFault, read_users};
+use rtsp_credentials::{Algorithm, Users, UsersFault, read_users};
 use rtsp_server::users_reason;
 use std::alloc::{AllocError, Global};
 use std::fs::{self, File};
@@ -30,6 +30,18 @@ pub(crate) fn users_fault<R: Files<File = File> + AllocGlobal>(
     };
     let why = users_reason(alloc, path, &text, fault)?;
     Ok(Some((Exit::BadConfiguration, why)))
+}
+
+/// The users of the file at this path, where they can be read.
+pub(crate) fn users_at<R: Files<File = File> + AllocGlobal>(rt: &R, path: &str) -> Option<Users> {
+    let text = fs::read(rt, path).ok()?;
+    read_users(rt.alloc(), &text).ok()
+}
+
+/// Whether one of the users is called so.
+pub(crate) fn has_user(users: &Users, name: &[u8]) -> bool {
+    users.secret_of(name, Algorithm::Md5).is_some()
+        || users.secret_of(name, Algorithm::Sha256).is_some()
 }
 
 /// Tells what is wrong with the file of users at this path, if anything is.
