@@ -152,6 +152,24 @@ pub(crate) fn settle<R: Wait + rt::Clock>(
     !came.is_full || service.make_room(lane)
 }
 
+// Whether answers are written before more is read. Where a play is among them, it is handed over once they
+// are written; where there is no room for what the next piece may record, none is read.
+pub(crate) fn is_due(has_room: bool, plays: &NotedPlays, gathered: usize) -> bool {
+    !has_room || !plays.is_empty() || gathered >= ANSWERS
+}
+
+// Hands the plays over whose answers are written, so that no packet comes before these. Whether more may
+// be read: not while too many plays wait for their pacer, or too much waits to be written.
+pub(crate) fn has_handed_over<R: Wait>(
+    service: &Service<'_, R>,
+    plays: &mut NotedPlays,
+    asker: Asker,
+    outlet: &Outlet,
+) -> bool {
+    let is_heard = plays.hand_over(service.rt, &service.shared.bells, asker.conn);
+    is_heard && outlet.waiting(service.rt) <= PAUSE
+}
+
 impl<R: Wait + Net + rt::Clock> PieceAnswerer for Front<'_, R> {
     ghost State = { Serving };
 
@@ -204,17 +222,12 @@ impl<R: Wait + Net + rt::Clock> PieceAnswerer for Front<'_, R> {
         pushed
     }
 
-    // Where a play is among the answers, it is handed over once they are written. Where there is no room
-    // for what the next piece may record, none is read.
     fn is_due(&self, gathered: usize) -> bool {
-        !self.has_room || !self.plays.is_empty() || gathered >= ANSWERS
+        is_due(self.has_room, self.plays, gathered)
     }
 
-    // A play is handed over after its answer is written, so that no packet comes before it. No more is
-    // read while too many plays wait for its pacer.
     fn has_written(&mut self) -> bool {
-        let Service { rt, shared, .. } = self.service;
-        let is_heard = self.plays.hand_over(rt, &shared.bells, self.asker.conn);
-        self.has_room && is_heard && self.outlet.waiting(rt) <= PAUSE
+        let goes_on = has_handed_over(&self.service, self.plays, self.asker, self.outlet);
+        self.has_room && goes_on
     }
 }

@@ -337,6 +337,9 @@ impl Client {
         let Asker { conn, peer, .. } = self.asker;
         self.outlet.close(rt);
         shared.outlets.remove(rt, conn);
+        if shared.users.is_some() {
+            shared.owners.leave(rt, conn);
+        }
         if self.end_sessions(rt, shared, lane) {
             shared.ends.note();
             shared.tell_hung_up(rt, conn, lane);

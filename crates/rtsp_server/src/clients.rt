@@ -100,7 +100,7 @@ impl Clients {
         listener: net::TcpListener,
     ) -> io::Result<Clients> {
         let acceptor = Acceptor::new(listener)?;
-        let tools = Tools::open(rt, alloc)?;
+        let tools = Tools::open(rt, alloc, shared)?;
         let events = Events::with_capacity(alloc, EVENTS)?;
         let poll = open_poll(rt, shared)?;
         Ok(Clients {

@@ -3,7 +3,6 @@
 use crate::channels::Channels;
 use crate::further::{bytes_sent, further};
 use crate::operating::{end_by_operator, sessions_text, standing};
-use crate::owners::Claim;
 use crate::service::Service;
 use crate::session_names::{named, viewing_of};
 use crate::shared::Shared;
@@ -62,8 +61,6 @@ pub(crate) struct AnswerCounter<'a, R> {
     // How many SETUPs may have opened a session.
     setups: Cell<u64>,
     is_unavailable: Cell<bool>,
-    // Who asks for a session, where only users are let through, until the request is answered.
-    pub(crate) claim: Cell<Option<Claim>>,
 }
 
 impl<'a, R: rt::Clock> AnswerCounter<'a, R> {
@@ -84,7 +81,6 @@ impl<'a, R: rt::Clock> AnswerCounter<'a, R> {
             moment,
             setups: Cell::new(0),
             is_unavailable: Cell::new(false),
-            claim: Cell::new(None),
         }
     }
 
@@ -110,14 +106,20 @@ impl<'a, R: rt::Clock> AnswerCounter<'a, R> {
 }
 
 impl<R: Wait + rt::Clock> AnswerCounter<'_, R> {
-    // Notes which user the session is of whose end will be told.
-    fn note_owner(&self, viewing: &Viewing) {
+    // Notes which user the session is of that a SETUP has opened, or has set up a track in.
+    fn note_owner(&self, viewing: Option<&Viewing>) {
         let Service { rt, shared, .. } = self.service;
-        if let Some(claim) = self.claim.take()
-            && shared.audience.viewing(rt, viewing.session).is_some()
-        {
-            shared.owners.note(rt, viewing.id, claim);
+        if shared.users.is_none() {
+            return;
         }
+        // A session whose end was told before isn't noted any more: nobody would forget it.
+        let id = match viewing {
+            Some(viewing) if shared.audience.viewing(rt, viewing.session).is_some() => {
+                Some(viewing.id)
+            }
+            _ => None,
+        };
+        shared.owners.answer(rt, self.asker.conn, id);
     }
 
     // Notes which session was begun or has ended.
@@ -126,9 +128,12 @@ impl<R: Wait + rt::Clock> AnswerCounter<'_, R> {
         if told.status != UNAUTHORIZED && method == Method::Teardown {
             shared.ends.note();
         }
-        if let Some(viewing) = viewing_of(told, self.asker, self.service.now) {
+        let viewing = viewing_of(told, self.asker, self.service.now);
+        if let Some(viewing) = viewing {
             shared.audience.enter(rt, viewing);
-            self.note_owner(&viewing);
+        }
+        if method == Method::Setup {
+            self.note_owner(viewing.as_ref());
         }
         if let Some(life) = told.ended {
             shared.end_place(rt, life.session);

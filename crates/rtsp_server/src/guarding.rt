@@ -8,7 +8,8 @@ ghost use Rattle.rtsp_guard.specs.Guarding.{Kept, keeps};
 ghost use Rattle.rtsp_guard.specs.Understanding.{AnswersUnderstood, GivesUpUnderstood, TakesPiece, FaultsPiece, gathered};
 ghost use Rattle.rtsp_guard.specs.Understanding.{LeavesTaken, LeavesFaulted};
 
-use crate::answering::{Came, Front, settle};
+use crate::answering::{Came, has_handed_over, is_due, settle};
+use crate::channels::Channels;
 use crate::figures::AnswerCounter;
 use crate::hiding::is_there;
 use crate::owners::{Claim, Naming};
@@ -25,13 +26,14 @@ use rtsp_guard::{Foreign, Porter, push_lent};
 use rtsp_lock::BookHandle;
 use rtsp_log::{CredentialsCause, Event, RefusedCredentials, UserName};
 use rtsp_pacing::NotedPlays;
-use rtsp_sockets::{PieceClock, PortBinder, RandomWords};
+use rtsp_sockets::{Outlet, PieceClock, PortBinder, RandomWords};
 use rtsp_state::Room;
-use rtsp_threads::{LaneShares, PIECE};
+use rtsp_threads::{Activity, LaneShares, PIECE};
 use std::alloc::{AllocError, Global};
+use std::cell::Cell;
 use std::net::{Ipv4Addr, Net};
 use std::rt;
-use std::sync::Wait;
+use std::sync::{Arc, Wait};
 
 // GStreamer's players know no qop.
 fn protection_for(players: Players) -> Protection {
@@ -46,7 +48,7 @@ pub(crate) fn open_gate<R>(
     service: &Service<'_, R>,
     words: &mut RandomWords,
 ) -> Result<Option<Gate>, WordsFault> {
-    if service.users.is_none() {
+    if service.shared.users.is_none() {
         return Ok(None);
     }
     let number = words.id()?;
@@ -100,7 +102,6 @@ impl<R: Wait + rt::Clock> Porter for AnswerCounter<'_, R> {
             shared,
             ..
         } = self.service;
-        self.claim.set(None);
         let naming = Naming::of(self.asker.conn, &request.headers);
         let sets_up = matches!(request.method, Method::Setup);
         let allowed = shared.allowed.as_ref();
@@ -122,18 +123,31 @@ impl<R: Wait + rt::Clock> Porter for AnswerCounter<'_, R> {
             return Ok(Some(Foreign::Session(naming.header())));
         }
         if sets_up {
-            self.claim.set(Some(Claim::new(alloc, user, naming)?));
+            let claim = Claim::new(alloc, user, naming)?;
+            shared.owners.ask(rt, self.asker.conn, claim)?;
         }
         Ok(None)
     }
 }
 
-/// What answers the pieces of a connection, and its gate.
+/// What answers the pieces of a connection at its gate: the fields of `Front`, the gate, and who is let
+/// through.
 #[derive(Drop)]
-pub(crate) struct GuardedFront<'a, 'u, R> {
-    pub(crate) front: Front<'a, R>,
+pub(crate) struct GuardedFront<'a, R> {
     pub(crate) gate: Gate,
-    pub(crate) users: &'u Users,
+    pub(crate) users: &'a Users,
+    pub(crate) service: Service<'a, R>,
+    pub(crate) handle: &'a mut BookHandle,
+    pub(crate) lane: &'a mut BookHandle,
+    pub(crate) asker: Asker,
+    pub(crate) host: Ipv4Addr,
+    pub(crate) outlet: &'a Arc<Outlet>,
+    pub(crate) made: &'a mut Receipt,
+    pub(crate) words: &'a mut RandomWords,
+    pub(crate) plays: &'a mut NotedPlays,
+    pub(crate) heard: &'a Cell<Channels>,
+    pub(crate) activity: &'a mut Activity,
+    pub(crate) has_room: bool,
 }
 
 // Has a piece of a connection's input answered as `answer_piece` does, as far as it is let through.
@@ -207,10 +221,10 @@ fn answer_guarded<R: Wait + Net + rt::Clock, W: Words, P: Plays>(
     pushed
 }
 
-impl<R: Wait + Net + rt::Clock> PieceAnswerer for GuardedFront<'_, '_, R> {
+impl<R: Wait + Net + rt::Clock> PieceAnswerer for GuardedFront<'_, R> {
     ghost State = { Kept Serving };
 
-    ghost serving = { λ f. keeps f.gate f.users.now (serving_of f.front.service.table.now f.front.asker f.front.handle.now.seat) };
+    ghost serving = { λ f. keeps f.gate f.users.now (serving_of f.service.table.now f.asker f.handle.now.seat) };
 
     ghost answers = { AnswersUnderstood (devices ⟦<PortBinder<'static, R> as Binder>⟧.calls
         ⟦<RandomWords as Words>⟧.calls ⟦<PieceClock<'static, R> as Clock>⟧.tells
@@ -228,19 +242,18 @@ impl<R: Wait + Net + rt::Clock> PieceAnswerer for GuardedFront<'_, '_, R> {
         room: &mut Room,
     ) -> Result<(), MessageFault> {
         let all = input.len().saturating_add(piece.len());
-        let service = self.front.service;
-        let witness = AnswerCounter::new(&service, self.front.asker, self.front.heard);
+        let witness = AnswerCounter::new(&self.service, self.asker, self.heard);
         let pushed = answer_guarded(
-            &self.front.service,
+            &self.service,
             &mut self.gate,
             self.users,
-            self.front.handle,
-            self.front.lane,
-            self.front.asker,
-            self.front.host,
-            self.front.made,
-            self.front.words,
-            self.front.plays,
+            self.handle,
+            self.lane,
+            self.asker,
+            self.host,
+            self.made,
+            self.words,
+            self.plays,
             &witness,
             input,
             piece,
@@ -251,10 +264,10 @@ impl<R: Wait + Net + rt::Clock> PieceAnswerer for GuardedFront<'_, '_, R> {
             is_full: piece.len() == PIECE,
             is_fault: pushed.is_err(),
         };
-        self.front.has_room = settle(
-            &self.front.service,
-            self.front.lane,
-            self.front.activity,
+        self.has_room = settle(
+            &self.service,
+            self.lane,
+            self.activity,
             &witness,
             input,
             came,
@@ -263,15 +276,16 @@ impl<R: Wait + Net + rt::Clock> PieceAnswerer for GuardedFront<'_, '_, R> {
     }
 
     fn is_due(&self, gathered: usize) -> bool {
-        self.front.is_due(gathered)
+        is_due(self.has_room, self.plays, gathered)
     }
 
     fn has_written(&mut self) -> bool {
-        self.front.has_written()
+        let goes_on = has_handed_over(&self.service, self.plays, self.asker, self.outlet);
+        self.has_room && goes_on
     }
 }
 
-impl<R: Wait + Net + rt::Clock> GuardedFront<'_, '_, R> {
+impl<R: Wait + Net + rt::Clock> GuardedFront<'_, R> {
     /// Reads as `Front::visit` does, and has what is let through at the gate answered.
     pub(crate) fn visit(
         &mut self,
@@ -282,7 +296,7 @@ impl<R: Wait + Net + rt::Clock> GuardedFront<'_, '_, R> {
         reads_all: bool,
         until: u64,
     ) -> Read {
-        let (service, outlet) = (self.front.service, self.front.outlet);
+        let (service, outlet) = (self.service, self.outlet);
         visit_by(
             &service, outlet, self, input, room, piece, part, reads_all, until,
         )

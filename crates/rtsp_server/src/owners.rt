@@ -66,6 +66,8 @@ impl Claim {
 
 #[derive(Drop)]
 struct Rows {
+    // Who asks for a session, by the number of his connection, until the SETUP is answered.
+    asked: BTreeMap<u64, Claim>,
     claims: BTreeMap<u128, Claim>,
     startups: BTreeMap<(u64, u32), u128>,
 }
@@ -119,6 +121,7 @@ impl Owners {
     pub(crate) fn new(alloc: Global) -> Owners {
         Owners {
             rows: Mutex::new(Rows {
+                asked: BTreeMap::new(alloc),
                 claims: BTreeMap::new(alloc),
                 startups: BTreeMap::new(alloc),
             }),
@@ -133,9 +136,27 @@ impl Owners {
         }
     }
 
-    /// A track was set up in the session of this id. Nothing is done where its user is known.
-    pub(crate) fn note<R: Wait>(&self, rt: &R, id: u128, claim: Claim) {
-        let _noted = self.rows.lock(rt).note(id, claim);
+    /// This one asks for a session over a connection.
+    pub(crate) fn ask<R: Wait>(&self, rt: &R, conn: u64, claim: Claim) -> Result<(), AllocError> {
+        self.rows.lock(rt).asked.insert(conn, claim)?;
+        Ok(())
+    }
+
+    /// The SETUP that came last over a connection was answered: it has set up a track in the session of
+    /// this id, or in none. Where its user is known, nothing is noted.
+    pub(crate) fn answer<R: Wait>(&self, rt: &R, conn: u64, id: Option<u128>) {
+        let mut rows = self.rows.lock(rt);
+        let Some(claim) = rows.asked.remove(&conn) else {
+            return;
+        };
+        if let Some(id) = id {
+            let _noted = rows.note(id, claim);
+        }
+    }
+
+    /// A connection is over. Where memory ran out over its last SETUP, nobody has told of an answer.
+    pub(crate) fn leave<R: Wait>(&self, rt: &R, conn: u64) {
+        drop(self.rows.lock(rt).asked.remove(&conn));
     }
 
     /// The session of this id has ended.

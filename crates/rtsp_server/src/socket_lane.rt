@@ -5,7 +5,6 @@ use crate::lane_lines::LaneLines;
 use crate::recorded::Recorded;
 use crate::service::Service;
 use crate::shared::Shared;
-use crate::users::SeenUsers;
 use crossbeam_utils::CachePadded;
 use rtsp_content::Table;
 use rtsp_lock::BookHandle;
@@ -29,8 +28,6 @@ pub struct SocketLane {
     recorded: Recorded,
     looks: Cell<RoomLooks>,
     clients: Clients,
-    // Who is let through, as the lane sees it, where that isn't everybody.
-    users: Option<SeenUsers>,
     // Whether it has begun.
     stands: bool,
 }
@@ -47,7 +44,6 @@ impl SocketLane {
         let answers = shared.lanes.answer_counters(rt, alloc)?;
         let shared = Arc::try_clone(shared)?;
         let clients = Clients::open(rt, alloc, &shared, number, listener)?;
-        let users = SeenUsers::open(rt, shared.users.as_ref())?;
         Ok(SocketLane {
             shared,
             answers,
@@ -55,7 +51,6 @@ impl SocketLane {
             recorded: Recorded::new(),
             looks: Cell::new(RoomLooks::new()),
             clients,
-            users,
             stands: false,
         })
     }
@@ -80,19 +75,15 @@ impl Lane for SocketLane {
             recorded,
             looks,
             clients,
-            users,
             ..
         } = self;
         let told = clients.wait(rt, &shared.lanes, lines, looks.get());
         let now = clients.begin_turn(shared.now(rt));
-        if let (Some(seen), Some(users)) = (users.as_mut(), shared.users.as_ref()) {
-            seen.refresh(rt, users);
-        }
+        clients.tools.refresh(rt, shared);
         let service = Service {
             rt,
             alloc,
             table,
-            users: users.as_ref().map(SeenUsers::users),
             shared: &**shared,
             answers: &***answers,
             lines,

@@ -1,6 +1,8 @@
 //! What a lane answers with.
 
 use crate::channels::Channels;
+use crate::shared::Shared;
+use crate::users::SeenUsers;
 use rtsp_book::Receipt;
 use rtsp_pacing::NotedPlays;
 use rtsp_sockets::RandomWords;
@@ -11,6 +13,7 @@ use std::cell::Cell;
 use std::fs::File;
 use std::io;
 use std::rt::Files;
+use std::sync::Wait;
 
 /// What a lane answers with, for one connection after another.
 pub(crate) struct Tools {
@@ -25,6 +28,8 @@ pub(crate) struct Tools {
     pub(crate) heard: Cell<Channels>,
     /// What was read last.
     pub(crate) piece: Vec<u8>,
+    /// Who is let through, as the lane sees it, where that isn't everybody.
+    pub(crate) users: Option<SeenUsers>,
 }
 
 // Written out, as that of `Shared` is.
@@ -37,12 +42,17 @@ impl Drop for Tools {
             room: _room,
             heard: _heard,
             piece: _piece,
+            users: _users,
         } = self;
     }
 }
 
 impl Tools {
-    pub(crate) fn open<R: Files<File = File>>(rt: &R, alloc: Global) -> io::Result<Tools> {
+    pub(crate) fn open<R: Wait + Files<File = File>>(
+        rt: &R,
+        alloc: Global,
+        shared: &Shared,
+    ) -> io::Result<Tools> {
         let piece = Vec::from_elem(alloc, 0, PIECE)?;
         let words = RandomWords::open(rt)?;
         Ok(Tools {
@@ -52,6 +62,14 @@ impl Tools {
             room: Room::new(alloc),
             heard: Cell::new(Channels::none()),
             piece,
+            users: SeenUsers::open(rt, shared.users.as_ref())?,
         })
+    }
+
+    /// Takes the users of the moment, where they are others.
+    pub(crate) fn refresh<R: Wait>(&mut self, rt: &R, shared: &Shared) {
+        if let (Some(seen), Some(users)) = (&mut self.users, &shared.users) {
+            seen.refresh(rt, users);
+        }
     }
 }

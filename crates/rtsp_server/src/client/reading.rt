@@ -6,6 +6,8 @@ use crate::guarding::GuardedFront;
 use crate::service::Service;
 use crate::tools::Tools;
 use crate::visiting::{Part, Read};
+use rtsp_credentials::Gate;
+use rtsp_engine::VisitEnd;
 use rtsp_lock::BookHandle;
 use std::net::Net;
 use std::rt;
@@ -15,6 +17,20 @@ impl Client {
     // Reads a part of what is there, has it answered, as far as it is let through, and puts the answers
     // into the outlet.
     pub(super) fn read<R: Wait + Net + rt::Clock>(
+        &mut self,
+        service: &Service<'_, R>,
+        tools: &mut Tools,
+        lane: &mut BookHandle,
+        part: Part,
+        until: u64,
+    ) -> Read {
+        match self.gate {
+            Some(gate) => self.read_guarded(service, tools, lane, part, until, gate),
+            None => self.read_unguarded(service, tools, lane, part, until),
+        }
+    }
+
+    fn read_unguarded<R: Wait + Net + rt::Clock>(
         &mut self,
         service: &Service<'_, R>,
         tools: &mut Tools,
@@ -38,18 +54,45 @@ impl Client {
         };
         let (input, reads_all) = (&mut self.input, self.is_ending);
         let (room, piece) = (&mut tools.room, tools.piece.as_mut_slice());
-        match (self.gate.as_mut(), service.users) {
-            (Some(gate), Some(users)) => {
-                let mut guarded = GuardedFront {
-                    front,
-                    gate: *gate,
-                    users,
-                };
-                let read = guarded.visit(input, room, piece, part, reads_all, until);
-                *gate = guarded.gate;
-                read
-            }
-            _ => front.visit(input, room, piece, part, reads_all, until),
-        }
+        front.visit(input, room, piece, part, reads_all, until)
+    }
+
+    // The same at the connection's gate, which there is only where there are users.
+    fn read_guarded<R: Wait + Net + rt::Clock>(
+        &mut self,
+        service: &Service<'_, R>,
+        tools: &mut Tools,
+        lane: &mut BookHandle,
+        part: Part,
+        until: u64,
+        gate: Gate,
+    ) -> Read {
+        let Some(users) = &tools.users else {
+            return Read {
+                end: VisitEnd::Closed,
+                is_kept: false,
+            };
+        };
+        let mut front = GuardedFront {
+            gate,
+            users: users.users(),
+            service: *service,
+            handle: &mut self.handle,
+            lane,
+            asker: self.asker,
+            host: self.host,
+            outlet: &self.outlet,
+            made: &mut tools.made,
+            words: &mut tools.words,
+            plays: &mut tools.plays,
+            heard: &tools.heard,
+            activity: &mut self.activity,
+            has_room: true,
+        };
+        let (input, reads_all) = (&mut self.input, self.is_ending);
+        let (room, piece) = (&mut tools.room, tools.piece.as_mut_slice());
+        let read = front.visit(input, room, piece, part, reads_all, until);
+        self.gate = Some(front.gate);
+        read
     }
 }
