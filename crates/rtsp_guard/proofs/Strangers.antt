@@ -23,7 +23,7 @@ use Rattle.rtsp_state.specs.declared.status.Status.TheVariants.{SessionNotFound}
 use Rattle.rtsp_grammar.specs.declared.message.Response.{Response}
 use Rattle.rtsp_traits.specs.Devices.{Devices}
 use Rattle.rtsp_engine.specs.Conversing.{RespondsScreened}
-use Rattle.rtsp_engine.specs.Desk.{Service, State}
+use Rattle.rtsp_engine.specs.Desk.{Service, State, state, served as serves}
 use Rattle.rtsp_guard.specs.declared.porter.NamedBy.{NamedBy}
 use Rattle.rtsp_guard.specs.declared.porter.NamedBy.TheVariants.{Session, PipelinedRequests}
 use Rattle.rtsp_guard.specs.Estranging.{names_by, nobodys, estranged_header, estranged, IsEstranged}
@@ -117,15 +117,14 @@ screens table request e =
     let asked = asks_nothing table request e in
     is_answered request (cseq_of request.headers) (asked_of table request) asked.0 asked.1
 
-module _ {B W C P S : Type 0} (d : Devices B W C P S) where
-  still : (service : Service) (uri : List ℕ) (seen : Screen) (given response : Response) (s t : State B W C P S) → seen ≡ Answered given
-      → RespondsScreened d service uri seen response s t → t ≡ s
-  still service uri (Answered other) given response s t e h = h.1
-  still service uri (Asks request) given response s t e h = absurd cc
+still : {B W C P S : Type 0} (d : Devices B W C P S) (service : Service) (uri : List ℕ) (seen : Screen) (given response : Response) (s t : State B W C P S) → seen ≡ Answered given
+    → RespondsScreened d service uri seen response s t → t ≡ s
+still d service uri (Answered other) given response s t e h = h.1
+still d service uri (Asks request) given response s t e h = absurd cc
 
 module _ {R B W C P S N : Type 0} (d : Devices B W C P S) where
   pub strangers_change_nothing : StrangersChangeNothing R N d
   strangers_change_nothing gate s t request seen bytes is h =
       let alone = ap (λ (r : Request). sessions r.headers) is.2 ∙ nobodys_alone is.0 request.headers is.1 in
       let found = screens s.answerer.table.now seen alone in
-      still d _ seen.uri _ found.0 h.answers.0.0 _ _ found.1 h.answers.0.1
+      still d (serves s.answerer.table.now s.answerer.asker) seen.uri (screen s.answerer.table.now seen) found.0 h.answers.0.0 (state s.answerer) (state t.answerer) found.1 h.answers.0.1

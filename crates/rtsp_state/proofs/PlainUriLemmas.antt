@@ -151,7 +151,7 @@ plain_segments (b ∷ bytes) e =
 
 -- ---- the URL
 
-abbrev plain_parts : Scheme → List ℕ → Option ℕ → List ℕ → Parts
+abbrev pub plain_parts : Scheme → List ℕ → Option ℕ → List ℕ → Parts
 plain_parts scheme host port path = record {
   scheme = scheme_text scheme;
   username = [];
@@ -163,12 +163,12 @@ plain_parts scheme host port path = record {
   fragment = None;
 }
 
--- a host, a port and a path that a plain URI can have
-record ArePlain (host : List ℕ) (port : Option ℕ) (path : List ℕ) : Type 0 where
-  some : 0 < length host
-  named : list_all is_host_byte host ≡ true
-  fits : IfSome port (λ n. n < 2 ^ 16)
-  plain : is_plain_path path ≡ true
+-- a host, a port and a path that a plain URI can have, or one without a path
+pub record ArePlain (host : List ℕ) (port : Option ℕ) (path : List ℕ) : Type 0 where
+  pub some : 0 < length host
+  pub named : list_all is_host_byte host ≡ true
+  pub fits : IfSome port (λ n. n < 2 ^ 16)
+  pub segments : IsSegmentList NotSpecial path
 
 port_valid : (scheme : Scheme) (port : Option ℕ) → IfSome port (λ n. n < 2 ^ 16) → IsPortOf (scheme_text scheme) port
 port_valid scheme None fits = tt
@@ -194,7 +194,7 @@ head_valid scheme host port path h =
 valid : (scheme : Scheme) (host : List ℕ) (port : Option ℕ) (path : List ℕ) → ArePlain host port path → IsValid (plain_parts scheme host port path)
 valid scheme host port path h = record {
   head = head_valid scheme host port path h;
-  path = inl (subst (λ k. IsHierarchicalPath k path) (sym (kind scheme)) (plain_segments path h.plain, λ e. absurd (true≢false (sym e))));
+  path = inl (subst (λ k. IsHierarchicalPath k path) (sym (kind scheme)) (h.segments, λ e. absurd (true≢false (sym e))));
   query = tt;
   fragment = tt;
 }
@@ -206,7 +206,7 @@ no_space (b ∷ path) all = and_right _ _ (ne_eqb (get_or (b ∷ path) (length (
 canonical : (scheme : Scheme) (host : List ℕ) (port : Option ℕ) (path : List ℕ) → ArePlain host port path → IsCanonical (plain_parts scheme host port path)
 canonical scheme host port path h =
     let url = plain_parts scheme host port path in
-    let kept = segment_list_kept NotSpecial path (plain_segments path h.plain) in
+    let kept = segment_list_kept NotSpecial path h.segments in
     let spaceless = no_space path (All_kept_differs PATH 32 refl path kept) in
     subst (λ k. IsCanonicalAs k url) (sym (kind scheme)) (tt, ends_visibly url (valid scheme host port path h) kept, spaceless)
 
@@ -231,7 +231,7 @@ own_text scheme host port path h =
     ap of_scheme (parse_url-serialize (plain_parts scheme host port path) None (valid scheme host port path h) (canonical scheme host port path h)) ∙
     taken scheme host port path
 
-own_uri : (scheme : Scheme) (host : List ℕ) (port : Option ℕ) (path : List ℕ) → ArePlain host port path → uri_of (serialize (plain_parts scheme host port path)) ≡ Some (plain_parts scheme host port path)
+pub own_uri : (scheme : Scheme) (host : List ℕ) (port : Option ℕ) (path : List ℕ) → ArePlain host port path → uri_of (serialize (plain_parts scheme host port path)) ≡ Some (plain_parts scheme host port path)
 own_uri scheme host port path h =
     let url = plain_parts scheme host port path in
     uri_some (serialize url) (IsUtf8-from_ascii (serialize url) (IsAscii-serialize url (valid scheme host port path h))) ∙ own_text scheme host port path h
@@ -248,7 +248,7 @@ plain_url text path h =
     let port = h.follows.port in
     let scheme = h.begins.scheme in
     let spelled : text ≡ scheme_text scheme ++ (codes "://" ++ (h.host ++ (port_text port ++ path))) = h.begins.spelled ∙ ap (λ l. scheme_text scheme ++ (codes "://" ++ (h.host ++ l))) h.follows.spelled in
-    let plain : ArePlain h.host port path = record { some = h.some; named = h.named; fits = h.follows.fits; plain = h.plain } in
+    let plain : ArePlain h.host port path = record { some = h.some; named = h.named; fits = h.follows.fits; segments = plain_segments path h.plain } in
     record {
       url = plain_parts scheme h.host port path;
       is_read = ap uri_of (spelled ∙ sym (serialized scheme h.host port path)) ∙ own_uri scheme h.host port path plain;
