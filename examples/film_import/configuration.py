@@ -9,7 +9,7 @@ import subprocess
 import sys
 import tempfile
 import tomllib
-from typing import Any, Callable, Dict, Iterator, List, NamedTuple, Union
+from typing import Any, Callable, Dict, Iterator, List, NamedTuple, Sequence, Union
 
 from command import STOPS, called, is_installed
 
@@ -53,6 +53,11 @@ class Refused(Exception):
     """Why it doesn't go on, in one line."""
 
 
+def allowed(users: Sequence[str]) -> List[str]:
+    """The line of those for whom a presentation is there, where that isn't everybody."""
+    return [f"allow = {json.dumps(list(users), ensure_ascii=False)}"] if users else []
+
+
 class Made(NamedTuple):
     """What was made of a file: a presentation of one track."""
 
@@ -84,8 +89,9 @@ class Made(NamedTuple):
     def file(self) -> str:
         return f"{self.name}.{'ts' if self.encoding == 'MP2T' else self.encoding.lower()}"
 
-    def table(self, named: Callable[[str], str]) -> str:
+    def table(self, named: Callable[[str], str], users: Sequence[str]) -> str:
         lines = ["", "[[presentation]]", f'name = "{self.name}"', f"units = {self.units}", f"unit_ms = {self.unit_ms}"]
+        lines += allowed(users)
         lines += ["[[presentation.track]]", f'name = "{self.track}"', f'media = "{self.media}"', f"pt = {self.pt}"]
         lines += [f'encoding = "{self.encoding}"', f"clock = {self.clock}", f"octets = {self.octets}"]
         lines += [f"ticks = {self.clock * self.unit_ms // 1000}", f"file = {json.dumps(named(self.file))}"]
@@ -144,8 +150,9 @@ class MadeFilm(NamedTuple):
     def encoding(self) -> str:
         return " and ".join(part.encoding for part in self.parts)
 
-    def table(self, named: Callable[[str], str]) -> str:
+    def table(self, named: Callable[[str], str], users: Sequence[str]) -> str:
         lines = ["", "[[presentation]]", f'name = "{self.name}"', f"units = {self.units}", f"unit_ms = {self.unit_ms}"]
+        lines += allowed(users)
         lines += [f"starts = {self.starts}"] if self.starts else []
         lines += [line for part in self.parts for line in part.table(named)]
         return "".join(f"{line}\n" for line in lines)
@@ -161,8 +168,10 @@ class MediaFile(NamedTuple):
 class Configuration:
     """The configuration that presentations are added to."""
 
-    def __init__(self, path: pathlib.Path) -> None:
+    def __init__(self, path: pathlib.Path, users: Sequence[str] = ()) -> None:
+        """What is added is there for these users alone, if some are given."""
         self.path = path
+        self.users = users
         if not path.parent.is_dir():
             raise Refused(f"{path.parent} is no folder, so {path} can't be there")
         self.is_new = not path.exists()
@@ -173,6 +182,8 @@ class Configuration:
             raise Refused(f"{path} is no TOML: {why}") from None
         if not self.is_new:
             self.check(path)
+        if users and "users" not in self.document["server"]:
+            raise Refused(f"{path} names no file of users, so nobody is known")
 
     def check(self, path: pathlib.Path) -> None:
         """The program has to take it."""
@@ -205,7 +216,7 @@ class Configuration:
 
     def add(self, made: Union[Made, MadeFilm], files: List[MediaFile]) -> None:
         """Adds a presentation at the end, and gives its media the names; all files are whole at all times."""
-        text = self.text + ("" if self.text.endswith("\n") else "\n") + made.table(self.file_named)
+        text = self.text + ("" if self.text.endswith("\n") else "\n") + made.table(self.file_named, self.users)
         number, name = tempfile.mkstemp(dir=self.path.parent, prefix=".", suffix=".toml")
         unfinished = pathlib.Path(name)
         try:
