@@ -8,4 +8,4 @@ pub mod QuietPieces
 pub mod Putting
 pub mod Drawn
 pub mod Strangers
-pub mod Hiding
+pub mod Absent

@@ -1,4 +1,4 @@
-use Rattle.rtsp_guard.proofs.Hiding.{copied_more}
+use Rattle.rtsp_guard.proofs.Absent.{copied_more}
 use Rattle.rtsp_guard.proofs.hiding.copy_of_headers.Goals as goal
 
 pub loop-index-preserved : goal.loop-index-preserved

@@ -1,4 +1,4 @@
-use Rattle.rtsp_guard.proofs.Hiding.{hides_as_absent}
+use Rattle.rtsp_guard.proofs.Absent.{hides_as_absent}
 use Rattle.rtsp_guard.proofs.laws.law_hides_as_absent.Goals as goal
 
 pub returns : goal.returns
