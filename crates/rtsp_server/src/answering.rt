@@ -227,7 +227,8 @@ impl<R: Wait + Net + rt::Clock> PieceAnswerer for Front<'_, R> {
     }
 
     fn has_written(&mut self) -> bool {
-        let goes_on = has_handed_over(&self.service, self.plays, self.asker, self.outlet);
+        let outlet = self.outlet;
+        let goes_on = has_handed_over(&self.service, self.plays, self.asker, outlet);
         self.has_room && goes_on
     }
 }
