@@ -1,7 +1,7 @@
 //! A configuration, gone through in the order in which the program reads it.
 
 use crate::findings::{Explainer, Findings};
-use crate::keys::{Key, PRESENTATION, Presence, SERVER, TRACK};
+use crate::keys::{Key, Presence, presentation_keys, server_keys, track_keys};
 use crate::lines::Place;
 use crate::rules::kind_of;
 use crate::tracks::{explain_journal, explain_rate};
@@ -67,8 +67,8 @@ impl Explainer<'_> {
     fn server<'t>(&mut self, document: &'t Table) -> Result<Option<&'t Table>, AllocError> {
         match document.get("server") {
             Some(Value::Table(server)) => {
-                self.keys(server, &SERVER, Place::Server, &[])?;
-                self.unknown(server, &SERVER, "", Place::Server)?;
+                self.keys(server, server_keys(), Place::Server, &[])?;
+                self.unknown(server, server_keys(), "", Place::Server)?;
                 Ok(Some(server))
             }
             Some(value) => {
@@ -99,12 +99,12 @@ impl Explainer<'_> {
         };
         self.keys(
             table,
-            &PRESENTATION,
+            presentation_keys(),
             place,
             items.get(..index).unwrap_or(&[]),
         )?;
         self.allowed(server, table, place)?;
-        self.unknown(table, &PRESENTATION, "track", place)?;
+        self.unknown(table, presentation_keys(), "track", place)?;
         let Some(tracks) = self.items(table, "track", MOST_TRACKS, place)? else {
             return Ok(0);
         };
@@ -114,8 +114,13 @@ impl Explainer<'_> {
                 self.no_table(place, item)?;
                 continue;
             };
-            self.keys(track, &TRACK, place, tracks.get(..number).unwrap_or(&[]))?;
-            self.unknown(track, &TRACK, "", place)?;
+            self.keys(
+                track,
+                track_keys(),
+                place,
+                tracks.get(..number).unwrap_or(&[]),
+            )?;
+            self.unknown(track, track_keys(), "", place)?;
             if let Some(server) = server {
                 explain_rate(self, server, table, track, place)?;
             }

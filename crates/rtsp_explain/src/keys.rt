@@ -21,8 +21,8 @@ pub(crate) struct Key {
     pub(crate) what: &'static str,
 }
 
-/// `[server]`.
-pub(crate) const SERVER: [Key; 22] = [
+// `[server]`.
+static SERVER: [Key; 22] = [
     Key {
         name: "first_port",
         rule: Rule::Even(1_024, 65_535),
@@ -157,8 +157,8 @@ pub(crate) const SERVER: [Key; 22] = [
     },
 ];
 
-/// `[[presentation]]`.
-pub(crate) const PRESENTATION: [Key; 5] = [
+// `[[presentation]]`.
+static PRESENTATION: [Key; 5] = [
     Key {
         name: "name",
         rule: Rule::Text(Class::Name, 64),
@@ -191,8 +191,8 @@ pub(crate) const PRESENTATION: [Key; 5] = [
     },
 ];
 
-/// `[[presentation.track]]`.
-pub(crate) const TRACK: [Key; 12] = [
+// `[[presentation.track]]`.
+static TRACK: [Key; 12] = [
     Key {
         name: "name",
         rule: Rule::Text(Class::Name, 64),
@@ -266,3 +266,18 @@ pub(crate) const TRACK: [Key; 12] = [
         what: "channels, for SDP",
     },
 ];
+
+/// The keys of `[server]`.
+pub(crate) fn server_keys() -> &'static [Key] {
+    &SERVER
+}
+
+/// The keys of `[[presentation]]`.
+pub(crate) fn presentation_keys() -> &'static [Key] {
+    &PRESENTATION
+}
+
+/// The keys of `[[presentation.track]]`.
+pub(crate) fn track_keys() -> &'static [Key] {
+    &TRACK
+}

@@ -1,10 +1,10 @@
 //! What keys ask of each other.
 
 use crate::findings::Explainer;
-use crate::keys::{Key, PRESENTATION, Presence, SERVER, TRACK};
+use crate::keys::{Key, Presence, presentation_keys, server_keys, track_keys};
 use crate::lines::{Place, line_of};
 use crate::numbers::grouped;
-use std::alloc::AllocError;
+use std::alloc::{AllocError, Global};
 use toml::{Table, Value};
 
 // The bytes of media that a packet has at most, and a unit of several.
@@ -23,6 +23,22 @@ fn place_of(items: &[Value], name: &str) -> Option<usize> {
 // The last number of a list.
 fn last_of(value: &Value) -> Option<i64> {
     value.as_array()?.as_slice().last()?.as_integer()
+}
+
+fn too_many_pairs(alloc: Global, pairs: i64, first: i64, most: i64) -> Result<String, AllocError> {
+    let (pairs, most) = (grouped(alloc, pairs)?, grouped(alloc, most)?);
+    Ok(format!(in alloc; "is {pairs}; from port {first} there are {most}")?)
+}
+
+fn too_great_step(alloc: Global, step: i64, timeout: i64, most: i64) -> Result<String, AllocError> {
+    let (step, most) = (grouped(alloc, step)?, grouped(alloc, most)?);
+    let timeout = grouped(alloc, timeout)?;
+    Ok(format!(in alloc; "is {step}; with timeout {timeout} it has to be at most {most}")?)
+}
+
+fn too_great_share(alloc: Global, share: i64, sessions: i64) -> Result<String, AllocError> {
+    let (share, sessions) = (grouped(alloc, share)?, grouped(alloc, sessions)?);
+    Ok(format!(in alloc; "is {share}; of sessions {sessions} it has to be at most all")?)
 }
 
 impl Explainer<'_> {
@@ -46,6 +62,21 @@ impl Explainer<'_> {
             None => Ok(value.as_integer()),
             Some(_) => Ok(None),
         }
+    }
+
+    /// The numbers at two keys, or their defaults, where both are right.
+    pub(crate) fn right_numbers(
+        &self,
+        keys: &[Key],
+        table: &Table,
+        one: &str,
+        other: &str,
+    ) -> Result<Option<(i64, i64)>, AllocError> {
+        let Some(one) = self.right_number(keys, table, one)? else {
+            return Ok(None);
+        };
+        let other = self.right_number(keys, table, other)?;
+        Ok(other.map(|other| (one, other)))
     }
 
     /// What a key that is right asks of others, and of the tables of its list that stand before it.
@@ -80,7 +111,7 @@ impl Explainer<'_> {
         if server.get("users").is_some() {
             return Ok(());
         }
-        for key in PRESENTATION.iter().filter(|key| key.name == "allow") {
+        for key in presentation_keys().iter().filter(|key| key.name == "allow") {
             if key.rule.fault(self.alloc, value, key.what)?.is_none() {
                 let why = "is there without users in [server], so nobody could prove who it is for";
                 self.fault(place, "allow", why)?;
@@ -91,56 +122,42 @@ impl Explainer<'_> {
 
     // All pairs have port numbers.
     fn pairs(&mut self, server: &Table) -> Result<(), AllocError> {
-        let (Some(pairs), Some(first)) = (
-            self.right_number(&SERVER, server, "pairs")?,
-            self.right_number(&SERVER, server, "first_port")?,
-        ) else {
+        let found = self.right_numbers(server_keys(), server, "pairs", "first_port")?;
+        let Some((pairs, first)) = found else {
             return Ok(());
         };
         let most = 65_536_i64.saturating_sub(first) / 2;
         if pairs <= most {
             return Ok(());
         }
-        let (pairs, most) = (grouped(self.alloc, pairs)?, grouped(self.alloc, most)?);
-        let why = format!(in self.alloc; "is {pairs}; from port {first} there are {most}")?;
+        let why = too_many_pairs(self.alloc, pairs, first, most)?;
         self.fault(Place::Server, "pairs", why.as_str())
     }
 
     // The step of renewals is below the timeout.
     fn renewal_step(&mut self, server: &Table) -> Result<(), AllocError> {
-        let (Some(step), Some(timeout)) = (
-            self.right_number(&SERVER, server, "renewal_step")?,
-            self.right_number(&SERVER, server, "timeout")?,
-        ) else {
+        let found = self.right_numbers(server_keys(), server, "renewal_step", "timeout")?;
+        let Some((step, timeout)) = found else {
             return Ok(());
         };
         let most = timeout.saturating_mul(1000).saturating_sub(1);
         if step <= most {
             return Ok(());
         }
-        let (step, most) = (grouped(self.alloc, step)?, grouped(self.alloc, most)?);
-        let timeout = grouped(self.alloc, timeout)?;
-        let why = format!(in self.alloc;
-            "is {step}; with timeout {timeout} it has to be at most {most}"
-        )?;
+        let why = too_great_step(self.alloc, step, timeout, most)?;
         self.fault(Place::Server, "renewal_step", why.as_str())
     }
 
     // A share of the sessions is at most all.
     fn share(&mut self, server: &Table) -> Result<(), AllocError> {
-        let (Some(share), Some(sessions)) = (
-            self.right_number(&SERVER, server, "sessions_per_address")?,
-            self.right_number(&SERVER, server, "sessions")?,
-        ) else {
+        let found = self.right_numbers(server_keys(), server, "sessions_per_address", "sessions")?;
+        let Some((share, sessions)) = found else {
             return Ok(());
         };
         if share <= sessions {
             return Ok(());
         }
-        let (share, sessions) = (grouped(self.alloc, share)?, grouped(self.alloc, sessions)?);
-        let why = format!(in self.alloc;
-            "is {share}; of sessions {sessions} it has to be at most all"
-        )?;
+        let why = too_great_share(self.alloc, share, sessions)?;
         self.fault(Place::Server, "sessions_per_address", why.as_str())
     }
 
@@ -175,7 +192,7 @@ impl Explainer<'_> {
         let Some(last) = presentation.get("starts").and_then(last_of) else {
             return Ok(());
         };
-        let Some(units) = self.right_number(&PRESENTATION, presentation, "units")? else {
+        let Some(units) = self.right_number(presentation_keys(), presentation, "units")? else {
             return Ok(());
         };
         if last < units {
@@ -188,14 +205,14 @@ impl Explainer<'_> {
 
     // A unit's octets go into its packets.
     fn octets(&mut self, track: &Table, place: Place) -> Result<(), AllocError> {
-        let Some(octets) = self.right_number(&TRACK, track, "octets")? else {
+        let Some(octets) = self.right_number(track_keys(), track, "octets")? else {
             return Ok(());
         };
         if track.get("packets").is_none() {
             return self.one_packet(octets, place);
         }
         let is_equal = track.get("packing").and_then(|value| value.as_str()) == Some("equal");
-        match self.right_number(&TRACK, track, "packets")? {
+        match self.right_number(track_keys(), track, "packets")? {
             Some(packets) if is_equal => self.equal_packets(octets, packets, place),
             _ => Ok(()),
         }

@@ -1,7 +1,7 @@
 //! Keys that the program doesn't read.
 
 use crate::findings::Explainer;
-use crate::keys::{Key, PRESENTATION, SERVER, TRACK};
+use crate::keys::{Key, presentation_keys, server_keys, track_keys};
 use crate::lines::Place;
 use std::alloc::{AllocError, Global};
 use toml::Table;
@@ -42,13 +42,17 @@ fn add_owner(owners: &mut String, is_owner: bool, head: &str) -> Result<(), Allo
 // The heads that a key belongs under.
 fn owners_of(alloc: Global, name: &str) -> Result<String, AllocError> {
     let mut owners = String::new(alloc);
-    add_owner(&mut owners, has_key(&SERVER, name), "[server]")?;
+    add_owner(&mut owners, has_key(server_keys(), name), "[server]")?;
     add_owner(
         &mut owners,
-        has_key(&PRESENTATION, name),
+        has_key(presentation_keys(), name),
         "[[presentation]]",
     )?;
-    add_owner(&mut owners, has_key(&TRACK, name), "[[presentation.track]]")?;
+    add_owner(
+        &mut owners,
+        has_key(track_keys(), name),
+        "[[presentation.track]]",
+    )?;
     Ok(owners)
 }
 
