@@ -39,6 +39,7 @@ const NUMBER: u128 = 0x18bc_c416_2c1c_70e6_eb79_bda2_7914_4930;
 
 /// Nobody is told of anything; all sessions are of another user, where requests name them so, or all
 /// presentations are there for others alone.
+#[derive(Drop)]
 struct Nobody {
     another: Option<Foreign>,
 }
