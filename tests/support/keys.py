@@ -81,7 +81,7 @@ def of_explanations(script: str) -> List[Key]:
 def of_the_look(code: str) -> List[Key]:
     """The keys that `rtspd check` explains, by its tables."""
     tables = {"SERVER": "server", "PRESENTATION": "presentation", "TRACK": "presentation.track"}
-    parts = re.findall(r"(?ms)^pub\(crate\) const (\w+): \[Key; \d+\] = \[(.*?)^\];", code)
+    parts = re.findall(r"(?ms)^static (\w+): \[Key; \d+\] = \[(.*?)^\];", code)
     return [(tables[name], it) for name, rows in parts for it in re.findall(r'\bname: "(\w+)"', rows)]
 
 
