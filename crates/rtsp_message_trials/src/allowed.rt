@@ -16,7 +16,7 @@ name = \"hers\"
 allow = [\"ann\"]
 [[presentation]]
 name = \"theirs\"
-allow = [\"bob\", \"\", \"\u00dcnal\", \"ann\"]
+allow = [\"bob\", \"\", \"\u{dc}nal\", \"ann\"]
 [[presentation]]
 name = \"nobodys\"
 allow = []
