@@ -350,7 +350,7 @@ fn a_user_s_session_is_ended_by_a_user(rt: HostRuntime) {
 #[test]
 fn to_another_user_a_session_is_not_there(rt: HostRuntime) {
     let by_id = Some(Foreign::Session(NamedBy::Session));
-    assert!(rt; is_ended(&rt, by_id, "454 Session Not Found", 5) == Some(true));
+    assert!(rt; is_ended(&rt, by_id, "454 Session Not Found", 4) == Some(true));
     let by_number = Some(Foreign::Session(NamedBy::PipelinedRequests));
     assert!(rt; is_ended(&rt, by_number, "200 OK", 8) == Some(true));
 }
