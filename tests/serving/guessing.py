@@ -29,6 +29,8 @@ def guesses(port: int, uri: str, address: str) -> None:
     asks = written(f"DESCRIBE {uri} RTSP/2.0", [("CSeq", "1")])
     while True:
         with socket.create_connection((HERE, port), timeout=30, source_address=(address, 0)) as talk:
+            # A reset leaves the port to the tests beside this one.
+            talk.setsockopt(socket.SOL_SOCKET, socket.SO_LINGER, b"\1\0\0\0\0\0\0\0")
             talk.sendall(asks)
             found = re.search(rb'nonce="([0-9a-f]+)"', talk.recv(65_536))
             if found is None:

@@ -85,6 +85,8 @@ def connects_without_end(port: int, host: str, until: float) -> None:
     while time.monotonic() < until:
         with contextlib.suppress(OSError):
             kept.append(socket.create_connection((HERE, port), timeout=1, source_address=(host, 0)))
+            # A reset leaves the port to the tests beside this one.
+            kept[-1].setsockopt(socket.SOL_SOCKET, socket.SO_LINGER, b"\1\0\0\0\0\0\0\0")
         if len(kept) > 1_000:
             kept.pop(0).close()
     for talk in kept:
