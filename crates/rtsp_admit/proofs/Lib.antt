@@ -1,0 +1,15 @@
+pub mod Rows
+pub mod Leading
+pub mod Going
+pub mod Choosing
+pub mod Breaking
+pub mod Keeping
+pub mod Unwinding
+pub mod Having
+pub mod Drawing
+pub mod Counting
+pub mod Sharing
+pub mod Alone
+pub mod Freeing
+pub mod Unbinding
+pub mod Adding

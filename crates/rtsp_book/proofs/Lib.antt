@@ -1,0 +1,15 @@
+pub mod Runs
+pub mod Ending
+pub mod Committing
+pub mod Tests
+pub mod TakenBack
+pub mod Granted
+pub mod Giving
+pub mod Freed
+pub mod Owing
+pub mod Replying
+pub mod Keeping
+pub mod LeavingOut
+pub mod AllEnds
+pub mod Restating
+pub mod Noting

@@ -1,0 +1,11 @@
+pub mod Sessions
+pub mod Returns
+pub mod Made
+pub mod Replies
+pub mod Laws
+pub mod Receipts
+pub mod Cases
+pub mod Owed
+pub mod Kept
+pub mod Answers
+pub mod Checkpoints

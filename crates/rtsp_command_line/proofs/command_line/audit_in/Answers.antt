@@ -1,0 +1,16 @@
+use Rattle.std.proofs.Common.{◌≡◌, ◌∙◌, codes, rules, option_map}
+use Rattle.clap.specs.Words.{first_of, rows_of, found_of}
+use Rattle.clap.proofs.WalkLemmas.{first_value-rows}
+use Rattle.rtsp_command_line.proofs.command_line.audit_in.Goals as goal
+
+pub returns-in_err-journal : goal.returns-in_err-journal
+returns-in_err-journal c =
+    let f = found_of c.args.matches.now in
+    let journal : option_map (λ s. s.now) c.get_str.result ≡ first_of (codes "journal") (rows_of f) = c.get_str.ensures ∙ first_value-rows f (codes "journal") in
+    rw (← journal) (search rules)
+
+pub returns : goal.returns
+returns c =
+    let f = found_of c.args.matches.now in
+    let journal : option_map (λ s. s.now) c.get_str.result ≡ first_of (codes "journal") (rows_of f) = c.get_str.ensures ∙ first_value-rows f (codes "journal") in
+    rw (← journal) (search rules)

@@ -1,0 +1,6 @@
+pub mod Items
+pub mod TablesLemmas
+pub mod Joined
+pub mod StartsLemmas
+pub mod PathLemmas
+pub mod DistinctLemmas

@@ -1,0 +1,89 @@
+//! What a path names.
+
+ghost use Rattle.std.specs.Prelude.{◌≡◌, ◌<◌, ◌≤◌, length, bytes_eq, IfSome};
+ghost use Rattle.std.specs.List.{position_from};
+ghost use Rattle.rtsp_text.specs.Slices.{joined};
+ghost use Rattle.rtsp_content.specs.declared.limits.TheConstants.{MAX_PRESENTATIONS, MAX_TRACKS};
+ghost use Rattle.rtsp_content.specs.Paths.{is_presentation_path, is_track_path, find_from};
+
+use crate::presentation::Presentation;
+use crate::track::Track;
+
+/// What a path names, by indices that are counted from 0.
+#[derive(Clone, Copy, PartialEq, Eq)]
+pub enum Found {
+    /// A presentation.
+    Presentation(u16),
+
+    /// A track, after its presentation.
+    Track(u16, u16),
+
+    /// Nothing that is served.
+    Nothing,
+}
+
+// Whether a text is the pieces, one after another.
+fn is_joined(text: &[u8], pieces: &[&[u8]]) -> bool
+    ensures { result ≡ bytes_eq text.now (joined pieces.entry.now) }
+{
+    let mut rest = text;
+    for piece in pieces {
+        match rest.strip_prefix(piece) {
+            Some(tail) => rest = tail,
+            None => return false,
+        }
+    }
+    rest.is_empty()
+}
+
+// Whether the path is `/name` or `/name/`.
+fn is_presentation_path(path: &[u8], presentation: &Presentation) -> bool
+    ensures { result ≡ is_presentation_path presentation.now path.now }
+{
+    let name = presentation.name().as_bytes();
+    is_joined(path, &[b"/", name]) || is_joined(path, &[b"/", name, b"/"])
+}
+
+// Whether the path is `/name/track`.
+fn is_track_path(path: &[u8], presentation: &Presentation, track: &Track) -> bool
+    ensures { result ≡ is_track_path presentation.now path.now track.now }
+{
+    is_joined(
+        path,
+        &[
+            b"/",
+            presentation.name().as_bytes(),
+            b"/",
+            track.name().as_bytes(),
+        ],
+    )
+}
+
+// The first track that the path names.
+fn track_index(path: &[u8], presentation: &Presentation) -> Option<usize>
+    ensures value { result
+        ≡ position_from (is_track_path presentation.now path.now) 0 presentation.now.tracks }
+    ensures within { IfSome result (λ j. j < MAX_TRACKS) }
+{
+    presentation
+        .tracks()
+        .iter()
+        .position(|track| is_track_path(path, presentation, track))
+}
+
+// What a path names among presentations.
+pub(crate) fn find_among(presentations: &[Presentation], path: &[u8]) -> Found
+    requires { length presentations.now ≤ MAX_PRESENTATIONS }
+    ensures { result ≡ find_from 0 presentations.now path.now }
+{
+    for (index, presentation) in presentations.iter().enumerate() {
+        if is_presentation_path(path, presentation) {
+            return Found::Presentation(index as u16);
+        }
+        match track_index(path, presentation) {
+            Some(track) => return Found::Track(index as u16, track as u16),
+            None => {}
+        }
+    }
+    Found::Nothing
+}

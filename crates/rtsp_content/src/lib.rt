@@ -1,0 +1,37 @@
+//! What the server serves: its configuration, the presentations and tracks in it, and their
+//! description.
+
+#![tactic(auto)]
+
+mod balancers;
+mod example;
+mod fault;
+mod found;
+mod journal_files;
+mod keys;
+mod limits;
+mod media_path;
+mod operation;
+mod packing;
+mod presentation;
+mod reading;
+mod sdp;
+mod server;
+mod starts;
+mod table;
+mod track;
+
+pub use example::EXAMPLE;
+pub use fault::TableFault;
+pub use found::Found;
+pub use journal_files::{JournalFiles, WhenFull};
+pub use limits::{
+    MAX_CONNECTIONS, MAX_OCTETS, MAX_PACKETS, MAX_TRACKS, MAX_UNIT_OCTETS, SLOT_HEAD,
+};
+pub use operation::Operation;
+pub use packing::Packing;
+pub use presentation::Presentation;
+pub use server::{Players, Server};
+pub use starts::Starts;
+pub use table::Table;
+pub use track::{Media, Track};

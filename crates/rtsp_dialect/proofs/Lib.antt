@@ -1,0 +1,12 @@
+pub mod LeftParts
+pub mod Alone
+pub mod Rewritten
+pub mod HeaderSteps
+pub mod Staying
+pub mod Ports
+pub mod Reading
+pub mod Quoted
+pub mod Spoken
+pub mod Lawful
+pub mod Along
+pub mod NameLengths

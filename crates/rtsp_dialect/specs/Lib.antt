@@ -1,0 +1,9 @@
+pub mod Startup
+pub mod ClientPort
+pub mod PartText
+pub mod ClientPortText
+pub mod Repair
+pub mod PartParameter
+pub mod Within
+pub mod Laws
+pub mod Repairing

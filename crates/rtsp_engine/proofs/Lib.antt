@@ -1,0 +1,14 @@
+pub mod Known
+pub mod Going
+pub mod Sharing
+pub mod Sizes
+pub mod Keeping
+pub mod Parts
+pub mod Replies
+pub mod Adding
+pub mod Numbering
+pub mod Strengthening
+pub mod Cleaning
+pub mod Along
+pub mod Batches
+pub mod Pieces

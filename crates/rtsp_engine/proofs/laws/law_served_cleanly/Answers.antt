@@ -1,0 +1,6 @@
+use Rattle.rtsp_traits.specs.Devices.{devices}
+use Rattle.rtsp_engine.proofs.Cleaning.{served_cleanly}
+use Rattle.rtsp_engine.proofs.laws.law_served_cleanly.Goals as goal
+
+pub returns : goal.returns
+returns g c = served_cleanly (devices g.B.Binder.calls g.W.Words.calls g.C.Clock.tells g.P.Plays.calls g.S.Shares.calls)

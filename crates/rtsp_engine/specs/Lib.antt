@@ -1,0 +1,15 @@
+pub mod Streams
+pub mod FaultResponses
+pub mod Desk
+pub mod Drawing
+pub mod Renewing
+pub mod Conducting
+pub mod Conversing
+pub mod Writing
+pub mod DeskAnswers
+pub mod Served
+pub mod Additions
+pub mod Numbers
+pub mod Causes
+pub mod Serving
+pub mod Visiting

@@ -1,0 +1,177 @@
+//! What a value has to be.
+
+use crate::lists::{addresses_fault, starts_fault};
+use crate::numbers::grouped;
+use std::alloc::{AllocError, Global};
+use toml::Value;
+
+/// What a value has to be.
+#[derive(Clone, Copy)]
+pub(crate) enum Rule {
+    /// A number from the first to the second.
+    Number(i64, i64),
+    /// An even number from the first to the second.
+    Even(i64, i64),
+    /// True or false.
+    Flag,
+    /// One of the two words.
+    OneOf(&'static str, &'static str),
+    /// A text of 1 to so many bytes, each of which the class has.
+    Text(Class, usize),
+    /// Any text.
+    Any,
+    /// A list of 1 to so many IPv4 addresses.
+    Addresses(usize),
+    /// A list of 1 to so many ascending numbers, the first 0.
+    Starts(usize),
+}
+
+/// The bytes that a text may have.
+#[derive(Clone, Copy)]
+pub(crate) enum Class {
+    /// `a` to `z`, digits, `-` and `_`.
+    Name,
+    /// Letters, digits and `-`.
+    Encoding,
+    /// Printable characters of ASCII, and spaces.
+    Printable,
+    /// All but the controls of ASCII.
+    Path,
+    /// Digits, `.` and `:`.
+    Address,
+}
+
+impl Class {
+    fn has(self, byte: u8) -> bool {
+        match self {
+            Class::Name => {
+                byte.is_ascii_lowercase() || byte.is_ascii_digit() || byte == b'-' || byte == b'_'
+            }
+            Class::Encoding => byte.is_ascii_alphanumeric() || byte == b'-',
+            Class::Printable => (b' '..=b'~').contains(&byte),
+            Class::Path => b' ' <= byte && byte != 127,
+            Class::Address => byte.is_ascii_digit() || byte == b'.' || byte == b':',
+        }
+    }
+}
+
+/// What a value is, in a word.
+pub(crate) fn kind_of(value: &Value) -> &'static str {
+    match value {
+        Value::String(_) => "a text",
+        Value::Integer(_) => "a number",
+        Value::Float(_) => "a number with a point",
+        Value::Boolean(_) => "true or false",
+        Value::Datetime(_) => "a date or time",
+        Value::Array(_) => "a list",
+        Value::Table(_) => "a table",
+    }
+}
+
+impl Rule {
+    /// What a value has to be, in words, with what it is for.
+    pub(crate) fn wanted(self, alloc: Global, what: &str) -> Result<String, AllocError> {
+        match self {
+            Rule::Number(least, most) | Rule::Even(least, most) => {
+                let (least, most) = (grouped(alloc, least)?, grouped(alloc, most)?);
+                format!(in alloc; "{least} to {most} ({what})")
+            }
+            Rule::Flag => format!(in alloc; "true or false: {what}"),
+            Rule::OneOf(..) | Rule::Text(..) | Rule::Any => String::from_str(alloc, what),
+            Rule::Addresses(most) => format!(in alloc; "1 to {most} IPv4 addresses ({what})"),
+            Rule::Starts(most) => {
+                let most = grouped(alloc, i64::try_from(most).unwrap_or(i64::MAX))?;
+                format!(in alloc; "1 to {most} ascending numbers, the first 0 ({what})")
+            }
+        }
+    }
+
+    /// Why a value is refused, if it is.
+    pub(crate) fn fault(
+        self,
+        alloc: Global,
+        value: &Value,
+        what: &str,
+    ) -> Result<Option<String>, AllocError> {
+        let wanted = self.wanted(alloc, what)?;
+        match self {
+            Rule::Number(least, most) | Rule::Even(least, most) => {
+                let Some(number) = value.as_integer() else {
+                    return of_kind(alloc, value, "a number: ", wanted.as_str());
+                };
+                if number < least || most < number {
+                    let number = grouped(alloc, number)?;
+                    let why = format!(in alloc; "is {number}; it has to be {wanted}")?;
+                    return Ok(Some(why));
+                }
+                if let Rule::Even(..) = self
+                    && number % 2 != 0
+                {
+                    let why = format!(in alloc; "is {number}; it has to be even")?;
+                    return Ok(Some(why));
+                }
+                Ok(None)
+            }
+            Rule::Flag => match value.as_bool() {
+                Some(_) => Ok(None),
+                None => of_kind(alloc, value, "", wanted.as_str()),
+            },
+            Rule::OneOf(..) | Rule::Text(..) | Rule::Any => {
+                let Some(text) = value.as_str() else {
+                    return of_kind(alloc, value, "a text: ", wanted.as_str());
+                };
+                self.text_fault(alloc, text, wanted.as_str())
+            }
+            Rule::Addresses(most) => {
+                let Some(items) = value.as_array() else {
+                    return of_kind(alloc, value, "", wanted.as_str());
+                };
+                addresses_fault(alloc, items.as_slice(), most, wanted.as_str())
+            }
+            Rule::Starts(most) => {
+                let Some(items) = value.as_array() else {
+                    return of_kind(alloc, value, "", wanted.as_str());
+                };
+                starts_fault(alloc, items.as_slice(), most, wanted.as_str())
+            }
+        }
+    }
+
+    // Why a text is refused, if it is.
+    fn text_fault(
+        self,
+        alloc: Global,
+        text: &str,
+        wanted: &str,
+    ) -> Result<Option<String>, AllocError> {
+        let is_right = match self {
+            Rule::OneOf(one, other) => text == one || text == other,
+            Rule::Text(class, most) => {
+                if most < text.len() {
+                    let count = grouped(alloc, i64::try_from(text.len()).unwrap_or(i64::MAX))?;
+                    let why = format!(in alloc; "has {count} bytes; it has to be {wanted}")?;
+                    return Ok(Some(why));
+                }
+                !text.is_empty() && text.as_bytes().iter().all(|byte| class.has(*byte))
+            }
+            _ => true,
+        };
+        if is_right {
+            return Ok(None);
+        }
+        let why = format!(in alloc; "is {text:?}; it has to be {wanted}")?;
+        Ok(Some(why))
+    }
+}
+
+// The fault of a value of another kind than is wanted.
+fn of_kind(
+    alloc: Global,
+    value: &Value,
+    kind: &str,
+    wanted: &str,
+) -> Result<Option<String>, AllocError> {
+    let is = kind_of(value);
+    let why = format!(in alloc; "is {is}; it has to be {kind}{wanted}")?;
+    Ok(Some(why))
+}

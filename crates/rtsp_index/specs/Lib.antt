@@ -1,0 +1,13 @@
+pub mod Placing
+pub mod Searching
+pub mod Lessers
+pub mod Dating
+pub mod Contents
+pub mod Following
+pub mod Pooling
+pub mod Bound
+pub mod Counted
+pub mod Naming
+pub mod Named
+pub mod Agreeing
+pub mod Free

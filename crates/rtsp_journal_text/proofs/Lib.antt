@@ -1,0 +1,10 @@
+pub mod HexLemmas
+pub mod AfterLemmas
+pub mod ReaderLemmas
+pub mod NumberLemmas
+pub mod EntryLemmas
+pub mod JournalLemmas
+pub mod FieldLemmas
+pub mod LineLemmas
+pub mod Counting
+pub mod Walks

@@ -1,0 +1,10 @@
+pub mod Entries
+pub mod Numbers
+pub mod Rule
+pub mod Steps
+pub mod Named
+pub mod Calls
+pub mod Handing
+pub mod Tallies
+pub mod Room
+pub mod Laws

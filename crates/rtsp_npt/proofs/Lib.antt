@@ -1,0 +1,5 @@
+pub mod UnitLemmas
+pub mod TimeLemmas
+pub mod RangeLemmas
+pub mod PrintLemmas
+pub mod HeaderLemmas

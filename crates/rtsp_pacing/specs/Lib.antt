@@ -1,0 +1,14 @@
+pub mod Wheel
+pub mod Noted
+pub mod Bells
+pub mod Plays
+pub mod Inbox
+pub mod Linking
+pub mod Catching
+pub mod Refusals
+pub mod Reports
+pub mod Beginning
+pub mod Credits
+pub mod Channels
+pub mod Drops
+pub mod Runs

@@ -1,0 +1,4 @@
+pub mod BitLemmas
+pub mod LeastLemmas
+pub mod PortLemmas
+pub mod ChanLemmas

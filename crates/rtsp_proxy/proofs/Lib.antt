@@ -1,0 +1,4 @@
+mod Addresses
+mod Lines
+mod Staying
+mod Written

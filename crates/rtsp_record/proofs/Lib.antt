@@ -1,0 +1,13 @@
+pub mod Tables
+pub mod Rows
+pub mod Balance
+pub mod Options
+pub mod Sound
+pub mod Owing
+pub mod Back
+pub mod Trims
+pub mod Strands
+pub mod LastWords
+pub mod SameWords
+pub mod Choices
+pub mod Ports

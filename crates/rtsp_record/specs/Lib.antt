@@ -1,0 +1,12 @@
+pub mod Records
+pub mod Tables
+pub mod Books
+pub mod Sums
+pub mod Choices
+pub mod Rules
+pub mod Sound
+pub mod Ports
+pub mod Moments
+pub mod LastWord
+pub mod Journals
+pub mod Counters

@@ -1,0 +1,15 @@
+pub mod Placing
+pub mod Counting
+pub mod Scheduling
+pub mod Turning
+pub mod Parting
+pub mod Sending
+pub mod Aloneness
+pub mod Wiring
+pub mod Reckoning
+pub mod Founding
+pub mod Dues
+pub mod Progressing
+pub mod Leaving
+pub mod Departing
+pub mod Playing

@@ -1,0 +1,17 @@
+pub mod Packets
+pub mod Parts
+pub mod SenderStates
+pub mod UnitPackets
+pub mod UnitStarts
+pub mod Sinks
+pub mod Buffers
+pub mod Pacing
+pub mod Goodbyes
+pub mod Reports
+pub mod Turns
+pub mod Alone
+pub mod Leaving
+pub mod Wire
+pub mod Progress
+pub mod PacerView
+pub mod Moments

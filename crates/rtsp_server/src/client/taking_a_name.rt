@@ -1,0 +1,75 @@
+//! A connection of a balancer comes by the address of its player.
+
+use super::Client;
+use crate::naming::{Look, Naming, look_for_header};
+use crate::service::Service;
+use crate::tools::Tools;
+use crate::visiting::Visit;
+use rtsp_log::HeaderCause;
+use rtsp_proxy::Origin;
+use std::rt;
+use std::sync::Wait;
+
+impl Client {
+    /// Reads the header where one is awaited. What comes of the visit where the player isn't known then.
+    pub(super) fn take_name<R: Wait + rt::Clock>(
+        &mut self,
+        service: &Service<'_, R>,
+        tools: &mut Tools,
+    ) -> Option<Visit> {
+        let Naming::Awaited(_) = self.naming else {
+            return None;
+        };
+        let piece = tools.piece.as_mut_slice();
+        match look_for_header(self.outlet.stream(), piece, self.is_ending) {
+            Look::Found(origin) => self.take_origin(service, origin),
+            Look::Waits => {
+                self.is_readable = false;
+                Some(Visit::Done)
+            }
+            Look::Refused(cause) => Some(self.refuse_header(service, cause)),
+            Look::Gone => Some(Visit::Ended),
+        }
+    }
+
+    // The header is read: the connection goes on as that of whom it names, where its address has a place
+    // left.
+    fn take_origin<R: Wait + rt::Clock>(
+        &mut self,
+        service: &Service<'_, R>,
+        origin: Origin,
+    ) -> Option<Visit> {
+        let Service { rt, shared, .. } = *service;
+        shared.balancers.note_header(self.asker.peer);
+        let Origin::Player(peer, _) = origin else {
+            self.naming = Naming::Own;
+            return None;
+        };
+        if let Err(why) = shared.gate.name(rt, peer) {
+            shared.note_refused(rt, peer, why);
+            return Some(Visit::Ended);
+        }
+        self.asker.peer = peer;
+        self.naming = Naming::Named;
+        None
+    }
+
+    fn refuse_header<R: Wait + rt::Clock>(
+        &mut self,
+        service: &Service<'_, R>,
+        cause: HeaderCause,
+    ) -> Visit {
+        service
+            .shared
+            .note_header_refused(service.rt, self.asker.peer, cause);
+        Visit::Ended
+    }
+
+    /// The connection ends since its time is over.
+    pub(super) fn end_overdue<R: Wait + rt::Clock>(&mut self, service: &Service<'_, R>) -> Visit {
+        match self.naming {
+            Naming::Awaited(_) => self.refuse_header(service, HeaderCause::Late),
+            Naming::Named | Naming::Own => Visit::Ended,
+        }
+    }
+}

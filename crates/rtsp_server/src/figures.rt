@@ -1,0 +1,282 @@
+//! What is counted and shown of a server, for whoever runs it.
+
+use crate::channels::Channels;
+use crate::further::further;
+use crate::operating::{end_by_operator, sessions_text, standing};
+use crate::service::Service;
+use crate::session_names::{named, viewing_of};
+use crate::shared::Shared;
+use rtsp_content::Table;
+use rtsp_engine::Asker;
+use rtsp_lock::{BookHandle, HandOutFault, Mark, Then};
+use rtsp_log::{Access, EndCause, Event, moment};
+use rtsp_metrics::{BookFigures, Counts, Held, Method, Snapshot};
+use rtsp_record::Entry;
+use rtsp_sockets::RunningClock;
+use rtsp_status::{Further, SessionMeant, Source, Standing};
+use rtsp_threads::OwnUsage;
+use rtsp_watch::{Told, Witness};
+use std::alloc::{AllocError, Global};
+use std::cell::Cell;
+use std::net::Net;
+use std::rt;
+use std::sync::Wait;
+
+// The status of a response to a request for which there was no memory.
+const OUT_OF_MEMORY: u16 = 500;
+
+// The status of one for which there was no more of something.
+const UNAVAILABLE: u16 = 503;
+
+// A mark in a round that no journal comes to, so that nothing is ever handed out behind it.
+const NO_MARK: Mark = Mark {
+    entries: 0,
+    rounds: u64::MAX,
+};
+
+// Whether a SETUP of this status may have opened a session, also one that ended at once: once it has
+// opened one, an admission is refused 453, 500 or 503, or 454 where another has ended the session,
+// who then notes that. A wrong request has another status.
+fn may_have_opened(status: u16) -> bool {
+    matches!(status, 200 | 453 | OUT_OF_MEMORY | UNAVAILABLE)
+}
+
+// Whether a request counts what has been sent of a play.
+fn is_counting(method: Method) -> bool {
+    matches!(method, Method::Play | Method::Pause)
+}
+
+/// Who is told of the answers to a piece of a player's input, and notes what they came to.
+#[derive(Drop)]
+pub(crate) struct AnswerCounter<'a, R> {
+    service: Service<'a, R>,
+    asker: Asker,
+    heard: &'a Cell<Channels>,
+    // The moment of the log's lines, in milliseconds since 1970: the clock is read once for the
+    // requests of a piece, which are answered within some milliseconds.
+    moment: u64,
+    // How many SETUPs may have opened a session.
+    setups: Cell<u64>,
+    is_unavailable: Cell<bool>,
+}
+
+impl<'a, R: rt::Clock> AnswerCounter<'a, R> {
+    pub(crate) fn new(
+        service: &Service<'a, R>,
+        asker: Asker,
+        heard: &'a Cell<Channels>,
+    ) -> AnswerCounter<'a, R> {
+        let moment = if service.shared.log.logs_access() {
+            moment(service.rt)
+        } else {
+            0
+        };
+        AnswerCounter {
+            service: *service,
+            asker,
+            heard,
+            moment,
+            setups: Cell::new(0),
+            is_unavailable: Cell::new(false),
+        }
+    }
+
+    /// A request for whose answer there was no memory is decided.
+    pub(crate) fn end_decision(&self) {
+        self.service.decisions().end();
+    }
+
+    /// So many SETUPs were refused 503 before anything was drawn: their address has no place left.
+    pub(crate) fn note_unplaced(&self, refused: u64) {
+        self.setups.set(self.setups.get().saturating_sub(refused));
+    }
+
+    /// Whether a SETUP may have opened a session.
+    pub(crate) fn has_setup(&self) -> bool {
+        self.setups.get() > 0
+    }
+
+    /// Whether a request was refused since there was no more of something (503).
+    pub(crate) fn is_unavailable(&self) -> bool {
+        self.is_unavailable.get()
+    }
+}
+
+impl<R: Wait + rt::Clock> AnswerCounter<'_, R> {
+    // Notes which session was begun or has ended.
+    fn note_session(&self, method: Method, told: &Told<'_>) {
+        let Service { rt, shared, .. } = self.service;
+        if method == Method::Teardown {
+            shared.ends.note();
+        }
+        if let Some(viewing) = viewing_of(told, self.asker, self.service.now) {
+            shared.audience.enter(rt, viewing);
+        }
+        if let Some(life) = told.ended {
+            shared.end_place(rt, life.session);
+        }
+        if method == Method::Setup && may_have_opened(told.status) {
+            self.setups.set(self.setups.get().saturating_add(1));
+        }
+    }
+
+    // Tells the log of the answer, and of the session that has ended.
+    fn tell(&self, told: &Told<'_>) {
+        let Service {
+            rt,
+            shared,
+            lines,
+            ..
+        } = self.service;
+        let log = &shared.log;
+        if told.status == OUT_OF_MEMORY {
+            log.event(rt, Event::OutOfMemory);
+        }
+        if log.logs_access() {
+            let access = Access {
+                peer: self.asker.peer,
+                conn: self.asker.conn,
+                method: told.method,
+                uri: told.uri,
+                status: told.status,
+                session: named(rt, &shared.audience, told),
+            };
+            lines.add(rt, log, self.moment, access);
+        }
+        if let Some(life) = told.ended {
+            shared.tell_ended(rt, life.session, EndCause::Teardown);
+        }
+    }
+}
+
+impl<R: Wait + rt::Clock> Witness for AnswerCounter<'_, R> {
+    fn asked(&self, method: &[u8]) {
+        if is_counting(Method::of(method)) {
+            let Service { rt, shared, .. } = self.service;
+            let mut clock = RunningClock::new(rt, shared.begun);
+            self.service.decisions().begin(&mut clock);
+        }
+    }
+
+    fn heard(&self, channel: u8) {
+        self.heard.set(self.heard.get().with(channel));
+    }
+
+    fn answered(&self, told: &Told<'_>) {
+        let method = Method::of(told.method);
+        let Service {
+            answers,
+            recorded,
+            ..
+        } = self.service;
+        answers.answered(method, told.status);
+        if is_counting(method) {
+            self.end_decision();
+        }
+        if !matches!(method, Method::Options | Method::Describe) || told.session().is_some() {
+            recorded.note();
+        }
+        self.note_session(method, told);
+        if told.status == UNAVAILABLE {
+            self.is_unavailable.set(true);
+        }
+        self.tell(told);
+    }
+}
+
+// What is held of a whole of which so much is free.
+fn rest_of(whole: u64, free: u64) -> Held {
+    Held {
+        held: whole.saturating_sub(free),
+        free,
+    }
+}
+
+/// Where the figures come from: the server's counters, and one look at its book.
+#[derive(Drop)]
+pub(crate) struct Figures<'a, R> {
+    pub(crate) rt: &'a R,
+    pub(crate) shared: &'a Shared,
+    pub(crate) table: &'a Table,
+    pub(crate) handle: BookHandle,
+    /// What the system says of the process, where it does.
+    pub(crate) usage: Option<OwnUsage>,
+    /// No entry: nothing is handed out to it.
+    pub(crate) nothing: Vec<Entry>,
+}
+
+impl<R: Wait> Figures<'_, R> {
+    // What the book has now.
+    fn book(&mut self) -> BookFigures {
+        let tally = self.handle.tally(self.rt);
+        let numbers = self.table.server();
+        let pairs = u64::from(numbers.pairs);
+        BookFigures {
+            sessions: tally.sessions as u64,
+            rate: Held {
+                held: tally.rate,
+                free: numbers.uplink.saturating_sub(tally.rate),
+            },
+            pairs: rest_of(pairs, tally.free_pairs as u64),
+            ports: rest_of(2 * pairs, tally.free_ports as u64),
+            entries: tally.entries as u64,
+            owed: tally.owed as u64,
+            room: tally.room as u64,
+        }
+    }
+
+    // What was counted so far, by all.
+    fn counts(&mut self) -> Counts {
+        let mut counts = Counts {
+            log_lines_dropped: self.shared.log.dropped(),
+            shortenings: self.shortenings(),
+            ..self.shared.counters.read()
+        };
+        self.shared.lanes.add_answers(self.rt, &mut counts);
+        counts
+    }
+
+    // How often the journal was shortened, which the refusal to hand it out tells.
+    fn shortenings(&mut self) -> u64 {
+        let BookHandle { lock, seat } = &mut self.handle;
+        match seat.hand_out(self.rt, lock, NO_MARK, Then::Leave, &mut self.nothing) {
+            Err(HandOutFault::OtherRound(rounds)) => rounds,
+            Err(HandOutFault::NoRoom(_)) | Ok(_) => 0,
+        }
+    }
+}
+
+impl<R: Wait + Net + rt::Clock> Source for Figures<'_, R> {
+    fn snapshot(&mut self) -> Snapshot {
+        let open = self.shared.gate.open_now();
+        Snapshot {
+            uptime_seconds: self.shared.now(self.rt) / 1_000,
+            connections: Held {
+                held: open,
+                free: self.shared.gate.most().saturating_sub(open),
+            },
+            book: self.book(),
+            counts: self.counts(),
+        }
+    }
+
+    fn further(&mut self, alloc: Global) -> Result<Further, AllocError> {
+        further(self.rt, alloc, self.shared, self.usage.as_ref())
+    }
+
+    fn standing(&mut self) -> Standing {
+        standing(self.rt, self.shared, self.book().rate)
+    }
+
+    fn sessions(&self, alloc: Global) -> Result<Vec<u8>, AllocError> {
+        sessions_text(self.rt, alloc, self.shared)
+    }
+
+    fn drain(&mut self) {
+        self.shared.begin_drain(self.rt);
+    }
+
+    fn end(&mut self, session: SessionMeant) -> bool {
+        end_by_operator(self.rt, self.shared, &mut self.handle, session)
+    }
+}

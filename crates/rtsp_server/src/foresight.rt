@@ -1,0 +1,102 @@
+//! Tells, before it is answered, whether a request may make entries of the journal.
+
+ghost use Rattle.std.specs.Prelude.{◌≤◌, length};
+
+use crate::service::Service;
+use rtsp_book::SessionView;
+use rtsp_grammar::{Item, Method, Request, read_item};
+use rtsp_lock::{BookHandle, Name as LockName};
+use rtsp_state::{Name, ParsedRequest, Screen, renewal, screen};
+use std::rt;
+use std::sync::Wait;
+
+// A header by which a request names a session that its connection sets up. It isn't read here, since some
+// players write it otherwise than RFC 7826.
+const PIPELINED: &[u8] = b"Pipelined-Requests";
+
+/// Tells whether requests of a connection may make entries, as the book stands now.
+#[derive(Drop)]
+pub(crate) struct Foresight<'a, R> {
+    service: &'a Service<'a, R>,
+    handle: &'a mut BookHandle,
+}
+
+impl<'a, R: Wait + rt::Clock> Foresight<'a, R> {
+    /// That of a connection, by its handle of the book.
+    pub(crate) fn new(service: &'a Service<'a, R>, handle: &'a mut BookHandle) -> Foresight<'a, R> {
+        Foresight { service, handle }
+    }
+
+    /// How many bytes at the front are whole items that make no entries.
+    pub(crate) fn harmless_len(&mut self, bytes: &[u8]) -> usize
+        ensures { result ≤ length bytes.now }
+    {
+        let mut rest = bytes;
+        for _ in 0..bytes.len() {
+            match self.harmless_front(rest) {
+                Some(len) => rest = rest.get(len..).unwrap_or_default(),
+                None => break,
+            }
+        }
+        bytes.len().saturating_sub(rest.len())
+    }
+
+    // How long the item at the front is, where it is whole and makes no entries.
+    fn harmless_front(&mut self, bytes: &[u8]) -> Option<usize> {
+        match read_item(self.service.alloc, bytes) {
+            Ok(Some((item, len))) if !self.may_record(&item) => Some(len),
+            Ok(_) | Err(_) => None,
+        }
+    }
+
+    // Whether an item may make entries. RTCP may renew a session, which is an entry once in a while.
+    fn may_record(&mut self, item: &Item) -> bool {
+        match item {
+            Item::Request(request) => self.may_ask(request),
+            Item::Response(_) | Item::Frame(_) => false,
+        }
+    }
+
+    // Whether a request may make entries. One that is answered by its form alone makes none.
+    fn may_ask(&mut self, request: &Request) -> bool {
+        if request.headers.count_of(PIPELINED) > 0 {
+            return true;
+        }
+        match screen(self.service.alloc, request, self.service.table) {
+            Ok(Screen::Answered(_)) => false,
+            Ok(Screen::Asks(parsed)) => match request.method {
+                Method::Setup | Method::Play | Method::Pause | Method::Teardown => true,
+                _ => self.may_renew(&parsed),
+            },
+            Err(_) => true,
+        }
+    }
+
+    // Whether a request moves the end of the session that it names.
+    fn may_renew(&mut self, request: &ParsedRequest<'_>) -> bool {
+        match request.session_name() {
+            Some(Name::Id(id)) => self.is_renewed(request, id),
+            Some(Name::Startup(_)) => true,
+            None => false,
+        }
+    }
+
+    // It stands apart, so that a request that names no session doesn't pay for a session's room on the
+    // stack.
+    #[inline(never)]
+    fn is_renewed(&mut self, request: &ParsedRequest<'_>, id: u128) -> bool {
+        let Service {
+            rt,
+            table,
+            shared,
+            ..
+        } = *self.service;
+        let mut found: Option<SessionView> = None;
+        let BookHandle { lock, seat } = &mut *self.handle;
+        seat.look_into(rt, lock, LockName::Id(id), &mut found);
+        match &found {
+            Some(view) => renewal(request, table, view, shared.now(rt)).is_some(),
+            None => false,
+        }
+    }
+}

@@ -1,0 +1,279 @@
+//! What the threads of a server share.
+
+use crate::all_lanes::AllLanes;
+use crate::balancers::Balancers;
+use crate::draining::Draining;
+use crate::end_lines::EndLines;
+use crate::end_note::EndNote;
+use crate::opening::Opening;
+use crate::stopping::StopTimes;
+use crate::unread::HELD_IN_ALL;
+use mio::net::TcpListener;
+use rtsp_content::{Operation, Server, Table};
+use rtsp_lock::BookHandle;
+use rtsp_log::{BATCH_LINES, Event, HeaderCause, Log, moment};
+use rtsp_metrics::{Audience, Counters};
+use rtsp_pacing::Bells;
+use rtsp_shares::{ShareTable, Watermark};
+use rtsp_sockets::{Decisions, LENT_IN_ALL, Outlets, PortBinder, PortTable, SharedRoom};
+use rtsp_status::Halt;
+use rtsp_threads::{
+    FEW_LINES, Gate, LAST_ROOM, LOG_LINES, Refused, ScribeBell, StopBell, ask_for_room, end_place,
+    make_room,
+};
+use std::alloc::{AllocError, Global};
+use std::net::Ipv4Addr;
+use std::sync::atomic::AtomicU64;
+use std::sync::{Arc, Mutex, Wait};
+use std::time::Instant;
+use std::{io, rt};
+
+/// The memory that is lent to all connections together.
+#[derive(Drop)]
+pub(crate) struct Lent {
+    /// For frames that wait.
+    pub(crate) frames: Arc<SharedRoom>,
+    /// For messages that aren't whole.
+    pub(crate) unread: Arc<SharedRoom>,
+}
+
+impl Lent {
+    fn open(alloc: Global) -> Result<Lent, AllocError> {
+        Ok(Lent {
+            frames: SharedRoom::open(alloc, LENT_IN_ALL)?,
+            unread: SharedRoom::open(alloc, HELD_IN_ALL)?,
+        })
+    }
+}
+
+/// What the threads of a server share beside the book.
+pub(crate) struct Shared {
+    pub(crate) listener: TcpListener,
+    pub(crate) gate: Gate,
+    /// Those whose connections begin with a header.
+    pub(crate) balancers: Balancers,
+    /// What addresses have of the sessions, where each has a share of them.
+    pub(crate) session_shares: Option<Mutex<ShareTable>>,
+    pub(crate) outlets: Outlets,
+    pub(crate) lent: Lent,
+    pub(crate) ports: PortTable,
+    /// The pacers', by which they learn of plays.
+    pub(crate) bells: Bells,
+    /// The sweeper's.
+    pub(crate) stop_bell: StopBell,
+    /// That of the thread that writes the journal to files, where one does.
+    pub(crate) scribe: Option<ScribeBell>,
+    /// Ends the thread that shows the figures.
+    pub(crate) halt: Halt,
+    /// What is counted for whoever runs the server.
+    pub(crate) counters: Counters,
+    /// Who watches what.
+    pub(crate) audience: Audience,
+    /// What is told to whoever runs the server.
+    pub(crate) log: Log,
+    pub(crate) end_lines: EndLines,
+    /// From when on moments are counted, and when that was, in milliseconds since 1970.
+    pub(crate) begun: Instant,
+    pub(crate) started: u64,
+    /// How far the lanes have read, so that connections which were silent up to then are over.
+    pub(crate) watermark: Mutex<Watermark>,
+    pub(crate) ends: EndNote,
+    pub(crate) draining: Draining,
+    /// When a sweep saw last that the journal is written, where it is to be.
+    pub(crate) written_at: AtomicU64,
+    pub(crate) lanes: AllLanes,
+    pub(crate) decisions: Decisions,
+}
+
+// Written out, so that whoever lets go of it makes one call, and not one for each of its parts.
+impl Drop for Shared {
+    fn drop(self) {
+        let Self {
+            listener: _listener,
+            gate: _gate,
+            balancers: _balancers,
+            session_shares: _session_shares,
+            outlets: _outlets,
+            lent: _lent,
+            ports: _ports,
+            bells: _bells,
+            stop_bell: _stop_bell,
+            scribe: _scribe,
+            halt: _halt,
+            counters: _counters,
+            audience: _audience,
+            log: _log,
+            end_lines: _end_lines,
+            begun: _,
+            started: _,
+            watermark: _watermark,
+            ends: _ends,
+            draining: _draining,
+            written_at: _written_at,
+            lanes: _lanes,
+            decisions: _decisions,
+        } = self;
+    }
+}
+
+// What addresses have of the sessions, where each has at most so many. There is room for all that live
+// and for one more of each lane, and for as many whose end nobody has told yet.
+fn session_shares(alloc: Global, numbers: Server) -> Result<Option<Mutex<ShareTable>>, AllocError> {
+    let Some(share) = numbers.sessions_per_address else {
+        return Ok(None);
+    };
+    let most = 2 * usize::from(numbers.sessions) + usize::from(numbers.workers);
+    let shares = ShareTable::new(alloc, usize::from(share), most)?;
+    Ok(Some(Mutex::new(shares)))
+}
+
+// The log, in which lines of requests wait in batches.
+fn open_log(alloc: Global, logs_access: bool) -> Result<Log, AllocError> {
+    let room = if logs_access {
+        LOG_LINES / BATCH_LINES
+    } else {
+        FEW_LINES
+    };
+    Log::new(alloc, room, logs_access)
+}
+
+// The bell of the thread that writes the journal to files, where one does.
+fn scribe_bell(operation: &Operation) -> Option<ScribeBell> {
+    let files = operation.journal()?;
+    Some(ScribeBell::new(files.sync()))
+}
+
+impl Shared {
+    /// What the threads of this server share, which serves so many connections of this listener, or any
+    /// number.
+    pub(crate) fn open<R: rt::Clock>(
+        rt: &R,
+        alloc: Global,
+        of: Opening<'_>,
+        listener: TcpListener,
+        connections: Option<u64>,
+    ) -> io::Result<Shared> {
+        let numbers = of.table.server();
+        let begun = Instant::now(rt)?;
+        let watermark = Watermark::new(alloc, usize::from(numbers.workers))?;
+        let lent = Lent::open(alloc)?;
+        let ports = PortTable::open(alloc, numbers.first_port, numbers.pairs)?;
+        let bells = Bells::new(alloc, of.pacers, numbers.sessions)?;
+        let gate = Gate::new(alloc, connections, numbers.connections_per_address)?;
+        let balancers = Balancers::open(alloc, of.operation.proxy())?;
+        let session_shares = session_shares(alloc, numbers)?;
+        let audience = Audience::open(alloc, of.table.presentations().len())?;
+        let log = open_log(alloc, of.operation.access_log())?;
+        let end_lines = EndLines::open(alloc, of.table)?;
+        Ok(Shared {
+            listener,
+            gate,
+            balancers,
+            session_shares,
+            outlets: Outlets::new(alloc),
+            lent,
+            ports,
+            bells,
+            stop_bell: StopBell::new(),
+            scribe: scribe_bell(of.operation),
+            halt: Halt::new(),
+            counters: Counters::new(),
+            audience,
+            log,
+            end_lines,
+            begun,
+            started: moment(rt),
+            watermark: Mutex::new(watermark),
+            ends: EndNote::new(),
+            draining: Draining::new(of.operation.drain()),
+            written_at: AtomicU64::new(0),
+            lanes: AllLanes::new(alloc),
+            decisions: Decisions::open(alloc, usize::from(numbers.workers))?,
+        })
+    }
+
+    /// The present moment, in milliseconds since the beginning, or 0 where the system can't tell.
+    pub(crate) fn now<R: rt::Clock>(&self, rt: &R) -> u64 {
+        match self.begun.elapsed(rt) {
+            Ok(elapsed) => u64::try_from(elapsed.as_millis()).unwrap_or(u64::MAX),
+            Err(_) => 0,
+        }
+    }
+
+    /// A binder that unbinds what sessions leave, and binds nothing.
+    pub(crate) fn unbinder<'a, R>(&'a self, rt: &'a R) -> PortBinder<'a, R> {
+        PortBinder::new(rt, &self.ports, Ipv4Addr::UNSPECIFIED)
+    }
+
+    /// Keeps the journal from filling. Whether there is room for what a piece may record.
+    pub(crate) fn make_room<R: Wait + rt::Clock>(
+        &self,
+        rt: &R,
+        table: &Table,
+        lane: &mut BookHandle,
+    ) -> bool {
+        match &self.scribe {
+            Some(scribe) => ask_for_room(rt, table, lane, scribe),
+            None => make_room(rt, table, lane),
+        }
+    }
+
+    /// A session has ended: the place that its address had for it is given back.
+    pub(crate) fn end_place<R: Wait>(&self, rt: &R, session: u64) {
+        if let Some(places) = &self.session_shares {
+            end_place(rt, places, session);
+        }
+    }
+
+    /// A connection from this address was closed at once.
+    pub(crate) fn note_refused<R: Wait + rt::Clock>(&self, rt: &R, peer: u32, why: Refused) {
+        self.counters.turned_away();
+        match why {
+            Refused::Share => self.log.event(rt, Event::ShareSpent { peer }),
+            Refused::Full => self.log.event(rt, Event::TooManyConnections),
+            Refused::Over => {}
+        }
+    }
+
+    /// A connection of the balancer at this address was closed, since its header was refused.
+    pub(crate) fn note_header_refused<R: Wait + rt::Clock>(
+        &self,
+        rt: &R,
+        balancer: u32,
+        cause: HeaderCause,
+    ) {
+        self.counters.header_refused();
+        self.balancers.note_refused(rt, &self.log, balancer, cause);
+    }
+
+    /// A connection was closed at once, since there is no descriptor.
+    pub(crate) fn note_no_descriptor<R: Wait + rt::Clock>(&self, rt: &R) {
+        self.counters.turned_away();
+        self.log.event(rt, Event::NoDescriptor);
+    }
+
+    /// Requests were refused since there was no more of something. Where that may be the journal's room,
+    /// the log tells of it.
+    pub(crate) fn note_unavailable<R: Wait + rt::Clock>(&self, rt: &R, lane: &mut BookHandle) {
+        if lane.tally(rt).room < LAST_ROOM {
+            self.log.event(rt, Event::JournalFull);
+        }
+    }
+
+    /// Has the lanes end: no connection is let in any more, and those that are open are answered
+    /// what they have asked, and hung up, at the latest at the first of these moments.
+    pub(crate) fn begin_stop<R: Wait>(&self, rt: &R, times: StopTimes) {
+        self.gate.shut();
+        self.lanes.set_stop(rt, times);
+    }
+
+    /// Ends the threads beside the lanes, but for that of the log and those that disks hold up.
+    pub(crate) fn stop<R: Wait>(&self, rt: &R) {
+        self.bells.stop(rt);
+        self.stop_bell.ring(rt);
+        self.halt.halt();
+        if let Some(scribe) = &self.scribe {
+            scribe.files.leave(rt);
+        }
+    }
+}

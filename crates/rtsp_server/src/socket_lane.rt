@@ -1,0 +1,96 @@
+//! A lane of sockets.
+
+use crate::clients::Clients;
+use crate::lane_lines::LaneLines;
+use crate::recorded::Recorded;
+use crate::service::Service;
+use crate::shared::Shared;
+use crossbeam_utils::CachePadded;
+use rtsp_content::Table;
+use rtsp_lock::BookHandle;
+use rtsp_metrics::AnswerCounters;
+use rtsp_threads::{Lane, LaneTurn, RoomLooks};
+use std::alloc::Global;
+use std::cell::Cell;
+use std::fs::File;
+use std::net::Net;
+use std::rt::Files;
+use std::sync::{Arc, Wait};
+use std::{io, net, rt};
+
+/// A lane of sockets: connections of one listener, which other lanes accept from too, each answered
+/// when the system tells that something has come.
+#[derive(Drop)]
+pub struct SocketLane {
+    shared: Arc<Shared>,
+    answers: Arc<CachePadded<AnswerCounters>>,
+    lines: LaneLines,
+    recorded: Recorded,
+    looks: Cell<RoomLooks>,
+    clients: Clients,
+    // Whether it has begun.
+    stands: bool,
+}
+
+impl SocketLane {
+    /// A lane without connections, which accepts from this listener.
+    pub(crate) fn open<R: Wait + Net + Files<File = File>>(
+        rt: &R,
+        alloc: Global,
+        shared: &Arc<Shared>,
+        number: usize,
+        listener: net::TcpListener,
+    ) -> io::Result<SocketLane> {
+        let answers = shared.lanes.answer_counters(rt, alloc)?;
+        let shared = Arc::try_clone(shared)?;
+        let clients = Clients::open(rt, alloc, &shared, number, listener)?;
+        Ok(SocketLane {
+            shared,
+            answers,
+            lines: LaneLines::new(alloc),
+            recorded: Recorded::new(),
+            looks: Cell::new(RoomLooks::new()),
+            clients,
+            stands: false,
+        })
+    }
+}
+
+impl Lane for SocketLane {
+    fn turn<R: Wait + Net<Listener = net::TcpListener, Stream = net::TcpStream> + rt::Clock>(
+        &mut self,
+        rt: &R,
+        alloc: Global,
+        handle: &mut BookHandle,
+        table: &Table,
+    ) -> LaneTurn {
+        if !self.stands {
+            self.stands = true;
+            self.shared.lanes.note_standing();
+        }
+        let SocketLane {
+            shared,
+            answers,
+            lines,
+            recorded,
+            looks,
+            clients,
+            ..
+        } = self;
+        let told = clients.wait(rt, &shared.lanes, lines, looks.get());
+        let now = clients.begin_turn(shared.now(rt));
+        let service = Service {
+            rt,
+            alloc,
+            table,
+            shared: &**shared,
+            answers: &***answers,
+            lines,
+            recorded,
+            looks,
+            lane: clients.number,
+            now,
+        };
+        clients.serve(&service, handle, told)
+    }
+}

@@ -1,0 +1,5 @@
+pub mod Places
+pub mod Living
+pub mod Keeping
+pub mod Heads
+pub mod Watermark

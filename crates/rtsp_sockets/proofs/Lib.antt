@@ -1,0 +1,4 @@
+pub mod Known
+pub mod Passing
+pub mod Sources
+pub mod Reading

@@ -1,0 +1,12 @@
+pub mod Rooms
+pub mod Passing
+pub mod Sockets
+pub mod Slots
+pub mod SourceWords
+pub mod Clocks
+pub mod Files
+pub mod Cuts
+pub mod Media
+pub mod Asking
+pub mod Wishes
+pub mod Taken

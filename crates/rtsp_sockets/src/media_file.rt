@@ -1,0 +1,72 @@
+//! The file of a track.
+
+ghost use Rattle.std.specs.Prelude.{◌≡◌, ◌≤◌, ◌+◌, ℕ, length, Some, OnOk, OnErr, IfOk, IsOk};
+ghost use Rattle.std.specs.Global.{Vec};
+ghost use Rattle.rtsp_sockets.specs.Files.{StandAt, Holds};
+
+use crate::media::MediaFault;
+use crate::read_at::ReadAt;
+use crate::unit::copy_unit;
+use std::alloc::Global;
+use std::fs::File;
+use std::os::unix::fs::MetadataExt;
+use std::rt::Files;
+
+// The file of a track.
+#[derive(Drop)]
+pub(crate) struct MediaFile<F: ReadAt> {
+    pub(crate) file: F,
+    pub(crate) len: u64,
+    // All of it, where it is held in memory.
+    pub(crate) held: Option<Vec<u8>>,
+    // The number of the disk that it is on, as the system has it.
+    pub(crate) device: u64,
+    ghost whole: { (bytes : Vec ℕ) → held ≡ Some bytes → StandAt (F.text (F.number file)) 0 bytes.items },
+}
+
+impl MediaFile<File> {
+    // Opens a file that has to have so many bytes.
+    pub(crate) fn open<R: Files<File = File>>(
+        rt: &R,
+        path: &str,
+        len: u64,
+    ) -> Result<MediaFile<File>, MediaFault>
+        ensures { IfOk result (λ f. f.len ≡ len) }
+    {
+        let file = File::open(rt, path).map_err(|_| MediaFault::Unreadable)?;
+        let metadata = file.metadata().map_err(|_| MediaFault::Unreadable)?;
+        if metadata.len() != len {
+            return Err(MediaFault::WrongLength);
+        }
+        Ok(MediaFile {
+            file,
+            len,
+            held: None,
+            device: metadata.dev(),
+        })
+    }
+}
+
+impl<F: ReadAt> MediaFile<F> {
+    // Holds it in memory.
+    pub(crate) fn hold(&mut self, alloc: Global) -> Result<(), MediaFault>
+        ensures held { OnOk result (Holds self.new.held self.old.len) }
+        ensures file { self.new.file ≡ self.old.file }
+        ensures len { self.new.len ≡ self.old.len }
+    {
+        let len = usize::try_from(self.len).map_err(|_| MediaFault::OutOfMemory)?;
+        let mut bytes = Vec::from_elem(alloc, 0, len)?;
+        self.file.fill_at(0, bytes.as_mut_slice())?;
+        self.held = Some(bytes);
+        Ok(())
+    }
+    // Copies what stands at a place of what is held in memory of it.
+    pub(crate) fn copy(&self, bytes: &Vec<u8>, at: u64, out: &mut [u8]) -> Result<(), MediaFault>
+        requires { self.now.held ≡ Some bytes.now }
+        ensures ok { OnOk result (StandAt (F.text (F.number self.now.file)) at out.new) }
+        ensures there { at + length out.old ≤ length bytes.now.items → IsOk result }
+        ensures err { OnErr result (out.new ≡ out.old) }
+    {
+        copy_unit(bytes.as_slice(), at, out)
+    }
+}

@@ -1,0 +1,43 @@
+//! What holds of every answer. These functions do nothing: their contracts are the laws.
+
+ghost use Rattle.rtsp_state.specs.Laws.{ReadsOnce, AnswersRefusal, ShowsAllowed, AllowedIsValid, AnswersInOrder, ShowsSession};
+ghost use Rattle.rtsp_state.specs.Renewal.{RenewsInSteps};
+
+/// What is handed on of a request is what it says, so that nothing of it is read again.
+pub fn law_reads_once()
+    ensures { ReadsOnce }
+{}
+
+/// A renewal moves the end of its session by the configuration's `renewal_step` at least. After each
+/// request but TEARDOWN whose renewal isn't refused, the session ends later than the timeout from
+/// then, less that step. With the step 1 the session's end is then the later of the one that it had
+/// and the timeout from then.
+pub fn law_renews_in_steps()
+    ensures { RenewsInSteps }
+{}
+
+/// A refused step or admission is answered by the status of its refusal.
+pub fn law_answers_refusal()
+    ensures { AnswersRefusal }
+{}
+
+/// Each 455 has an Allow header with the methods that no state refuses.
+pub fn law_shows_allowed()
+    ensures { ShowsAllowed }
+{}
+
+/// OPTIONS, DESCRIBE, GET_PARAMETER and SET_PARAMETER are answered in each state, and never by 455.
+pub fn law_allowed_is_valid()
+    ensures { AllowedIsValid }
+{}
+
+/// The headers of every response are in their one order.
+pub fn law_answers_in_order()
+    ensures { AnswersInOrder }
+{}
+
+/// Before a session is looked up no response has a Session header. From then on one has it exactly
+/// if the session is alive after the request, or was opened by it.
+pub fn law_shows_session()
+    ensures { ShowsSession }
+{}

@@ -1,0 +1,10 @@
+pub mod ByteLemmas
+pub mod TrimLemmas
+pub mod PaddingLemmas
+pub mod SearchLemmas
+pub mod SplitLemmas
+pub mod FindsLemmas
+pub mod DecimalLemmas
+pub mod HexLemmas
+pub mod AppendLemmas
+pub mod LineLemmas

@@ -1,0 +1,13 @@
+pub mod Bytes
+pub mod Trim
+pub mod SplitOnce
+pub mod Slices
+pub mod Decimal
+pub mod Hexadecimal
+pub mod Text
+pub mod Appending
+pub mod Options
+pub mod Results
+pub mod Span
+pub mod Line
+pub mod LineAt

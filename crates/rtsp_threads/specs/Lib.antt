@@ -1,0 +1,4 @@
+pub mod Looks
+pub mod Leaving
+pub mod Silence
+pub mod Waits

@@ -1,0 +1,32 @@
+//! Ends a session because whoever runs the server asks for it.
+
+ghost use Rattle.std.specs.Prelude.{◌≡◌};
+ghost use Rattle.std.specs.Arc.{arc_value};
+ghost use Rattle.rtsp_lock.specs.Calls.{SameSeat};
+
+use rtsp_admit::unbind_freed;
+use rtsp_book::{Receipt, Step};
+use rtsp_engine::Binder;
+use rtsp_lock::BookHandle;
+use std::sync::Wait;
+
+/// Ends a session by the step of a TEARDOWN. The binder unbinds what it had. Whether there was such a
+/// session.
+pub fn end_session<R: Wait, B: Binder>(
+    rt: &R,
+    handle: &mut BookHandle,
+    binder: &mut B,
+    session: u64,
+) -> bool
+    ensures same { SameSeat handle.old.seat handle.new.seat }
+    ensures lock { arc_value handle.new.lock ≡ arc_value handle.old.lock }
+{
+    let mut made = Receipt::new();
+    let step = Step::End { session };
+    let ended = handle.seat.act_into(rt, &handle.lock, &step, &mut made);
+    if ended.is_err() {
+        return false;
+    }
+    unbind_freed(binder, &made);
+    true
+}

@@ -1,0 +1,4 @@
+pub mod Devices
+pub mod NoShares
+pub mod PortSet
+pub mod Has

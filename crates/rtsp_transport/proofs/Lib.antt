@@ -1,0 +1,16 @@
+pub mod SplitLemmas
+pub mod PartsLemmas
+pub mod Cutting
+pub mod EachPart
+pub mod ReadsLemmas
+pub mod TransportLemmas
+pub mod SessionLemmas
+pub mod IdLemmas
+pub mod AddressLemmas
+pub mod PeerLemmas
+pub mod ChannelLemmas
+pub mod FittingLemmas
+pub mod PickingLemmas
+pub mod TagsLemmas
+pub mod LawLemmas
+pub mod GrantedLemmas

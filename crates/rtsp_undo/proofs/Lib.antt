@@ -1,0 +1,9 @@
+pub mod Admissions
+pub mod Exchange
+pub mod Journals
+pub mod Ended
+pub mod Steps
+pub mod Fitting
+pub mod Replaying
+pub mod Comparing
+pub mod Living

@@ -1,0 +1,3 @@
+pub mod Watching
+pub mod Understanding
+pub mod Ending

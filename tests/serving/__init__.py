@@ -1,0 +1,1 @@
+"""Tests of `rtspd serve` over real sockets on the loopback; tests/serve runs them."""
