@@ -13,6 +13,7 @@ INSTALLED = {
     "check-journals": "rtspd-check-journals",
     "whole-lines": "rtspd-whole-lines",
     "picture": "rtspd-picture",
+    "user": "rtspd-user",
     "examples/play": "rtspd-play",
     "examples/import": "rtspd-import",
 }

@@ -8,6 +8,7 @@ import time
 from typing import Callable, Deque, Dict, Iterable, List, Optional, Tuple
 from urllib.parse import urlsplit
 
+from .credentials import Credentials
 from .messages import BadMessage, Frame, Message, Reader, written
 
 VERSION = "RTSP/2.0"
@@ -136,7 +137,10 @@ class UdpPort:
 class Connection:
     """One TCP connection. Whatever comes is taken by `wait`, and by `ask` while it waits for its answer."""
 
-    def __init__(self, host: str, port: int, receive_buffer: Optional[int] = None) -> None:
+    def __init__(
+        self, host: str, port: int, receive_buffer: Optional[int] = None, credentials: Optional[Credentials] = None
+    ) -> None:
+        self.credentials = credentials
         self.socket = socket.socket(socket.AF_INET, socket.SOCK_STREAM)
         if receive_buffer is not None:
             self.socket.setsockopt(socket.SOL_SOCKET, socket.SO_RCVBUF, receive_buffer)
@@ -159,7 +163,8 @@ class Connection:
     def send(self, method: str, uri: str, headers: Headers = (), body: bytes = b"") -> int:
         """Sends a request, and returns its CSeq."""
         self.cseq += 1
-        self.send_bytes(written(f"{method} {uri} {VERSION}", [("CSeq", str(self.cseq)), *headers], body))
+        proof = self.credentials.headers(method, uri) if self.credentials else []
+        self.send_bytes(written(f"{method} {uri} {VERSION}", [("CSeq", str(self.cseq)), *headers, *proof], body))
         return self.cseq
 
     def send_bytes(self, data: bytes) -> None:
@@ -170,8 +175,11 @@ class Connection:
             raise Refused(f"the connection broke: {why.strerror or why}") from None
 
     def ask(self, method: str, uri: str, headers: Headers = (), body: bytes = b"") -> Message:
-        """Sends a request, and waits for its answer."""
-        return self.answer(self.send(method, uri, headers, body))
+        """Sends a request, and waits for its answer; once more where the server asks who it is from."""
+        answer = self.answer(self.send(method, uri, headers, body))
+        if self.credentials and self.credentials.take(answer):
+            return self.answer(self.send(method, uri, headers, body))
+        return answer
 
     def answer(self, cseq: Optional[int] = None) -> Message:
         """The next answer; where a CSeq is given, the next one of it, and others are dropped."""

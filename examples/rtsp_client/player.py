@@ -5,6 +5,7 @@ import time
 from typing import Callable, List, NamedTuple, Optional, Tuple, Union
 
 from .connection import Connection, LentPair, Refused, UdpPair, UdpPort, address_of, without_user
+from .credentials import Credentials
 from .messages import Message
 from .rtp import Reception
 
@@ -84,10 +85,12 @@ class Stream:
 class Player:
     """One session on one connection."""
 
-    def __init__(self, uri: str, way: Way, receive_buffer: Optional[int] = None) -> None:
+    def __init__(
+        self, uri: str, way: Way, receive_buffer: Optional[int] = None, credentials: Optional[Credentials] = None
+    ) -> None:
         self.uri = without_user(uri)
         self.way = way
-        self.connection = Connection(*address_of(uri), receive_buffer)
+        self.connection = Connection(*address_of(uri), receive_buffer, credentials or Credentials.of_uri(uri))
         self.streams: List[Stream] = []
         self.session: Optional[str] = None
         self.timeout = TIMEOUT

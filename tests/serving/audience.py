@@ -7,6 +7,7 @@ import subprocess
 import time
 from typing import List, Optional, Tuple
 
+import status_page
 from checks import TOP, Checks
 from rtsp_client.player import Player, Way
 
@@ -20,6 +21,10 @@ NAME = r"\d+:[0-9a-f]{8}"
 # A sweep is each second, and a session whose end nobody told is seen twice.
 SWEPT = 4.0
 MOST_FILMS = 256
+# How often a sample of the page's plots is taken, in seconds.
+SAMPLED = 10.0
+UPLINK = "Uplink held, and sent below it, bit/s"
+MINUTE = SHORT._replace(units=3_000)
 OVER_TCP = "RTP/AVP/TCP;unicast;interleaved=0-1"
 ENDS = "TEARDOWN", "hang-up", "the operator", "the stop"
 
@@ -221,6 +226,30 @@ def figures_of_many_films(checks: Checks) -> None:
         checks.same("those that aren't 0", wanted, {it: value for it, value in by_film.items() if value})
         rows = re.findall(r"<tr><th>(film-\d+|tone)<td", asked(port, "GET", "/")[1])
         checks.same("rows of the page", MOST_FILMS, len(rows))
+        player.tear_down()
+
+
+@serving_test(limit=60)
+def the_page_shows_the_last_minutes(checks: Checks) -> None:
+    """Who plays is there, without an address; each ten seconds each plot has a point more, and what is sent is never
+    above what is held."""
+    port, address = shown_at()
+    with Telling(checks, MINUTE, status=address) as server:
+        player = server.player(Way.UDP)
+        set_up_all(player)
+        player.play(0.0)
+        player.listen(3 * SAMPLED)
+        page = asked(port, "GET", "/")[1]
+        seen = sessions(port)[0]
+        checks.same("who plays", [seen["session"]], list(status_page.read(page)["Players"]))
+        checks.that("no address", HERE not in page, page)
+        found = status_page.plots(page)
+        checks.same("plots", ["How late 99 of 100 packets were at most, ms", "Requests refused in ten seconds", "Sessions", UPLINK], sorted(found))
+        sessions_curve, held, sent = *found["Sessions"], *found[UPLINK]
+        checks.that("a point each ten seconds", 2 <= len(sessions_curve) <= 3, sessions_curve)
+        checks.same("the newest is at the right, and one session lives", (890, 0), sessions_curve[-1])
+        checks.that("what is sent is below what is held", all(high[1] <= low[1] for high, low in zip(held, sent)), (held, sent))
+        checks.that("something is", 0 < 100 - sent[-1][1], sent)
         player.tear_down()
 
 

@@ -1,6 +1,7 @@
 """Behind a balancer: connections that begin with the header of a player whom the balancer names, of the PROXY protocol."""
 import contextlib
 import re
+import resource
 import socket
 import struct
 import time
@@ -9,6 +10,7 @@ from typing import Iterator, List, Optional, Tuple
 from checks import Checks
 from rtsp_client.messages import written
 
+from .crowds import MOST_CONNECTIONS, OTHER_DESCRIPTORS
 from .events import Telling, is_told
 from .operator import figures, shown_at
 from .runner import serving_test
@@ -195,6 +197,43 @@ def a_header_that_never_comes(checks: Checks) -> None:
         is_told(checks, server, "it is told", rb"warning a header .* was refused: it didn't come in time")
 
 
+@serving_test(limit=60, is_alone=True)
+def headers_that_never_come_on_all_connections(checks: Checks) -> None:
+    """As many connections of the balancer as the server lets in, and none sends one: each is closed, and memory stays."""
+    _, hard = resource.getrlimit(resource.RLIMIT_NOFILE)
+    count = min(MOST_CONNECTIONS, hard - OTHER_DESCRIPTORS)
+    with Telling(checks, proxy=LISTED) as server:
+        server.answers("before")
+        memory = server.resident_bytes()
+        silent = [Balanced(server, b"").socket for _ in range(count)]
+        began = time.monotonic()
+        for it in silent:
+            it.settimeout(12.0)
+        checks.same("what comes of each", {b""}, {comes(it) for it in silent})
+        took = time.monotonic() - began
+        checks.that("in 5 s, or at the sweep behind", took < 9.0, took)
+        with balanced(server, PLAYER) as (talk,):
+            checks.same("a player afterwards", 200, talk.ask("OPTIONS", "*", []).status)
+        each = (server.resident_bytes() - memory) / count
+        checks.that("each took less than 4 kB of memory", each < 4096, each)
+        is_told(checks, server, "it is told", rb"warning a header .* was refused: it didn't come in time")
+        for it in silent:
+            it.close()
+
+
+@serving_test(limit=30)
+def half_a_request_behind_a_header(checks: Checks) -> None:
+    """Connections that end within a request, as where TLS ends at the balancer: nothing is left of them."""
+    with Telling(checks, proxy=LISTED) as server:
+        before = server.descriptors_at_rest()
+        for front in line_for(PLAYER), binary_for(PLAYER), LOCAL:
+            for length in 1, len(OPTIONS) // 2, len(OPTIONS) - 1:
+                Balanced(server, front + OPTIONS[:length]).socket.close()
+        checks.same("descriptors", before, server.descriptors_fall_to(before, 5.0))
+        with balanced(server, PLAYER) as (talk,):
+            checks.same("a player afterwards", 200, talk.ask("OPTIONS", "*", []).status)
+
+
 @serving_test(limit=30)
 def players_behind_a_balancer_have_shares_of_their_own(checks: Checks) -> None:
     """Of connections and of sessions; what the balancer does by itself takes none, and one player beyond it is closed."""
@@ -240,6 +279,61 @@ def packets_pass_a_balancer_by(checks: Checks) -> None:
             checks.same("packets that come, in a row", [(numbers[0] + at) % 65536 for at in range(20)], numbers)
             talk.ask("TEARDOWN", server.uri, [("Session", session or "")])
             checks.same("its own address", 200, set_up(talk, server.uri, PLAYER, port)[0])
+
+
+SOURCE = re.compile(r"src_addr=([^;]*)")
+OVER_UDP = {
+    'RTP/AVP;unicast;dest_addr=":{0}"/":{1}"': r'"{host}:(\d+)"/"{host}:(\d+)"',
+    'RTP/AVP;unicast;RTCP-mux;dest_addr=":{0}"': r'"{host}:(\d+)"',
+}
+
+
+def told_source(talk: Talk, uri: str, transport: str) -> Tuple[str, str]:
+    """What a SETUP is told of where packets come from, and its session."""
+    answer = talk.ask("SETUP", f"{uri}/a", [("Transport", transport)])
+    source = SOURCE.search(answer.header("Transport") or "")
+    return source[1] if source else "", (answer.header("Session") or "").partition(";")[0]
+
+
+@serving_test(limit=40)
+def the_host_is_told_behind_a_balancer(checks: Checks) -> None:
+    """Over UDP, by either version and on two ports or one, and packets come from it; whoever connects to it isn't told."""
+    with Server(checks, proxy=LISTED) as server, contextlib.closing(socket.socket(type=socket.SOCK_DGRAM)) as ear:
+        ear.bind((PLAYER, 0))
+        ear.settimeout(WITHIN)
+        port = ear.getsockname()[1]
+        direct = Talk(server, PLAYER)
+        with direct.socket, balanced(server, PLAYER, PLAYER) as talks:
+            for transport, form in OVER_UDP.items():
+                wanted = transport.format(port, port + 1)
+                for talk in talks:
+                    source, session = told_source(talk, server.uri, wanted)
+                    told = re.fullmatch(form.format(host=re.escape(server.host)), source)
+                    checks.that("the host of each port", told is not None, source)
+                    talk.ask("PLAY", server.uri, [("Session", session)])
+                    came = ear.recvfrom(2048)[1]
+                    checks.same("where a packet comes from", (server.host, int(told[1]) if told else 0), came)
+                    checks.same("its end", 200, talk.ask("TEARDOWN", server.uri, [("Session", session)]).status)
+                    emptied(ear)
+                source, session = told_source(direct, server.uri, wanted)
+                checks.that("directly there is none", re.fullmatch(form.format(host=""), source) is not None, source)
+                direct.ask("TEARDOWN", server.uri, [("Session", session)])
+            source, session = told_source(talks[0], server.uri, "RTP/AVP/TCP;unicast;interleaved=0-1")
+            checks.same("over the connection", "", source)
+            talks[0].ask("TEARDOWN", server.uri, [("Session", session)])
+            checking = Balanced(server, LOCAL)
+            with checking.socket:
+                source, session = told_source(checking, server.uri, next(iter(OVER_UDP)).format(9, 9))
+                checks.that("of the balancer's own there is none", re.fullmatch(r'":\d+"/":\d+"', source) is not None, source)
+
+
+def emptied(ear: socket.socket) -> None:
+    """Takes the packets that have come, until none comes for a while."""
+    ear.settimeout(0.1)
+    with contextlib.suppress(TimeoutError):
+        while ear.recv(2048):
+            pass
+    ear.settimeout(WITHIN)
 
 
 @serving_test(limit=30)

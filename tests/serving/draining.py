@@ -160,25 +160,29 @@ def balancer(checks: Checks, server: int, status: int) -> Iterator[Optional[path
             running.wait()
 
 
-def balanced(admin: pathlib.Path) -> Dict[str, str]:
-    """How HAProxy sees the server: its columns by their names."""
+def told_to(admin: pathlib.Path, command: str) -> str:
+    """What HAProxy answers at its socket; nothing where it isn't there."""
     with socket.socket(socket.AF_UNIX, socket.SOCK_STREAM) as talk:
         talk.settimeout(5)
         try:
             talk.connect(str(admin))
         except OSError:
-            return {}
-        talk.sendall(b"show stat rtsp 4 -1\n")
-        text = b"".join(iter(lambda: talk.recv(65536), b"")).decode()
-    lines = [it.split(",") for it in text.lstrip("# ").splitlines() if it]
-    return dict(zip(lines[0], lines[1])) if len(lines) > 1 else {}
+            return ""
+        talk.sendall(f"{command}\n".encode())
+        return b"".join(iter(lambda: talk.recv(65536), b"")).decode()
 
 
-def comes_to(admin: pathlib.Path, **wanted: str) -> bool:
+def balanced(admin: pathlib.Path, proxy: str = "rtsp", server: str = "a") -> Dict[str, str]:
+    """How HAProxy sees a server: its columns by their names."""
+    lines = [it.split(",") for it in told_to(admin, f"show stat {proxy} 4 -1").lstrip("# ").splitlines() if it]
+    return next((dict(zip(lines[0], it)) for it in lines[1:] if it[1] == server), {})
+
+
+def comes_to(admin: pathlib.Path, proxy: str = "rtsp", server: str = "a", **wanted: str) -> bool:
     """Whether HAProxy comes to see the server so."""
     until = time.monotonic() + 10.0
     while time.monotonic() < until:
-        seen = balanced(admin)
+        seen = balanced(admin, proxy, server)
         if all(seen.get(key, "").startswith(value) for key, value in wanted.items()):
             return True
         time.sleep(0.1)

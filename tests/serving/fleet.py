@@ -1,6 +1,6 @@
 """Several servers behind HAProxy, with the configurations of packaging/fleet, in namespaces of the network: the balancer
-has 10.77.0.1, the servers .11 to .13, and two players .101 and .102. Left out where there is no HAProxy, or no leave to
-make namespaces."""
+has 10.77.0.1, three servers .11 to .13, a fourth .14, and players .101 to .103. Left out where there is no HAProxy, or no
+leave to make namespaces."""
 import contextlib
 import os
 import pathlib
@@ -9,31 +9,38 @@ import subprocess
 import sys
 import tempfile
 import time
-from typing import Dict, Iterator, List, Optional
+from typing import Dict, Iterator, List, NamedTuple, Optional
 
 from checks import TOP, Checks, Failed
 
+from . import gstreamer
 from .runner import serving_test
 from .server import TRIED, Presentation, configuration
 
-BALANCER, SERVERS, PLAYERS = "10.77.0.1", ["10.77.0.11", "10.77.0.12", "10.77.0.13"], ["10.77.0.101", "10.77.0.102"]
+BALANCER = "10.77.0.1"
+# So many stand at first.
+SERVERS, AT_FIRST = ["10.77.0.11", "10.77.0.12", "10.77.0.13", "10.77.0.14"], 3
+PLAYERS = ["10.77.0.101", "10.77.0.102", "10.77.0.103"]
 FLEET = TOP / "packaging/fleet"
 SHARE, CONNECTIONS = 8, 6
 TONE = Presentation(units=300)
 SOON = 15.0
+# The log's lines come together, so many seconds later at most.
+LATE = 0.5
+# How GStreamer has its packets sent.
+WAYS = "tcp", "udp"
 # Opens so many connections to the balancer, asks OPTIONS on each, says how many were answered, and holds them until its
 # input ends.
 ASKS = """
 import socket, sys
 held, answered = [], 0
 for _ in range(int(sys.argv[1])):
-    talk = socket.create_connection(("10.77.0.1", 554), timeout=5)
-    talk.sendall(b"OPTIONS * RTSP/2.0\\r\\nCSeq: 1\\r\\n\\r\\n")
     try:
-        answered += talk.recv(999).startswith(b"RTSP/2.0 200")
+        held.append(socket.create_connection(("10.77.0.1", 554), timeout=5))
+        held[-1].sendall(b"OPTIONS * RTSP/2.0\\r\\nCSeq: 1\\r\\n\\r\\n")
+        answered += held[-1].recv(999).startswith(b"RTSP/2.0 200")
     except OSError:
         pass
-    held.append(talk)
 print(answered, flush=True)
 sys.stdin.read()
 """
@@ -60,12 +67,20 @@ class Namespaces:
         self.players = [f"{self.inside}-{number}" for number in range(len(PLAYERS))]
 
     def __enter__(self) -> "Namespaces":
+        try:
+            self.make()
+        except subprocess.CalledProcessError:
+            self.__exit__()
+            raise
+        return self
+
+    def make(self) -> None:
         def inside(*words: str) -> None:
-            run("ip", "netns", "exec", self.inside, "ip", *words)
+            run(*self.words(self.inside, "ip", *words))
 
         for name in (self.inside, *self.players):
             run("ip", "netns", "add", name)
-            run("ip", "netns", "exec", name, "ip", "link", "set", "lo", "up")
+            run(*self.words(name, "ip", "link", "set", "lo", "up"))
         inside("link", "add", "br0", "type", "bridge")
         for address in (BALANCER, *SERVERS):
             inside("addr", "add", f"{address}/24", "dev", "br0")
@@ -73,24 +88,48 @@ class Namespaces:
         for number, (name, address) in enumerate(zip(self.players, PLAYERS)):
             run("ip", "link", "add", f"fv{number}", "netns", self.inside, "type", "veth", "peer", "name", "eth0", "netns", name)
             inside("link", "set", f"fv{number}", "master", "br0", "up")
-            run("ip", "netns", "exec", name, "ip", "addr", "add", f"{address}/24", "dev", "eth0")
-            run("ip", "netns", "exec", name, "ip", "link", "set", "eth0", "up")
-        return self
+            run(*self.words(name, "ip", "addr", "add", f"{address}/24", "dev", "eth0"))
+            run(*self.words(name, "ip", "link", "set", "eth0", "up"))
 
     def __exit__(self, *_: object) -> None:
         for name in (self.inside, *self.players):
             run("ip", "netns", "del", name, check=False)
 
+    def words(self, name: str, *words: str) -> List[str]:
+        """What runs a command in one of them."""
+        return ["ip", "netns", "exec", name, *words]
+
     def begin(self, name: str, *words: str, **how: object) -> subprocess.Popen:
-        return subprocess.Popen(["ip", "netns", "exec", name, *words], **how)
+        return subprocess.Popen(self.words(name, *words), **how)
+
+
+class Played(NamedTuple):
+    """How examples/play ended, and what it said."""
+
+    status: int
+    said: str
+
+    def is_whole(self, packets: int) -> bool:
+        """Whether each track had so many packets, and lacked none."""
+        return self.status == 0 and self.said.count(f" {packets} packets, 0 gaps") == len(TONE.tracks)
+
+
+def ended(play: subprocess.Popen) -> Played:
+    said, _ = play.communicate(timeout=60)
+    return Played(play.returncode, said)
 
 
 class Fleet:
-    """Three servers and their balancer."""
+    """Three servers, and one that may be added, and their balancer."""
 
     def __init__(self, nets: Namespaces, folder: pathlib.Path) -> None:
         self.nets, self.folder = nets, folder
         self.running: Dict[str, subprocess.Popen] = {}
+
+    @property
+    def admin(self) -> pathlib.Path:
+        """HAProxy's socket."""
+        return self.folder / "admin.sock"
 
     def begin_server(self, number: int) -> None:
         address = SERVERS[number]
@@ -105,6 +144,7 @@ class Fleet:
             media=f'"{self.folder}"',
             status=f'"{address}:9554"',
             proxy=f'["{BALANCER}"]',
+            players=gstreamer.PLAYERS,
         )
         path = self.folder / f"{number}.toml"
         path.write_text(text)
@@ -131,11 +171,10 @@ class Fleet:
     def __enter__(self) -> "Fleet":
         for track in TONE.tracks:
             (self.folder / f"{track.name}.raw").write_bytes(b"".join(map(track.unit, range(TONE.units))))
-        for number in range(len(SERVERS)):
+        for number in range(AT_FIRST):
             self.begin_server(number)
-        until = time.monotonic() + SOON
-        while not all(self.listens(number) for number in range(len(SERVERS))) and time.monotonic() < until:
-            time.sleep(0.1)
+        for number in range(AT_FIRST):
+            self.tells(number, "listening on")
         self.begin_balancer()
         return self
 
@@ -144,29 +183,42 @@ class Fleet:
             it.kill()
             it.wait()
 
-    def listens(self, number: int) -> bool:
-        return any("listening on" in it for it in self.lines(number))
-
-    def lines(self, number: int) -> List[str]:
+    def lines(self, number: int, *words: str) -> List[str]:
+        """The lines of a server's log that have all of these words."""
         path = self.folder / f"{number}.log"
-        return path.read_text(errors="replace").splitlines() if path.exists() else []
+        lines = path.read_text(errors="replace").splitlines() if path.exists() else []
+        return [it for it in lines if all(word in it for word in words)]
+
+    def tells(self, number: int, *words: str, times: int = 1) -> bool:
+        """Whether a server's log has so many lines with all of these words, or comes to."""
+        until = time.monotonic() + SOON
+        while len(self.lines(number, *words)) < times and time.monotonic() < until:
+            time.sleep(0.05)
+        return len(self.lines(number, *words)) >= times
 
     def asks(self, player: int, count: int) -> subprocess.Popen:
         words = [sys.executable, "-c", ASKS, str(count)]
         return self.nets.begin(self.nets.players[player], *words, stdin=subprocess.PIPE, stdout=subprocess.PIPE, text=True)
 
-    def plays(self, player: int, *words: str, uri: str = f"rtsp://{BALANCER}:554/tone") -> subprocess.CompletedProcess:
-        tool = [sys.executable, str(TOP / "examples/play"), *words, uri]
-        named = ["ip", "netns", "exec", self.nets.players[player]]
-        return subprocess.run([*named, *tool], capture_output=True, text=True, timeout=60)
+    def begin_play(self, player: int, *words: str) -> subprocess.Popen:
+        tool = [sys.executable, str(TOP / "examples/play"), *words, f"rtsp://{BALANCER}:554/tone"]
+        pipes = {"stdout": subprocess.PIPE, "stderr": subprocess.STDOUT, "text": True}
+        return self.nets.begin(self.nets.players[player], *tool, **pipes)
+
+    def begin_gstreamer(self, player: int, way: str) -> gstreamer.Play:
+        """One by TLS, which takes the certificate as it is."""
+        uri = f"rtsps://{BALANCER}:322/tone"
+        words = gstreamer.launch(TONE, uri, f"protocols={way}", "tls-validation-flags=0")
+        return gstreamer.begun_in(self.folder / way, TONE, self.folder, self.nets.words(self.nets.players[player], *words))
 
     def stands(self) -> bool:
         """Whether the balancer passes a player on, or comes to."""
         until = time.monotonic() + SOON
         while time.monotonic() < until:
             asked = self.asks(0, 1)
-            answered, _ = asked.communicate(timeout=10)
-            if answered.strip() == "1":
+            count = answered(asked)
+            let_go(asked)
+            if count == 1:
                 return True
             time.sleep(0.3)
         return False
@@ -174,37 +226,81 @@ class Fleet:
 
 @contextlib.contextmanager
 def fleet(checks: Checks) -> Iterator[Optional[Fleet]]:
-    """The whole of it, where it can be made here."""
+    """The whole of it, where it can be made here; it stands."""
     what = "a fleet behind HAProxy"
     if not checks.has(what, "haproxy", "ip", "openssl"):
         yield None
         return
-    if os.geteuid() or run("ip", "netns", "list", check=False).returncode:
-        checks.skip(what, "namespaces of the network take root")
-        yield None
-        return
-    with tempfile.TemporaryDirectory() as folder, Namespaces() as nets, Fleet(nets, pathlib.Path(folder)) as made:
+    with contextlib.ExitStack() as held:
+        try:
+            nets = held.enter_context(Namespaces())
+        except subprocess.CalledProcessError as why:
+            checks.skip(what, f"namespaces of the network can't be made here: {why.stderr.strip()}")
+            yield None
+            return
+        folder = held.enter_context(tempfile.TemporaryDirectory())
+        made = held.enter_context(Fleet(nets, pathlib.Path(folder)))
+        checks.that("the fleet stands", made.stands(), (made.folder / "haproxy.log").read_text()[-2000:])
+        time.sleep(0.5)
         yield made
 
 
-def served_by(made: Fleet, player: int) -> List[int]:
-    """By which servers a player was answered."""
-    mark = f" access {PLAYERS[player]} "
-    return [number for number in range(len(SERVERS)) if any(mark in it for it in made.lines(number))]
+def answered(asked: subprocess.Popen) -> int:
+    """How many of its connections were answered, which it holds."""
+    return int((asked.stdout.readline() if asked.stdout else "") or "0")
+
+
+def let_go(*asked: subprocess.Popen) -> None:
+    for it in asked:
+        it.communicate(timeout=10)
+
+
+def homes(made: Fleet, *players: int) -> List[List[int]]:
+    """By which servers each of these players was answered."""
+    time.sleep(LATE)
+    marks = [f" access {PLAYERS[it]} " for it in players]
+    return [[number for number in range(len(SERVERS)) if made.lines(number, mark)] for mark in marks]
+
+
+def plays_on(made: Fleet, player: int, *words: str) -> subprocess.Popen:
+    """A play that has begun, on the only server that the player ever came to."""
+    ((number,),) = homes(made, player)
+    before = len(made.lines(number, PLAYERS[player], '"PLAY"'))
+    play = made.begin_play(player, *words)
+    made.tells(number, PLAYERS[player], '"PLAY"', times=before + 1)
+    return play
+
+
+def come_to_stay(checks: Checks, made: Fleet, count: int) -> List[subprocess.Popen]:
+    """Has each player open so many connections, one after another, which are held: each has a server of its own."""
+    talks = []
+    for player in range(len(PLAYERS)):
+        talks.append(made.asks(player, count))
+        checks.same(f"connections of player {player} that are answered", count, answered(talks[-1]))
+    checks.same("the servers that they came to", [[it] for it in range(AT_FIRST)], sorted(homes(made, *range(len(PLAYERS)))))
+    return talks
 
 
 def shares_are_the_players(checks: Checks, made: Fleet) -> None:
-    talks = [made.asks(player, CONNECTIONS) for player in range(len(PLAYERS))]
-    answered = [(it.stdout.readline() if it.stdout else "").strip() for it in talks]
-    checks.same("connections of each player that are answered", [str(CONNECTIONS)] * len(PLAYERS), answered)
-    beyond = made.asks(0, SHARE)
-    checks.same("of one player beyond its share", str(SHARE - CONNECTIONS), (beyond.stdout.readline() if beyond.stdout else "").strip())
-    for it in [*talks, beyond]:
-        it.communicate(timeout=10)
-    for player in range(len(PLAYERS)):
-        checks.same(f"servers that player {player} comes to", 1, len(served_by(made, player)))
-    spent = [it for number in range(len(SERVERS)) for it in made.lines(number) if "has its whole share" in it]
+    talks = come_to_stay(checks, made, CONNECTIONS)
+    talks.append(made.asks(0, SHARE))
+    checks.same("of one player beyond its share", SHARE - CONNECTIONS, answered(talks[-1]))
+    let_go(*talks)
+    spent = [it for number in range(AT_FIRST) for it in made.lines(number, "has its whole share")]
     checks.that("the log names the player, not the balancer", all(PLAYERS[0] in it for it in spent) and len(spent) > 0, spent)
+
+
+def plays_again(checks: Checks, made: Fleet, player: int) -> None:
+    """Its server is killed while it plays."""
+    ((mine,),) = homes(made, player)
+    play = plays_on(made, player, "--tcp")
+    made.running[SERVERS[mine]].send_signal(signal.SIGKILL)
+    died = time.monotonic()
+    checks.that("its play ends", ended(play).status != 0)
+    while made.begin_play(player, "--seconds", "1").wait(60) and time.monotonic() < died + 10:
+        time.sleep(0.1)
+    took = time.monotonic() - died - 1.0
+    checks.that("its player plays again within 3 s", took < 3.0, took)
 
 
 @serving_test(limit=120)
@@ -213,21 +309,28 @@ def a_fleet_behind_haproxy(checks: Checks) -> None:
     with fleet(checks) as made:
         if not made:
             return
-        checks.that("the fleet stands", made.stands(), (made.folder / "haproxy.log").read_text()[-2000:])
-        time.sleep(0.5)
         shares_are_the_players(checks, made)
-        for way in ([], ["--tcp"]):
-            done = made.plays(1, "--seconds", "3", *way)
-            said = done.stdout + done.stderr
-            checks.that(f"a play {way or 'over UDP'}: each packet", done.returncode == 0 and said.count("150 packets, 0 gaps") == 2, said)
+        for way in [], ["--tcp"]:
+            done = ended(made.begin_play(1, "--seconds", "3", *way))
+            checks.that(f"a play {way or 'over UDP'}: each packet", done.is_whole(150), done)
         asked = made.nets.begin(made.nets.players[0], sys.executable, "-c", ASKS_BY_TLS, stdout=subprocess.PIPE, text=True)
         came, _ = asked.communicate(timeout=15)
         wanted = "['RTSP/2.0 200 OK', 'CSeq: 1', 'Content-Base: rtsps://10.77.0.1/tone/']"
         checks.same("a request of rtsps, cut in the middle", wanted, came.strip())
-        (mine,) = served_by(made, 1)[-1:]
-        made.running[SERVERS[mine]].send_signal(signal.SIGKILL)
-        died = time.monotonic()
-        while made.plays(1, "--seconds", "1").returncode and time.monotonic() < died + 10:
-            time.sleep(0.1)
-        took = time.monotonic() - died - 1.0
-        checks.that("its player plays again within 3 s", took < 3.0, took)
+        plays_again(checks, made, 1)
+
+
+@serving_test(limit=60, is_timed=True)
+def a_fleet_by_gstreamer(checks: Checks) -> None:
+    """By rtsps to the end of the stream, each octet as it was served: through the balancer, and over UDP past it."""
+    if not gstreamer.is_here(checks, "gst-launch-1.0"):
+        return
+    with fleet(checks) as made:
+        if not made:
+            return
+        plays = [made.begin_gstreamer(player, way) for player, way in enumerate(WAYS)]
+        for player, (play, way) in enumerate(zip(plays, WAYS)):
+            checks.that(f"over {way}: it ends whole", play.ends_whole())
+            told = [it for (home,) in homes(made, player) for it in made.lines(home, f" of {PLAYERS[player]} ended by ")]
+            wanted = f" over {way.upper()} for ", f", {len(TONE.tracks) * TONE.units} packets sent, 0 lost"
+            checks.that("what its server tells of it", len(told) == 1 and all(it in told[0] for it in wanted), told)

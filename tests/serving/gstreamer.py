@@ -45,9 +45,10 @@ def seconds_of(presentation: Presentation) -> float:
 
 
 class Play(NamedTuple):
-    """A running gst-launch-1.0 that writes the payload of each track to a file of its folder."""
+    """A running gst-launch-1.0 that writes the payload of each track to a file of its folder, and where the media is."""
 
-    server: Server
+    presentation: Presentation
+    media: pathlib.Path
     folder: pathlib.Path
     process: "subprocess.Popen[bytes]"
 
@@ -56,17 +57,17 @@ class Play(NamedTuple):
 
     def units(self) -> List[float]:
         """How many units of each track have come."""
-        paths = [(self.folder / track.name, track.octets) for track in self.server.presentation.tracks]
+        paths = [(self.folder / track.name, track.octets) for track in self.presentation.tracks]
         return [path.stat().st_size / octets if path.exists() else 0.0 for path, octets in paths]
 
     def is_whole(self) -> bool:
         """Whether the tracks' files have just the octets that were served."""
-        pairs = [(self.folder / it.name, self.server.path / f"{it.name}.raw") for it in self.server.presentation.tracks]
+        pairs = [(self.folder / it.name, self.media / f"{it.name}.raw") for it in self.presentation.tracks]
         return all(path.exists() and path.read_bytes() == served.read_bytes() for path, served in pairs)
 
     def ends_whole(self) -> bool:
         """Whether it comes to the end of the stream by itself, with all octets."""
-        limit = seconds_of(self.server.presentation) + LATENCY + STARTS_AND_ENDS
+        limit = seconds_of(self.presentation) + LATENCY + STARTS_AND_ENDS
         how = "it ended by itself"
         try:
             self.process.wait(limit)
@@ -82,17 +83,27 @@ class Play(NamedTuple):
         return False
 
 
-def begun(server: Server, way: str, number: int) -> Play:
-    folder = server.path / f"{way}{number}"
-    folder.mkdir()
-    words = ["gst-launch-1.0", "rtspsrc", "name=source", f"location={server.uri}"]
-    words += ["default-rtsp-version=2-0", f"protocols={way}", f"latency={1000 * LATENCY:.0f}"]
+def launch(presentation: Presentation, uri: str, *settings: str) -> List[str]:
+    """The words of a gst-launch-1.0 that writes the payload of each track to a file of its name."""
+    words = ["gst-launch-1.0", "rtspsrc", "name=source", f"location={uri}"]
+    words += ["default-rtsp-version=2-0", f"latency={1000 * LATENCY:.0f}", *settings]
     # Each depayloader takes the pad whose payload it knows. With a filter of capabilities before them gst-launch tries
     # each on each pad, and where two pads appear at once, one misses its own.
-    for track in server.presentation.tracks:
+    for track in presentation.tracks:
         words += ["source.", "!", f"rtp{track.encoding.lower()}depay", "!", "filesink", f"location={track.name}"]
+    return words
+
+
+def begun_in(folder: pathlib.Path, presentation: Presentation, media: pathlib.Path, words: Sequence[str]) -> Play:
+    folder.mkdir()
     pipes = {"stdout": (folder / "said").open("wb"), "stderr": subprocess.STDOUT, "stdin": subprocess.DEVNULL}
-    return Play(server, folder, subprocess.Popen(words, cwd=folder, **pipes))
+    return Play(presentation, media, folder, subprocess.Popen(words, cwd=folder, **pipes))
+
+
+def begun(server: Server, way: str, number: int, *more: str) -> Play:
+    """With more properties of its source."""
+    words = launch(server.presentation, server.uri, f"protocols={way}", *more)
+    return begun_in(server.path / f"{way}{number}", server.presentation, server.path, words)
 
 
 def whole_plays(server: Server, way: str) -> int:

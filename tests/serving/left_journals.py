@@ -9,9 +9,11 @@ from typing import Callable, List, NamedTuple
 from checks import Checks
 from rtsp_client.connection import Connection
 
+from .audience import asked
 from .clean_stops import deaf_readers
 from .failing_disks import ends_empty, on_a_disk, until
 from .histories import LATE, audited, checked, files, sessions_in, set_up
+from .operator import shown_at
 from .runner import serving_test
 from .server import Server
 
@@ -19,6 +21,8 @@ from .server import Server
 FOR_LONG = 60_000
 # Within so many seconds a stop is over, after one signal and after two.
 ONCE, TWICE = 3.0, 0.3
+# So many seconds plays go on beside a drain, whose end is looked for so often.
+DRAINS, LOOKS = 2.0, 1.0
 LEAVES = b"error the stop leaves a write to the journal's file behind"
 LAST = re.compile(
     rb"rtspd: a disk holds up (journal-\d{6}\.txt), which was left behind: "
@@ -39,6 +43,11 @@ def is_left(checks: Checks, server: Server, within: float, *asked: signal.Signal
         server.process.send_signal(number)
         time.sleep(0.2)
     server.process.send_signal(asked[-1])
+    return ends_with_less(checks, server, within)
+
+
+def ends_with_less(checks: Checks, server: Server, within: float) -> Left:
+    """The server, which was asked to end, does so in time, with status 4."""
     began = time.monotonic()
     checks.same("the status", 4, server.ends(FOR_LONG / 1000))
     took = time.monotonic() - began
@@ -109,6 +118,31 @@ def a_stop_leaves_a_write_behind_beside_deaf_readers(checks: Checks) -> None:
 def a_stop_at_once_leaves_a_write_behind(checks: Checks) -> None:
     """After a second signal nothing is waited for, a disk as little as players."""
     held_up(checks, TWICE, signal.SIGTERM, signal.SIGINT, readers=deaf_readers)
+
+
+def drains_held_up(checks: Checks, within: float, *methods: str) -> None:
+    """A drain beside a write of what a PLAY makes that doesn't come back, after which the player asks this."""
+    port, address = shown_at()
+    with on_a_disk(checks, status=address, drain=int(DRAINS)) as (server, disk):
+        talk = server.connect()
+        session = set_up(talk, server)
+        time.sleep(LATE)
+        before = files(server)[-1].read_bytes()
+        disk.meet("write", 1, 1, late=FOR_LONG)
+        asks(talk, server, session, "PLAY")
+        checks.that("the write is under way", until(lambda: disk.asked("write") == 1))
+        checks.same("a drain", (200, ""), asked(port, "POST", "/drain"))
+        asks(talk, server, session, *methods)
+        left = ends_with_less(checks, server, within)
+        checks.that("entries may be missing", left.entries > 0, left)
+        is_a_prefix(checks, server, before, [session])
+
+
+@serving_test(limit=90, is_timed=True)
+def a_drain_leaves_a_write_behind(checks: Checks) -> None:
+    """It ends in a stop's time after the last session, and where one plays on, after `drain` seconds."""
+    drains_held_up(checks, LOOKS + ONCE, "TEARDOWN")
+    drains_held_up(checks, DRAINS + LOOKS + ONCE)
 
 
 @serving_test(limit=90, is_timed=True)

@@ -24,6 +24,7 @@ REFUSALS = {
     "No such path (404)": "path",
     "Not in this state (455)": "state",
     "Transport (461)": "transport",
+    "Credentials (401)": "credentials",
     "Other": "other",
 }
 LATE = {f"Within {ms} ms": str(ms / 1000) for ms in (1, 2, 5, 10, 20, 40, 100, 400)}
@@ -182,10 +183,12 @@ def at_rest(figures: Dict[str, float]) -> Dict[str, float]:
 
 
 def figures_at_rest(port: int) -> Tuple[Dict[str, float], Dict[str, status_page.Rows]]:
-    """The figures and the page of one moment: nothing but the time changed from the figures before to those after."""
+    """The figures and the page of one moment: nothing but the time changed from the figures before to those after. Who
+    plays is among no figures."""
     while True:
         before = at_rest(figures(port))
         page = status_page.read(ask(port, path="/")[1])
+        del page["Players"]
         if before == at_rest(figures(port)):
             return before, page
 

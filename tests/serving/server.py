@@ -271,7 +271,7 @@ def lease(talk: Connection, uri: str, session: Optional[str] = None) -> Optional
     answer = talk.ask("SETUP", uri, [*named, wanted])
     if answer.status != 200:
         return None
-    port = re.search(r'src_addr=":(\d+)"', answer.header("Transport") or "")
+    port = re.search(r'src_addr="[\d.]*:(\d+)"', answer.header("Transport") or "")
     return Lease((answer.header("Session") or "").partition(";")[0], int(port[1]))
 
 

@@ -2,14 +2,16 @@
 import re
 import signal
 import time
-from typing import Tuple
+from typing import Callable, Tuple
 
 from checks import Checks
 from rtsp_client.player import Player, Way
 
+from .audience import asked
 from .bystanders import judge
 from .disks import Disk
 from .failing_disks import stops, until
+from .left_journals import DRAINS, LOOKS
 from .operator import figures, shown_at
 from .plays import numbers_fit, runs, set_up_all
 from .runner import serving_test
@@ -55,11 +57,12 @@ def write_film(server: Server, film: Presentation, *begins: float) -> None:
             file.write(b"".join(map(track.unit, range(first, first + PLAYED_UNITS))))
 
 
-def server_of(checks: Checks, *films: Presentation) -> Tuple[Server, Disk, int]:
+def server_of(checks: Checks, *films: Presentation, **more: object) -> Tuple[Server, Disk, int]:
     """A server of films, a disk that makes reads of some late, and where its figures are."""
     port, address = shown_at()
     pairs = STREAMS + 8
-    server = Server(checks, films[0], holds_signals=True, pairs=pairs, uplink=pairs * QUICK.whole_rate, status=address)
+    room = {"pairs": pairs, "uplink": pairs * QUICK.whole_rate}
+    server = Server(checks, films[0], holds_signals=True, status=address, **room, **more)
     for film in films[1:]:
         _, head, tracks = configuration(film, 0).partition("[[presentation]]")
         server.text += head + tracks
@@ -68,9 +71,9 @@ def server_of(checks: Checks, *films: Presentation) -> Tuple[Server, Disk, int]:
     return server, disk, port
 
 
-def on_a_slow_disk(checks: Checks) -> Tuple[Server, Disk, int]:
+def on_a_slow_disk(checks: Checks, **more: object) -> Tuple[Server, Disk, int]:
     """A server of all films, the disk of the slow one, and where its figures are."""
-    server, disk, port = server_of(checks, QUICK, SLOW, CUT)
+    server, disk, port = server_of(checks, QUICK, SLOW, CUT, **more)
     write_film(server, QUICK)
     write_film(server, SLOW, 0.0, LEFT_AT)
     write_film(server, CUT)
@@ -147,21 +150,33 @@ def a_slow_disk_holds_up_its_own_film(checks: Checks) -> None:
             player.close()
 
 
-@serving_test(limit=60)
-def a_stop_leaves_a_read_behind(checks: Checks) -> None:
-    """It ends in time, and tells of which film a read is under way that its disk holds up."""
-    server, disk, _ = on_a_slow_disk(checks)
+def leaves_a_read_behind(checks: Checks, within: float, ask: Callable[[Server, int], object], **more: object) -> None:
+    """Asked to end so, beside a read that its disk holds up, a server does in time."""
+    server, disk, port = on_a_slow_disk(checks, **more)
     with server:
         disk.meet("read", late=int(LONG_HELD * SECOND))
         slow = player_of(server, SLOW)
         slow.play(STOPPED_AT)
         checks.that("a read is under way", until(lambda: disk.asked("read") > 0))
-        server.process.send_signal(signal.SIGTERM)
+        ask(server, port)
         began = time.monotonic()
         checks.same("the status", 0, server.ends(LONG_HELD + 5.0))
         took = time.monotonic() - began
-        checks.that(f"it ends within {STOPS_WITHIN} s", took <= STOPS_WITHIN, took)
+        checks.that(f"it ends within {within} s", took <= within, took)
         slow.close()
         told = [it.partition(b" ")[2] for it in server.process.stderr.read().splitlines()]
         # What is played is read, and what comes behind it.
         checks.same("the last lines", [STOP_LEAVES, STOP_LEAVES, b"info stopped"], told[-3:])
+
+
+@serving_test(limit=60)
+def a_stop_leaves_a_read_behind(checks: Checks) -> None:
+    """It ends in time, and tells of which film a read is under way that its disk holds up."""
+    leaves_a_read_behind(checks, STOPS_WITHIN, lambda server, _: server.process.send_signal(signal.SIGTERM))
+
+
+@serving_test(limit=60)
+def a_drain_leaves_a_read_behind(checks: Checks) -> None:
+    """Beside a player who waits for the disk it ends after `drain` seconds, in a stop's time."""
+    within = DRAINS + LOOKS + STOPS_WITHIN
+    leaves_a_read_behind(checks, within, lambda _, port: asked(port, "POST", "/drain"), drain=int(DRAINS))

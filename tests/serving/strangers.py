@@ -6,7 +6,7 @@ import signal
 import socket
 import threading
 import time
-from typing import Dict, Iterator, List
+from typing import Counter, Dict, Iterator, List, Tuple
 
 import open_metrics
 from checks import Checks
@@ -30,6 +30,18 @@ HARM: Dict[str, bytes] = {
     "2,000 pipelined requests": GET * 2000,
     "nothing": b"",
 }
+POST = b" HTTP/1.1\r\nHost: here\r\n"
+LONG_BODY = b"Content-Length: 100000\r\n\r\n" + b"x" * 100_000
+# What is posted, and how it is answered.
+POSTS: Dict[str, Tuple[bytes, bytes]] = {
+    "ends of nobody": (b"POST /sessions/4000000000:00000000/end" + POST + b"\r\n", b"404"),
+    "drains by pages of browsers": (b"POST /drain" + POST + b"Origin: http://here\r\n\r\n", b"403"),
+    "drains with long bodies": (b"POST /drain" + POST + LONG_BODY, b"413"),
+    "ends of all with long bodies": (b"POST /sessions/1/end" + POST + LONG_BODY, b"413"),
+}
+# As many at a time as the listener takes. Of each so many at least are answered, and memory grows by less than so many
+# bytes (beside ./preview by more: what is freed isn't used again there).
+POSTERS, MANY, FLAT = 16, 100, 2 << 20
 FLOODED = b"OPTIONS * RTSP/2.0\r\nCSeq: 7\r\n\r\n" * 200
 
 
@@ -67,6 +79,39 @@ def harm(port: int, text: bytes, until: float) -> int:
     return came
 
 
+def connects_without_end(port: int, host: str, until: float) -> None:
+    """Opens connections that say nothing, and keeps a thousand of them."""
+    kept: List[socket.socket] = []
+    while time.monotonic() < until:
+        with contextlib.suppress(OSError):
+            kept.append(socket.create_connection((HERE, port), timeout=1, source_address=(host, 0)))
+        if len(kept) > 1_000:
+            kept.pop(0).close()
+    for talk in kept:
+        talk.close()
+
+
+@serving_test(limit=60)
+def a_scrape_beside_connections_without_end(checks: Checks) -> None:
+    """Another address opens connections to the figures without end and says nothing: each scrape comes through."""
+    port, address = shown_at()
+    with Server(checks, status=address) as server:
+        until = time.monotonic() + BESIDE
+        floods = [threading.Thread(target=connects_without_end, args=(port, "127.0.0.2", until)) for _ in range(4)]
+        for flood in floods:
+            flood.start()
+        took: List[float] = []
+        while time.monotonic() < until - 1:
+            began = time.monotonic()
+            checks.same("a scrape", 200, ask(port)[0])
+            took.append(time.monotonic() - began)
+            time.sleep(0.1)
+        for flood in floods:
+            flood.join()
+        checks.that("each within a second", max(took) < 1.0, max(took))
+        server.answers("then a player is answered")
+
+
 @serving_test(limit=60, is_alone=True)
 def plays_beside_strangers_at_the_figures(checks: Checks) -> None:
     """200 at a time who send garbage, half a head, a body, 2,000 requests or nothing: no player is refused, and no packet
@@ -84,6 +129,49 @@ def plays_beside_strangers_at_the_figures(checks: Checks) -> None:
                 took.append(time.monotonic() - began)
             heard = players.heard()
         checks.that("each scrape within a second", max(took) < 1.0, took)
+        checks.same("what went wrong with players", [], heard.faults)
+        checks.that("they were answered", heard.answered > 10 * PLAYERS, heard.answered)
+        judge(Punctuality(checks, witness.stalls()), heard.arrivals, 1)
+
+
+def post(port: int, text: bytes, until: float, came: Counter[bytes]) -> None:
+    """Posts over and over, on a connection each, and counts how each was answered."""
+    while time.monotonic() < until:
+        with contextlib.suppress(OSError), socket.create_connection((HERE, port), timeout=1) as talk:
+            # A body is refused before it has come.
+            with contextlib.suppress(OSError):
+                talk.sendall(text)
+            came[talk.recv(4096)[9:12]] += 1
+
+
+def posted(port: int, text: bytes, seconds: float) -> Counter[bytes]:
+    """How as many as can be were answered at as many connections as the listener takes."""
+    came: Counter[bytes] = Counter()
+    words = port, text, time.monotonic() + seconds, came
+    threads = [threading.Thread(target=post, args=words) for _ in range(POSTERS)]
+    for thread in threads:
+        thread.start()
+    for thread in threads:
+        thread.join()
+    return came
+
+
+@serving_test(limit=60, is_alone=True)
+def plays_beside_posts_at_the_figures(checks: Checks) -> None:
+    """16 connections post without end what is refused, also with long bodies: none of it changes anything, no packet is
+    late, and memory stays as it is."""
+    port, address = shown_at()
+    room = {"pairs": 4 * PLAYERS, "uplink": 4 * PLAYERS * MINUTE.whole_rate}
+    with Witness() as witness, Server(checks, MINUTE, status=address, **room) as server:
+        with Bystanders(server.uri, PLAYERS, len(POSTS) * BESIDE / 4 + 1) as players:
+            memory: List[int] = []
+            for what, (text, status) in POSTS.items():
+                came = posted(port, text, BESIDE / 4)
+                checks.that(f"{what}: how many", came[status] > MANY, came)
+                checks.same(f"{what}: ready", 200, ask(port, path="/ready")[0])
+                memory.append(server.resident_bytes())
+            heard = players.heard()
+        checks.that("memory stays", max(memory) - memory[0] < FLAT, memory)
         checks.same("what went wrong with players", [], heard.faults)
         checks.that("they were answered", heard.answered > 10 * PLAYERS, heard.answered)
         judge(Punctuality(checks, witness.stalls()), heard.arrivals, 1)

@@ -1,6 +1,6 @@
-"""A strict reader of the page of figures: its sections, and in each the rows with their numbers."""
+"""A strict reader of the page of figures: its sections, in each the rows with their numbers, and its plots."""
 import re
-from typing import Dict, Tuple
+from typing import Dict, List, Tuple
 
 # A number with a comma before each three digits.
 NUMBER = r"(\d{1,3}(?:,\d{3})*)"
@@ -8,15 +8,24 @@ ROWS = {
     "number": re.compile(rf"<tr><th>([^<]+)<td><td class=n>{NUMBER}"),
     "bar": re.compile(rf"<tr><th>([^<]+)<td><meter max=(\d+) value=(\d+)></meter><td class=n>{NUMBER} of {NUMBER}"),
     "answers": re.compile(r"<tr><th>([^<]+)" + rf"<td class=n>{NUMBER}" * 4),
+    "player": re.compile(r"<tr><th>(\d+:[0-9a-f]{8})<td>[^<]+<td>(?:UDP|TCP)" + rf"<td class=n>{NUMBER}" * 4),
 }
 SECTION = re.compile(r"<h2>([^<]+)</h2>\n<table>\n((?:<tr>.*\n)*)</table>\n")
 HEADS = {
     "<tr><th><td class=n>2xx<td class=n>3xx<td class=n>4xx<td class=n>5xx",
     "<tr><th><td class=n>watched now<td class=n>plays<td class=n>MB, UDP<td class=n>MB, TCP",
+    "<tr><th>session<td>film<td><td class=n>seconds<td class=n>packets<td class=n>lost<td class=n>late",
 }
+PLOTS = re.compile(r"<h2>The last quarter of an hour</h2>\n((?:<figure>.*</figure>\n)*)")
+SVG = '<svg viewBox="0 0 890 100" preserveAspectRatio=none role=img>'
+PLOT = re.compile(rf"<figure><figcaption>([^:]+): {NUMBER}, at most {NUMBER}</figcaption>{SVG}(.*)</svg></figure>\n")
+CURVE = re.compile(r'<polyline points="((?:\d+,\d+ )*)"/>')
+ADDRESSES = '<p>All of them, with their addresses: <a href="/sessions">/sessions</a>\n'
 LAST = '<p>The same as text: <a href="/metrics">/metrics</a>\n</html>\n'
 
 Rows = Dict[str, Tuple[int, ...]]
+# From the left, and from the top.
+Curve = List[Tuple[int, int]]
 
 
 class Malformed(Exception):
@@ -42,12 +51,31 @@ def row(line: str) -> Tuple[str, Tuple[int, ...]]:
     raise Malformed(line)
 
 
+def curve(text: str) -> Curve:
+    points = [tuple(map(int, it.split(","))) for it in text.split()]
+    return [(across, down) for across, down in points]
+
+
+def plots(text: str) -> Dict[str, List[Curve]]:
+    """What each plot of a page is called, with its curves. May fail with Malformed."""
+    section = PLOTS.search(text)
+    if not section or PLOT.sub("", section[1]):
+        raise Malformed("its plots")
+    found: Dict[str, List[Curve]] = {}
+    for name, _, _, curves in PLOT.findall(section[1]):
+        if CURVE.sub("", curves):
+            raise Malformed(curves)
+        found[name] = [curve(it) for it in CURVE.findall(curves)]
+    return found
+
+
 def read(text: str) -> Dict[str, Rows]:
     """The sections of a page. May fail with Malformed."""
     head, mark, rest = text.partition("<h1>rtspd</h1>\n")
     if not mark or not head.startswith("<!doctype html>") or "<script" in text or not rest.endswith(LAST):
         raise Malformed("how it begins or ends")
-    if SECTION.sub("", rest) != LAST:
+    plots(rest)
+    if SECTION.sub("", PLOTS.sub("", rest)) != ADDRESSES + LAST:
         raise Malformed(SECTION.sub("", rest))
     found: Dict[str, Rows] = {}
     for section in SECTION.finditer(rest):

@@ -23,7 +23,16 @@ operation_of path ms = do
   proxy ← balancers_of server
   status_open ← flag_at (codes "status_open") server
   drain ← number_at_or (codes "drain") 1 MAX_DRAIN DEFAULT_DRAIN server
-  Ok (record { journal = journal; access_log = access_log; status = status; proxy = proxy; status_open = status_open; drain = drain })
+  users ← optional_text_at (codes "users") Folder server
+  Ok (record {
+    journal = journal;
+    access_log = access_log;
+    status = status;
+    proxy = proxy;
+    status_open = status_open;
+    drain = drain;
+    users = media_folder path users;
+  })
 
 -- the same of a text, by what TOML makes of it
 abbrev pub operation_of_document : List ℕ → Option Members → Read OperationValue

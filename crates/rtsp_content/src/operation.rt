@@ -26,6 +26,7 @@ pub struct Operation {
     proxy: Vec<u32>,
     status_open: bool,
     drain: u64,
+    users: Option<String>,
 }
 
 impl Model for Operation {
@@ -50,6 +51,8 @@ fn read_operation(alloc: Global, table: &Table, path: &str) -> Result<Operation,
     let proxy = read_balancers(alloc, server)?;
     let status_open = flag_at(server, "status_open")?;
     let drain = number_at_or(server, "drain", 1, MAX_DRAIN, DEFAULT_DRAIN)?;
+    let users = optional_text_at(alloc, server, "users", Form::Folder)?;
+    let users = media_folder(alloc, path, users)?;
     Ok(Operation {
         journal,
         access_log,
@@ -57,6 +60,7 @@ fn read_operation(alloc: Global, table: &Table, path: &str) -> Result<Operation,
         proxy,
         status_open,
         drain,
+        users,
     })
 }
 
@@ -121,5 +125,12 @@ impl Operation {
         ensures { result ≡ self.now.drain }
     {
         self.drain
+    }
+
+    /// The path of the file of users, where those who ask have to be some of them.
+    pub fn users(&self) -> Option<&str>
+        ensures { option_map (λ s. s.now) result ≡ self.now.users }
+    {
+        self.users.as_deref()
     }
 }

@@ -182,23 +182,25 @@ module _ {B W C P S : Type 0} (d : Devices B W C P S) where
     pub served_drawn : ServedDrawn d R N
     served_drawn = served_leaving d LeftNothingEver DrawsAlone (drawn_kept d) (λ v is. is.own) (λ ask refusal s t run is unused. leaves_nothing_drawn d.binder ask refusal s t run is.lock unused)
 
+  own_drawn : (v : View) → DrawsAlone v → UsesDrawn v
+  own_drawn v is = is.own
+
+  leaves_drawn : (ask : Ask) (refusal : Refusal) (s t : runs.State B) → Admits d.binder ask (Err refusal) s t → DrawsAlone s.view → IsUnused s.view ask.admission → LeftNothingEver ask s.view t.view
+  leaves_drawn ask refusal s t run is unused = leaves_nothing_drawn d.binder ask refusal s t run is.lock unused
+
+  -- an item is answered, and nothing is left of a SETUP that was refused
+  pub meant_drawn : (meant : Serving → Item → Item) (s t : Serving) (item : Item) (bytes : List ℕ) → DrawsAlone s.view → AnswersMeant d meant s item bytes t → AnswersMeantCleanly d LeftNothingEver meant s item bytes t × DrawsAlone t.view
+  meant_drawn meant = meant_cleanly d LeftNothingEver DrawsAlone (drawn_kept d) own_drawn leaves_drawn meant
+
+  -- memory ran out over it
+  pub lost_drawn : (meant : Serving → Item → Item) (s t : Serving) (item : Item) → DrawsAlone s.view → GivesUpMeant d meant s item t → DrawsAlone t.view
+  lost_drawn meant = meant_lost d LeftNothingEver DrawsAlone (drawn_kept d) own_drawn leaves_drawn meant
+
   pub visited_drawn : VisitedDrawn d
   visited_drawn = record {
     first = λ w. record { lock = refl; own = λ n used. absurd (used refl) };
     split = λ v v' u on made. record { lock = made.same_numbers ∙ on; own = λ n used. absurd (used (ap (λ (j : List Entry). uses n j) made.mine)) };
-    answered = λ meant bytes rest s t is run. answered_more (AnswersMeant d meant) (AnswersMeantCleanly d LeftNothingEver meant) (GivesUpMeant d meant) (λ (x : Serving). DrawsAlone x.view) (cleanly meant) (lost meant) bytes rest s t is run;
-    faulted = λ meant bytes fault s t is run. fault_more (AnswersMeant d meant) (AnswersMeantCleanly d LeftNothingEver meant) (GivesUpMeant d meant) (λ (x : Serving). DrawsAlone x.view) (cleanly meant) (lost meant) bytes fault s t is run;
-    visited = λ meant start rest end s t is run. visits_more (AnswersMeant d meant) (AnswersMeantCleanly d LeftNothingEver meant) (GivesUpMeant d meant) (λ (x : Serving). DrawsAlone x.view) (cleanly meant) (lost meant) end start rest s t is run;
+    answered = λ meant bytes rest s t is run. answered_more (AnswersMeant d meant) (AnswersMeantCleanly d LeftNothingEver meant) (GivesUpMeant d meant) (λ (x : Serving). DrawsAlone x.view) (meant_drawn meant) (lost_drawn meant) bytes rest s t is run;
+    faulted = λ meant bytes fault s t is run. fault_more (AnswersMeant d meant) (AnswersMeantCleanly d LeftNothingEver meant) (GivesUpMeant d meant) (λ (x : Serving). DrawsAlone x.view) (meant_drawn meant) (lost_drawn meant) bytes fault s t is run;
+    visited = λ meant start rest end s t is run. visits_more (AnswersMeant d meant) (AnswersMeantCleanly d LeftNothingEver meant) (GivesUpMeant d meant) (λ (x : Serving). DrawsAlone x.view) (meant_drawn meant) (lost_drawn meant) end start rest s t is run;
   }
-    where
-      own : (v : View) → DrawsAlone v → UsesDrawn v
-      own v is = is.own
-
-      leaves : (ask : Ask) (refusal : Refusal) (s t : runs.State B) → Admits d.binder ask (Err refusal) s t → DrawsAlone s.view → IsUnused s.view ask.admission → LeftNothingEver ask s.view t.view
-      leaves ask refusal s t run is unused = leaves_nothing_drawn d.binder ask refusal s t run is.lock unused
-
-      cleanly : (meant : Serving → Item → Item) (s t : Serving) (item : Item) (bytes : List ℕ) → DrawsAlone s.view → AnswersMeant d meant s item bytes t → AnswersMeantCleanly d LeftNothingEver meant s item bytes t × DrawsAlone t.view
-      cleanly meant = meant_cleanly d LeftNothingEver DrawsAlone (drawn_kept d) own leaves meant
-
-      lost : (meant : Serving → Item → Item) (s t : Serving) (item : Item) → DrawsAlone s.view → GivesUpMeant d meant s item t → DrawsAlone t.view
-      lost meant = meant_lost d LeftNothingEver DrawsAlone (drawn_kept d) own leaves meant

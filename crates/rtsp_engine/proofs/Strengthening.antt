@@ -3,7 +3,6 @@ use Rattle.std.proofs.Common.{ℕ, List, [], ◌∷◌, ◌++◌, sym, subst, in
 use Rattle.rtsp_grammar.specs.declared.fault.MessageFault.{MessageFault}
 use Rattle.rtsp_grammar.specs.declared.message.Item.{Item}
 use Rattle.rtsp_engine.specs.Served.{Output, Line, Served, Answered, Progress, Faulted, FaultedAfter, Gathered, BreaksOff, LastBreaksOff, Tells, Rests, EndsFrom}
-use Rattle.rtsp_engine.specs.Serving.{Serving}
 use Rattle.rtsp_engine.specs.Visiting.{Goes, Visits}
 use Rattle.rtsp_engine.specs.declared.serving.ServeEnd.{ServeEnd}
 use Rattle.rtsp_engine.specs.declared.visiting.VisitEnd.{VisitEnd}
@@ -77,15 +76,15 @@ module _ {S : Type 0} (R M : S → Item → List ℕ → S → Type 0) (L : S �
   ends_more WriteFault start s t p h = breaks_off_more start s t p h
   ends_more (Fault fault) start s t p h = tells_more start fault s t p h
 
--- the same of a visit, of which is known what is served
-module _ (R M : Serving → Item → List ℕ → Serving → Type 0) (L : Serving → Item → Serving → Type 0) (P : Serving → Type 0)
-    (answers : (s t : Serving) (item : Item) (bytes : List ℕ) → P s → R s item bytes t → M s item bytes t × P t) (gives_up : (s t : Serving) (item : Item) → P s → L s item t → P t) where
-  goes_more : (start rest : List ℕ) (s t : Line Serving) → P s.output.answerer → Goes R L start rest s t → Goes M L start rest s t × P t.output.answerer
+-- the same of a visit
+module _ {S : Type 0} (R M : S → Item → List ℕ → S → Type 0) (L : S → Item → S → Type 0) (P : S → Type 0)
+    (answers : (s t : S) (item : Item) (bytes : List ℕ) → P s → R s item bytes t → M s item bytes t × P t) (gives_up : (s t : S) (item : Item) → P s → L s item t → P t) where
+  goes_more : (start rest : List ℕ) (s t : Line S) → P s.output.answerer → Goes R L start rest s t → Goes M L start rest s t × P t.output.answerer
   goes_more start rest s t p h =
       let r = progress_more R M L P answers gives_up start rest s t p h.progress in
       (record { progress = r.0; undecided = h.undecided }, r.1)
 
-  pub visits_more : (end : VisitEnd) (start rest : List ℕ) (s t : Line Serving) → P s.output.answerer → Visits R L start rest end s t → Visits M L start rest end s t × P t.output.answerer
+  pub visits_more : (end : VisitEnd) (start rest : List ℕ) (s t : Line S) → P s.output.answerer → Visits R L start rest end s t → Visits M L start rest end s t × P t.output.answerer
   visits_more visit.More start rest s t p h = goes_more start rest s t p h
   visits_more visit.Waits start rest s t p h = goes_more start rest s t p h
   visits_more visit.Closed start rest s t p h = goes_more start rest s t p h

@@ -77,12 +77,13 @@ HasPlace (NoWord at) = Unit {0}
 HasPlace (NoNumber at) = Unit {0}
 HasPlace (Tried n made) = Unit {0}
 
--- the response to a track that was to be set up: 503 beyond the asker's share, 500 without words, 503 without numbers
-abbrev pub setup_response : SetupPlan → SetUp → Response
-setup_response plan NoShare = refused (setup_start plan) (faults.Refused Unavailable)
-setup_response plan (NoWord at) = refused (setup_start plan) (faults.Refused ServerError)
-setup_response plan (NoNumber at) = refused (setup_start plan) (faults.Refused Unavailable)
-setup_response plan (Tried n made) = setup_answer plan n.key made
+-- the response to a track that was to be set up: 503 beyond the asker's share, 500 without words, 503 without numbers; where it is granted over UDP,
+-- with the host that packets come from, where it has to be told
+abbrev pub setup_response : SetupPlan → Option ℕ → SetUp → Response
+setup_response plan source NoShare = refused (setup_start plan) (faults.Refused Unavailable)
+setup_response plan source (NoWord at) = refused (setup_start plan) (faults.Refused ServerError)
+setup_response plan source (NoNumber at) = refused (setup_start plan) (faults.Refused Unavailable)
+setup_response plan source (Tried n made) = setup_answer plan source n.key made
 
 module _ {B W C P S : Type 0} (d : Devices B W C P S) where
   -- a play is noted; the step is acted, and the ports that it freed are unbound; the play is settled by the phase that it began, and the outcome
@@ -142,7 +143,7 @@ module _ {B W C P S : Type 0} (d : Devices B W C P S) where
     pub outcome : SetUp
     pub comes : SetsUp asker.conn plan outcome s t
     pub shares : AsksShare asker.peer plan outcome s t
-    pub answer : response ≡ setup_response plan outcome
+    pub answer : response ≡ setup_response plan asker.source outcome
     pub clock : t.clock ≡ s.clock
     pub plays : t.plays ≡ s.plays
 

@@ -6,7 +6,6 @@ use Rattle.rtsp_grammar.specs.Answer.{IsUndecided}
 use Rattle.rtsp_grammar.specs.declared.message.Item.{Item}
 use Rattle.rtsp_engine.specs.Causes.{WriteFails}
 use Rattle.rtsp_engine.specs.Served.{Line, Parts, Progress, LastBreaksOff, Tells}
-use Rattle.rtsp_engine.specs.Serving.{Serving}
 use Rattle.rtsp_engine.specs.Streams.{WritesPart}
 use Rattle.rtsp_engine.specs.declared.serving.ServeEnd.{ServeEnd}
 use Rattle.rtsp_engine.specs.declared.serving.ServeEnd.TheVariants as serve
@@ -43,7 +42,7 @@ FindsNone ReadFault = Unit {0}
 FindsNone end = ⊥
 
 -- what is known of the parts: what the reader will give, what the writer holds, and what is served
-abbrev pub sides : {I O A : Type 0} → (I → Option (List ℕ)) → (O → Option (List ℕ)) → (A → Serving) → Parts I O A → Line Serving
+abbrev pub sides : {I O A S : Type 0} → (I → Option (List ℕ)) → (O → Option (List ℕ)) → (A → S) → Parts I O A → Line S
 sides remaining contents serving p = record { unread = remaining p.reader; output = record { text = contents p.writer; answerer = serving p.answerer } }
 
 -- answers that were gathered are written, or they wait on
@@ -114,15 +113,15 @@ pub record ReadsPieces (end : VisitEnd) (pieces room : ℕ) (unread left : Optio
   pub most : length bytes ≤ pieces * room
   pub some : ReadsSome end pieces bytes
 
-module _ (R : Serving → Item → List ℕ → Serving → Type 0) (L : Serving → Item → Serving → Type 0) where
+module _ {S : Type 0} (R : S → Item → List ℕ → S → Type 0) (L : S → Item → S → Type 0) where
   -- from a held start on, bytes were read; the items that they made whole were answered, and the answers are written; a rest is held,
   -- which is undecided, as the start was
-  pub record Goes (start rest : List ℕ) (s t : Line Serving) : Type 0 where
+  pub record Goes (start rest : List ℕ) (s t : Line S) : Type 0 where
     pub progress : Progress R L start rest s t
     pub undecided : IsUndecided start → IsUndecided rest
 
   -- what a visit did, from a held start on
-  abbrev pub Visits : List ℕ → List ℕ → VisitEnd → Line Serving → Line Serving → Type 0
+  abbrev pub Visits : List ℕ → List ℕ → VisitEnd → Line S → Line S → Type 0
   Visits start rest More s t = Goes start rest s t
   Visits start rest Waits s t = Goes start rest s t
   Visits start rest Closed s t = Goes start rest s t
@@ -132,4 +131,4 @@ module _ (R : Serving → Item → List ℕ → Serving → Type 0) (L : Serving
 
   -- a visit after which the connection went on, and whatever the next one did, are together one visit
   abbrev pub VisitsChain : Type 0
-  VisitsChain = (start held rest : List ℕ) (end : VisitEnd) (s t u : Line Serving) → Goes start held s t → Visits held rest end t u → Visits start rest end s u
+  VisitsChain = (start held rest : List ℕ) (end : VisitEnd) (s t u : Line S) → Goes start held s t → Visits held rest end t u → Visits start rest end s u

@@ -218,29 +218,30 @@ fn set_up<R: Wait, B: Binder, W: Words, C: Clock, P: Plays, S: Shares, N: Number
 // Writes what came of an admission.
 fn answer_admission(
     plan: &SetupPlan,
+    source: Option<u32>,
     key: SessionKey,
     made: Result<Admitted, Refusal>,
     room: &mut Room,
 )
     requires { setup_room ≤ room.old.spare }
-    ensures { room.new.text ≡ room.old.text ++ response_text (setup_answer plan.now key made) }
+    ensures { room.new.text ≡ room.old.text ++ response_text (setup_answer plan.now source key made) }
 {
     match made {
-        Ok(made) => plan.answer(room, key, Ok(&made)),
-        Err(refusal) => plan.answer(room, key, Err(refusal)),
+        Ok(made) => plan.answer(room, source, key, Ok(&made)),
+        Err(refusal) => plan.answer(room, source, key, Err(refusal)),
     }
 }
 
 // Writes what came of setting a track up.
-fn answer_setup(plan: &SetupPlan, outcome: SetUp, room: &mut Room)
+fn answer_setup(plan: &SetupPlan, source: Option<u32>, outcome: SetUp, room: &mut Room)
     requires { setup_room ≤ room.old.spare }
-    ensures { room.new.text ≡ room.old.text ++ response_text (setup_response plan.now outcome) }
+    ensures { room.new.text ≡ room.old.text ++ response_text (setup_response plan.now source outcome) }
 {
     match outcome {
         SetUp::NoShare => plan.refuse(room, Status::Unavailable),
         SetUp::NoWord(_) => plan.refuse(room, Status::ServerError),
         SetUp::NoNumber(_) => plan.refuse(room, Status::Unavailable),
-        SetUp::Tried(numbers, made) => answer_admission(plan, numbers.key, made, room),
+        SetUp::Tried(numbers, made) => answer_admission(plan, source, numbers.key, made, room),
     }
 }
 
@@ -257,7 +258,7 @@ fn conduct_setup<R: Wait, B: Binder, W: Words, C: Clock, P: Plays, S: Shares, N:
 {
     plan.make_room(room)?;
     let outcome = set_up(desk, plan);
-    answer_setup(plan, outcome, room);
+    answer_setup(plan, desk.asker.source, outcome, room);
     Ok(())
 }
 

@@ -11,6 +11,9 @@ use rtsp_lock::{AnyNumbers, BookLock, BookSeat, Numbers};
 pub struct Asker {
     pub conn: u64,
     pub peer: u32,
+    /// The IPv4 address that packets over UDP come from, where the player connected to another one,
+    /// as behind a balancer.
+    pub source: Option<u32>,
 }
 
 /// The parts that are lent to a connection: its seat of the lock, the receipt that its steps fill,

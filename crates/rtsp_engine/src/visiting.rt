@@ -5,7 +5,6 @@ ghost use Rattle.std.specs.Io.KnownBytes.{Appends, Keeps};
 ghost use Rattle.rtsp_grammar.specs.Answer.{IsUndecided};
 ghost use Rattle.rtsp_grammar.specs.declared.message.Item.{Item};
 ghost use Rattle.rtsp_engine.specs.Served.{Answered, FaultedAfter, Written, at, parts};
-ghost use Rattle.rtsp_engine.specs.Serving.{Serving};
 ghost use Rattle.rtsp_record.specs.Counters.{HasCause};
 ghost use Rattle.rtsp_engine.specs.Streams.{WritesPart};
 ghost use Rattle.rtsp_engine.specs.Visiting.{Reads, ReadsCounted, Came, FindsNone, sides, ended, serve_end, Delivers, CountsWrite, CountsRead, CountsDelivery, ClosesAtEnd, ReadsPieces, Visits, VisitsChain};
@@ -46,14 +45,17 @@ pub trait PieceIn {
 
 /// Who answers the items of a connection, as far as its input has come.
 pub trait PieceAnswerer {
-    /// What is served, to whom, and what the connection's seat of the lock knows.
-    ghost serving: { Self → Serving };
+    /// What stays of it from one piece of the input to the next.
+    ghost State: { Type 0 };
+
+    /// As it is now: what is served, to whom, and what the connection's seat of the lock knows.
+    ghost serving: { Self → State };
 
     /// How an item is answered: with which bytes, and what is so afterwards.
-    ghost answers: { Serving → Item → List ℕ → Serving → Type 0 };
+    ghost answers: { State → Item → List ℕ → State → Type 0 };
 
     /// What may have been done where memory ran out, and the item has no answer.
-    ghost gives_up: { Serving → Item → Serving → Type 0 };
+    ghost gives_up: { State → Item → State → Type 0 };
 
     /// Takes a piece of the connection's input, as `Connection::push` does.
     fn push(

@@ -22,7 +22,7 @@ pub(crate) struct Key {
 }
 
 /// `[server]`.
-pub(crate) const SERVER: [Key; 21] = [
+pub(crate) const SERVER: [Key; 22] = [
     Key {
         name: "first_port",
         rule: Rule::Even(1_024, 65_535),
@@ -148,6 +148,12 @@ pub(crate) const SERVER: [Key; 21] = [
         rule: Rule::Number(1, 86_400),
         presence: Presence::Optional,
         what: "seconds for which plays go on at most where the server is drained",
+    },
+    Key {
+        name: "users",
+        rule: Rule::Text(Class::Path, 1_024),
+        presence: Presence::Optional,
+        what: "1 to 1,024 bytes without controls, the path of the file of users",
     },
 ];
 

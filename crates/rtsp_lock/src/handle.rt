@@ -56,6 +56,7 @@ impl<N: Numbers> BookHandle<N> {
         ensures lock { arc_value self.new.lock ≡ arc_value self.old.lock }
         ensures looked { Looked (seat_view self.old.seat) (seat_view self.new.seat) }
         ensures drawn { IfSome result (λ n. Drew (seat_view self.old.seat) (seat_view self.new.seat) n) }
+        ensures spent { IfNone result (((seat_view self.new.seat).next ≡ u64.MAX) × ((seat_view self.new.seat).drawn ≡ (seat_view self.old.seat).drawn)) }
     {
         self.seat.draw(rt, &self.lock).ok()
     }

@@ -84,7 +84,7 @@ fn transports_are_picked(rt: HostRuntime) {
     hold_lines::<PickedLines>(&rt, rt.alloc(), PICKED);
 }
 
-const GRANTED: [Granted; 3] = [
+const GRANTED: [Granted; 6] = [
     Granted::Udp {
         client_rtp: 8000,
         client_rtcp: 8001,
@@ -94,6 +94,26 @@ const GRANTED: [Granted; 3] = [
     Granted::Mux {
         client: 8000,
         server: 5000,
+        ssrc: 1,
+    },
+    Granted::UdpFrom {
+        client_rtp: 8000,
+        client_rtcp: 8001,
+        host: 0x0a4d_000b,
+        server_rtp: 22_000,
+        ssrc: 3,
+    },
+    Granted::UdpFrom {
+        client_rtp: 65_534,
+        client_rtcp: 65_535,
+        host: 0xffff_ffff,
+        server_rtp: 65_534,
+        ssrc: 0xffff_ffff,
+    },
+    Granted::MuxFrom {
+        client: 8000,
+        host: 0xc000_0209,
+        server: 22_001,
         ssrc: 1,
     },
     Granted::Inter {
@@ -106,6 +126,9 @@ const GRANTED: [Granted; 3] = [
 const TOLD: &str =
     "RTP/AVP;unicast;dest_addr=\":8000\"/\":8001\";src_addr=\":5000\"/\":5001\";ssrc=00000003
 RTP/AVP;unicast;dest_addr=\":8000\";src_addr=\":5000\";RTCP-mux;ssrc=00000001
+RTP/AVP;unicast;dest_addr=\":8000\"/\":8001\";src_addr=\"10.77.0.11:22000\"/\"10.77.0.11:22001\";ssrc=00000003
+RTP/AVP;unicast;dest_addr=\":65534\"/\":65535\";src_addr=\"255.255.255.255:65534\"/\"255.255.255.255:65535\";ssrc=ffffffff
+RTP/AVP;unicast;dest_addr=\":8000\";src_addr=\"192.0.2.9:22001\";RTCP-mux;ssrc=00000001
 RTP/AVP/TCP;unicast;interleaved=0-1;ssrc=00000001
 000000ab
 0000000000000000000000000000001f";

@@ -1,10 +1,12 @@
-//! Tests of the public names of rtsp_text and of the crates of messages, media and packets, in
-//! modules by subject. The crate has nothing else.
+//! Tests of the public names of rtsp_text and of the crates of messages, credentials, configurations,
+//! media and packets, in modules by subject. The crate has nothing else.
 
 #![tactic(auto)]
 
 #[cfg(test)]
 mod configurations;
+#[cfg(test)]
+mod credentials;
 #[cfg(test)]
 mod explanations;
 #[cfg(test)]

@@ -100,12 +100,14 @@ const MANY_BALANCERS: &str =
 // No configuration, and why not.
 type Refused = (&'static str, TableFault);
 
-const REFUSED: [Refused; 7] = [
+const REFUSED: [Refused; 9] = [
     ("status = 1\n", TableFault::Missing),
     ("[server]\nproxy = []\n", TableFault::BadValue),
     ("[server]\nproxy = \"10.77.0.1\"\n", TableFault::BadValue),
     ("[server]\nproxy = [\"::1\"]\n", TableFault::BadValue),
     (MANY_BALANCERS, TableFault::BadValue),
+    ("[server]\nusers = \"\"\n", TableFault::BadValue),
+    ("[server]\nusers = 1\n", TableFault::BadValue),
     ("server = 1\n", TableFault::BadValue),
     ("[server\n", TableFault::NotToml),
 ];
@@ -114,6 +116,28 @@ impl Row for Refused {
     fn holds(&self, alloc: Global) -> bool {
         read(alloc, self.0).err() == Some(self.1)
     }
+}
+
+// Where the file of users is.
+const USERS: [(&str, Option<&str>); 3] = [
+    ("[server]\n", None),
+    ("[server]\nusers = \"users\"\n", Some("/etc/rtspd/users")),
+    ("[server]\nusers = \"/srv/users\"\n", Some("/srv/users")),
+];
+
+impl Row for (&'static str, Option<&'static str>) {
+    fn holds(&self, alloc: Global) -> bool {
+        let (text, path) = *self;
+        match read(alloc, text) {
+            Ok(operation) => operation.users() == path,
+            Err(_) => false,
+        }
+    }
+}
+
+#[test]
+fn says_where_the_users_are(rt: HostRuntime) {
+    hold_rows(&rt, rt.alloc(), &USERS);
 }
 
 #[test]

@@ -104,6 +104,7 @@ refusals_family n =
           labelled (codes "_total{reason=\"path\"}") n.path ∷
           labelled (codes "_total{reason=\"state\"}") n.state ∷
           labelled (codes "_total{reason=\"transport\"}") n.transport ∷
+          labelled (codes "_total{reason=\"credentials\"}") n.credentials ∷
           labelled (codes "_total{reason=\"other\"}") n.other ∷ [];
     }
 

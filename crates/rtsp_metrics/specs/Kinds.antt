@@ -39,6 +39,7 @@ status_of refusals.Session = Some 454
 status_of refusals.Path = Some 404
 status_of refusals.State = Some 455
 status_of refusals.Transport = Some 461
+status_of refusals.Credentials = Some 401
 status_of refusals.Other = None
 
 -- a status of 400 and above is a refusal: it is counted under the one that has it, and under `Other` where none has

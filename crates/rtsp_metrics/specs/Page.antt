@@ -73,6 +73,7 @@ refusal_rows n =
     number_row (codes "Bandwidth (453)") n.bandwidth ∷ number_row (codes "Unavailable (503)") n.unavailable ∷
     number_row (codes "No such session (454)") n.session ∷ number_row (codes "No such path (404)") n.path ∷
     number_row (codes "Not in this state (455)") n.state ∷ number_row (codes "Transport (461)") n.transport ∷
+    number_row (codes "Credentials (401)") n.credentials ∷
     number_row (codes "Other") n.other ∷ [])
 
 -- how many packets were at most so late

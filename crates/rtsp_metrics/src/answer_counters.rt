@@ -102,6 +102,7 @@ struct RefusalCounters {
     path: SoleCounter,
     state: SoleCounter,
     transport: SoleCounter,
+    credentials: SoleCounter,
     other: SoleCounter,
 }
 
@@ -114,6 +115,7 @@ impl RefusalCounters {
             path: SoleCounter::new(),
             state: SoleCounter::new(),
             transport: SoleCounter::new(),
+            credentials: SoleCounter::new(),
             other: SoleCounter::new(),
         }
     }
@@ -126,6 +128,7 @@ impl RefusalCounters {
             Refusal::Path => self.path.add_one(),
             Refusal::State => self.state.add_one(),
             Refusal::Transport => self.transport.add_one(),
+            Refusal::Credentials => self.credentials.add_one(),
             Refusal::Other => self.other.add_one(),
         }
     }
@@ -137,6 +140,7 @@ impl RefusalCounters {
         sum.path = sum.path.wrapping_add(self.path.read());
         sum.state = sum.state.wrapping_add(self.state.read());
         sum.transport = sum.transport.wrapping_add(self.transport.read());
+        sum.credentials = sum.credentials.wrapping_add(self.credentials.read());
         sum.other = sum.other.wrapping_add(self.other.read());
     }
 }

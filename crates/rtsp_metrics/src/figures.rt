@@ -117,6 +117,7 @@ fn write_refusals(out: &mut Vec<u8>, of: &Refusals) -> Result<(), AllocError>
         Figure::Count(b"_total{reason=\"path\"}", of.path),
         Figure::Count(b"_total{reason=\"state\"}", of.state),
         Figure::Count(b"_total{reason=\"transport\"}", of.transport),
+        Figure::Count(b"_total{reason=\"credentials\"}", of.credentials),
         Figure::Count(b"_total{reason=\"other\"}", of.other),
     ];
     write_family(out, b"rtspd_refusals", b"counter", None, help, &figures)

@@ -35,6 +35,7 @@ pub enum Refusal {
     Path,
     State,
     Transport,
+    Credentials,
     Other,
 }
 
@@ -85,6 +86,7 @@ impl Refusal {
     {
         match status {
             0..=399 => None,
+            401 => Some(Refusal::Credentials),
             404 => Some(Refusal::Path),
             453 => Some(Refusal::Bandwidth),
             454 => Some(Refusal::Session),

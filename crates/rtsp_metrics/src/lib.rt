@@ -15,10 +15,13 @@ mod figures;
 mod film_rows;
 mod films;
 mod further;
+mod history;
 mod kinds;
 mod media_failures;
 mod page;
 mod plain;
+mod player_rows;
+mod plots;
 mod rows;
 mod session_counts;
 mod snapshot;
@@ -31,9 +34,12 @@ pub use figures::metrics_text;
 pub use film_rows::film_section;
 pub use films::{FilmFigures, Transport};
 pub use further::{FilmLine, ProcessFigures, WritingFigures, further_text};
+pub use history::{History, SAMPLE_MS, SAMPLES, Sample};
 pub use kinds::{Method, Outcome, Refusal};
 pub use page::{PAGE_HEAD, page_text};
 pub use plain::plain_text;
+pub use player_rows::{PLAYERS_SHOWN, PlayerLine, player_section};
+pub use plots::history_section;
 pub use session_counts::{LATE_MS, SessionCounts, SessionSums};
 pub use snapshot::{
     BookFigures, ByMethod, ByOutcome, Connections, Counts, Held, Lateness, Packets, Refusals,

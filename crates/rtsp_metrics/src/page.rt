@@ -18,7 +18,9 @@ body{font:16px/1.5 system-ui,sans-serif;max-width:48rem;margin:2rem auto;padding
 h1{font-size:1.4rem}h2{font-size:1rem;margin:1.6rem 0 .4rem}\
 table{border-collapse:collapse;width:100%}\
 th,td{padding:.1rem .6rem .1rem 0;text-align:left;font-weight:400}th{width:30%}\
-td.n{text-align:right;font-variant-numeric:tabular-nums}meter{width:100%;min-width:16rem;height:1.1rem}\
+td.n{text-align:right;font-variant-numeric:tabular-nums}\
+figure{margin:.6rem 0}svg{width:100%;height:4rem;border-bottom:1px solid}\
+polyline{fill:none;stroke:currentColor;stroke-width:2;vector-effect:non-scaling-stroke}meter{width:100%;min-width:16rem;height:1.1rem}\
 @media(max-width:30rem){body{margin:1rem auto;font-size:14px}th,td{padding-right:.3rem}meter{min-width:3rem}}\
 </style><h1>rtspd</h1>\n";
 
@@ -89,6 +91,7 @@ fn refusal_section(alloc: Global, of: &Refusals) -> Result<Vec<u8>, AllocError>
             Row::Number(b"No such path (404)", of.path),
             Row::Number(b"Not in this state (455)", of.state),
             Row::Number(b"Transport (461)", of.transport),
+            Row::Number(b"Credentials (401)", of.credentials),
             Row::Number(b"Other", of.other),
         ],
     )

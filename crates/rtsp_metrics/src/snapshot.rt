@@ -98,6 +98,8 @@ pub struct Refusals {
     pub state: u64,
     /// No transport that the server has (461).
     pub transport: u64,
+    /// No user's credentials (401).
+    pub credentials: u64,
     /// Any other status from 400 on.
     pub other: u64,
 }
@@ -110,6 +112,7 @@ impl Refusals {
         path: 0,
         state: 0,
         transport: 0,
+        credentials: 0,
         other: 0,
     };
 }
@@ -138,6 +141,27 @@ pub struct Lateness {
     pub later: u64,
     /// In milliseconds.
     pub sum_ms: u64,
+}
+
+impl Lateness {
+    /// Each count with the bound in milliseconds within which its packets were sent; for the last one,
+    /// which has none, that of the one before it.
+    pub fn by_bound(&self) -> [(u64, u64); 12] {
+        [
+            (1, self.within_1_ms),
+            (2, self.within_2_ms),
+            (5, self.within_5_ms),
+            (10, self.within_10_ms),
+            (20, self.within_20_ms),
+            (40, self.within_40_ms),
+            (100, self.within_100_ms),
+            (400, self.within_400_ms),
+            (1_000, self.within_1_s),
+            (4_000, self.within_4_s),
+            (10_000, self.within_10_s),
+            (10_000, self.later),
+        ]
+    }
 }
 
 /// What the counters of a server have counted.

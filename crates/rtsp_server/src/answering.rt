@@ -3,7 +3,7 @@
 ghost use Rattle.std.specs.Prelude.{◌++◌, IfErr, OnOk};
 ghost use Rattle.rtsp_grammar.specs.Answer.{IsUndecided};
 ghost use Rattle.rtsp_traits.specs.Devices.{devices};
-ghost use Rattle.rtsp_engine.specs.Serving.{serving_of};
+ghost use Rattle.rtsp_engine.specs.Serving.{Serving, serving_of};
 ghost use Rattle.rtsp_watch.specs.Understanding.{AnswersUnderstood, GivesUpUnderstood, TakesPiece, FaultsPiece, gathered};
 ghost use Rattle.rtsp_watch.specs.Understanding.{LeavesTaken, LeavesFaulted};
 
@@ -115,7 +115,46 @@ fn answer_piece<R: Wait + Net + rt::Clock, W: Words, P: Plays>(
     pushed
 }
 
+// What came of a piece.
+#[derive(Clone, Copy)]
+pub(crate) struct Came {
+    // How many bytes there were with those that were held before.
+    pub(crate) all: usize,
+    pub(crate) is_full: bool,
+    pub(crate) is_fault: bool,
+}
+
+// Does what follows from the answers to a piece. Whether the journal has room for what the next piece may
+// record.
+pub(crate) fn settle<R: Wait + rt::Clock>(
+    service: &Service<'_, R>,
+    lane: &mut BookHandle,
+    activity: &mut Activity,
+    witness: &AnswerCounter<'_, R>,
+    input: &Connection,
+    came: Came,
+) -> bool {
+    let has_setup = witness.has_setup();
+    activity.note(service.now, came.all, input, has_setup);
+    // A request for whose answer there was no memory may have done something all the same.
+    if came.is_fault {
+        service.recorded.note();
+        witness.end_decision();
+    }
+    // A session that was opened for a track that was then refused has ended.
+    if has_setup {
+        service.shared.ends.note();
+    }
+    if witness.is_unavailable() {
+        service.shared.note_unavailable(service.rt, lane);
+    }
+    // A piece that was full may be followed by another one.
+    !came.is_full || service.make_room(lane)
+}
+
 impl<R: Wait + Net + rt::Clock> PieceAnswerer for Front<'_, R> {
+    ghost State = { Serving };
+
     ghost serving = { λ f. serving_of f.service.table.now f.asker f.handle.now.seat };
 
     ghost answers = { AnswersUnderstood (devices ⟦<PortBinder<'static, R> as Binder>⟧.calls
@@ -133,13 +172,6 @@ impl<R: Wait + Net + rt::Clock> PieceAnswerer for Front<'_, R> {
         piece: &[u8],
         room: &mut Room,
     ) -> Result<(), MessageFault> {
-        let Service {
-            rt,
-            shared,
-            recorded,
-            now,
-            ..
-        } = self.service;
         let all = input.len().saturating_add(piece.len());
         let witness = AnswerCounter::new(&self.service, self.asker, self.heard);
         let pushed = answer_piece(
@@ -156,22 +188,19 @@ impl<R: Wait + Net + rt::Clock> PieceAnswerer for Front<'_, R> {
             piece,
             room,
         );
-        let has_setup = witness.has_setup();
-        self.activity.note(now, all, input, has_setup);
-        // A request for whose answer there was no memory may have done something all the same.
-        if pushed.is_err() {
-            recorded.note();
-            witness.end_decision();
-        }
-        // A session that was opened for a track that was then refused has ended.
-        if has_setup {
-            shared.ends.note();
-        }
-        if witness.is_unavailable() {
-            shared.note_unavailable(rt, self.lane);
-        }
-        // A piece that was full may be followed by another one.
-        self.has_room = piece.len() < PIECE || self.service.make_room(self.lane);
+        let came = Came {
+            all,
+            is_full: piece.len() == PIECE,
+            is_fault: pushed.is_err(),
+        };
+        self.has_room = settle(
+            &self.service,
+            self.lane,
+            self.activity,
+            &witness,
+            input,
+            came,
+        );
         pushed
     }
 

@@ -1,10 +1,10 @@
 //! A connection of a lane.
 
 mod holding_back;
+mod reading;
 mod taking_a_name;
 
 use self::holding_back::Passage;
-use crate::answering::Front;
 use crate::channels::Channels;
 use crate::hearing::Hearing;
 use crate::naming::Naming;
@@ -16,6 +16,7 @@ use crate::visiting::{Part, Read, Visit};
 use mio::event::Event;
 use mio::net::TcpStream;
 use rtsp_content::Players;
+use rtsp_credentials::Gate;
 use rtsp_engine::{Asker, Connection, PieceIn, PieceReader, Reading, VisitEnd};
 use rtsp_grammar::MessageFault;
 use rtsp_lock::BookHandle;
@@ -49,6 +50,8 @@ pub(crate) struct Client {
     host: Ipv4Addr,
     outlet: Arc<Outlet>,
     input: Connection,
+    // Where only users are let through.
+    gate: Option<Gate>,
     // What is lent to it for its input.
     unread: UnreadLoan,
     stage: Stage,
@@ -95,6 +98,7 @@ impl Client {
         stream: TcpStream,
         peer: u32,
         naming: Naming,
+        gate: Option<Gate>,
     ) -> Option<Client> {
         if stream.set_nodelay(true).is_err() || !prepare(stream.as_raw_fd()) {
             return None;
@@ -107,11 +111,16 @@ impl Client {
         let conn = handle.draw(service.rt)?;
         Some(Client {
             handle,
-            asker: Asker { conn, peer },
+            asker: Asker {
+                conn,
+                peer,
+                source: None,
+            },
             naming,
             host,
             outlet,
             input: Connection::new(service.alloc),
+            gate,
             unread,
             stage: Stage::Open,
             is_readable: false,
@@ -195,50 +204,6 @@ impl Client {
             }
             Stage::Draining => left > 0,
         }
-    }
-
-    // Reads a part of what is there, has it answered, and puts the answers into the outlet.
-    fn read<R: Wait + Net + rt::Clock>(
-        &mut self,
-        service: &Service<'_, R>,
-        tools: &mut Tools,
-        lane: &mut BookHandle,
-        part: Part,
-        until: u64,
-    ) -> Read {
-        let Tools {
-            made,
-            words,
-            plays,
-            room,
-            heard,
-            piece,
-        } = tools;
-        let Client {
-            handle,
-            asker,
-            host,
-            outlet,
-            input,
-            is_ending,
-            activity,
-            ..
-        } = self;
-        let mut front = Front {
-            service: *service,
-            handle,
-            lane,
-            asker: *asker,
-            host: *host,
-            outlet,
-            made,
-            words,
-            plays,
-            heard,
-            activity,
-            has_room: true,
-        };
-        front.visit(input, room, piece.as_mut_slice(), part, *is_ending, until)
     }
 
     // Where the players are GStreamer, RTCP keeps the session alive that plays over the connection.
@@ -369,7 +334,7 @@ impl Client {
         shared: &Shared,
         lane: &mut BookHandle,
     ) {
-        let Asker { conn, peer } = self.asker;
+        let Asker { conn, peer, .. } = self.asker;
         self.outlet.close(rt);
         shared.outlets.remove(rt, conn);
         if self.end_sessions(rt, shared, lane) {
@@ -403,6 +368,7 @@ impl Drop for Client {
             host: _,
             outlet: _outlet,
             input: _input,
+            gate: _,
             unread: _unread,
             stage: _,
             is_readable: _,

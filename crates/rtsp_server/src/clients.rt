@@ -43,7 +43,7 @@ pub(crate) struct Clients {
     // For how long they have waited, or for how long none of them was let through.
     pub(crate) room_wait: RoomWait,
     pub(crate) acceptor: Acceptor,
-    tools: Tools,
+    pub(crate) tools: Tools,
     // The moment of the last turn, of the last sweep, and that up to which all that had come was
     // read, as it was told.
     now: u64,

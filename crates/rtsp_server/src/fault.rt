@@ -1,6 +1,7 @@
 //! Why there is no server.
 
 use rtsp_chronicle::SinkFault;
+use rtsp_credentials::UsersFault;
 use rtsp_sockets::MediaFault;
 use std::alloc::AllocError;
 use std::io;
@@ -13,6 +14,9 @@ pub enum ServerFault {
     /// A track's file has a wrong length.
     #[error("a track's file has a wrong length")]
     WrongLength,
+    /// The file of users can't be read as such.
+    #[error("the file of users is wrong")]
+    WrongUsers,
     /// The address can't be listened on, a file can't be read, or the system refuses something
     /// else that the server needs.
     #[error("the system refuses what the server needs")]
@@ -49,6 +53,15 @@ impl From<MediaFault> for ServerFault {
             MediaFault::WrongLength => ServerFault::WrongLength,
             MediaFault::Unreadable => ServerFault::DeviceFailed,
             MediaFault::OutOfMemory => ServerFault::OutOfMemory,
+        }
+    }
+}
+
+impl From<UsersFault> for ServerFault {
+    fn from(fault: UsersFault) -> ServerFault {
+        match fault {
+            UsersFault::OutOfMemory => ServerFault::OutOfMemory,
+            _ => ServerFault::WrongUsers,
         }
     }
 }

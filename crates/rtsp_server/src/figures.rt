@@ -1,8 +1,9 @@
 //! What is counted and shown of a server, for whoever runs it.
 
 use crate::channels::Channels;
-use crate::further::further;
+use crate::further::{bytes_sent, further};
 use crate::operating::{end_by_operator, sessions_text, standing};
+use crate::owners::Claim;
 use crate::service::Service;
 use crate::session_names::{named, viewing_of};
 use crate::shared::Shared;
@@ -10,7 +11,7 @@ use rtsp_content::Table;
 use rtsp_engine::Asker;
 use rtsp_lock::{BookHandle, HandOutFault, Mark, Then};
 use rtsp_log::{Access, EndCause, Event, moment};
-use rtsp_metrics::{BookFigures, Counts, Held, Method, Snapshot};
+use rtsp_metrics::{BookFigures, Counts, Held, History, Method, Snapshot, Viewing};
 use rtsp_record::Entry;
 use rtsp_sockets::RunningClock;
 use rtsp_status::{Further, SessionMeant, Source, Standing};
@@ -24,6 +25,9 @@ use std::sync::Wait;
 
 // The status of a response to a request for which there was no memory.
 const OUT_OF_MEMORY: u16 = 500;
+
+// That of a request that isn't let through: nothing was done for it.
+const UNAUTHORIZED: u16 = 401;
 
 // The status of one for which there was no more of something.
 const UNAVAILABLE: u16 = 503;
@@ -49,8 +53,8 @@ fn is_counting(method: Method) -> bool {
 /// Who is told of the answers to a piece of a player's input, and notes what they came to.
 #[derive(Drop)]
 pub(crate) struct AnswerCounter<'a, R> {
-    service: Service<'a, R>,
-    asker: Asker,
+    pub(crate) service: Service<'a, R>,
+    pub(crate) asker: Asker,
     heard: &'a Cell<Channels>,
     // The moment of the log's lines, in milliseconds since 1970: the clock is read once for the
     // requests of a piece, which are answered within some milliseconds.
@@ -58,6 +62,8 @@ pub(crate) struct AnswerCounter<'a, R> {
     // How many SETUPs may have opened a session.
     setups: Cell<u64>,
     is_unavailable: Cell<bool>,
+    // Who asks for a session, where only users are let through, until the request is answered.
+    pub(crate) claim: Cell<Option<Claim>>,
 }
 
 impl<'a, R: rt::Clock> AnswerCounter<'a, R> {
@@ -78,6 +84,7 @@ impl<'a, R: rt::Clock> AnswerCounter<'a, R> {
             moment,
             setups: Cell::new(0),
             is_unavailable: Cell::new(false),
+            claim: Cell::new(None),
         }
     }
 
@@ -103,14 +110,25 @@ impl<'a, R: rt::Clock> AnswerCounter<'a, R> {
 }
 
 impl<R: Wait + rt::Clock> AnswerCounter<'_, R> {
+    // Notes which user the session is of whose end will be told.
+    fn note_owner(&self, viewing: &Viewing) {
+        let Service { rt, shared, .. } = self.service;
+        if let Some(claim) = self.claim.take()
+            && shared.audience.viewing(rt, viewing.session).is_some()
+        {
+            shared.owners.note(rt, viewing.id, claim);
+        }
+    }
+
     // Notes which session was begun or has ended.
     fn note_session(&self, method: Method, told: &Told<'_>) {
         let Service { rt, shared, .. } = self.service;
-        if method == Method::Teardown {
+        if told.status != UNAUTHORIZED && method == Method::Teardown {
             shared.ends.note();
         }
         if let Some(viewing) = viewing_of(told, self.asker, self.service.now) {
             shared.audience.enter(rt, viewing);
+            self.note_owner(&viewing);
         }
         if let Some(life) = told.ended {
             shared.end_place(rt, life.session);
@@ -173,7 +191,9 @@ impl<R: Wait + rt::Clock> Witness for AnswerCounter<'_, R> {
         if is_counting(method) {
             self.end_decision();
         }
-        if !matches!(method, Method::Options | Method::Describe) || told.session().is_some() {
+        let is_let_through = told.status != UNAUTHORIZED;
+        let may_record = !matches!(method, Method::Options | Method::Describe);
+        if is_let_through && (may_record || told.session().is_some()) {
             recorded.note();
         }
         self.note_session(method, told);
@@ -201,6 +221,7 @@ pub(crate) struct Figures<'a, R> {
     pub(crate) handle: BookHandle,
     /// What the system says of the process, where it does.
     pub(crate) usage: Option<OwnUsage>,
+    pub(crate) history: History,
     /// No entry: nothing is handed out to it.
     pub(crate) nothing: Vec<Entry>,
 }
@@ -261,7 +282,8 @@ impl<R: Wait + Net + rt::Clock> Source for Figures<'_, R> {
     }
 
     fn further(&mut self, alloc: Global) -> Result<Further, AllocError> {
-        further(self.rt, alloc, self.shared, self.usage.as_ref())
+        let usage = self.usage.as_ref();
+        further(self.rt, alloc, self.shared, usage, &self.history)
     }
 
     fn standing(&mut self) -> Standing {
@@ -278,5 +300,13 @@ impl<R: Wait + Net + rt::Clock> Source for Figures<'_, R> {
 
     fn end(&mut self, session: SessionMeant) -> bool {
         end_by_operator(self.rt, self.shared, &mut self.handle, session)
+    }
+
+    fn note(&mut self) {
+        let now = self.shared.now(self.rt);
+        if self.history.is_due(now) {
+            let snapshot = self.snapshot();
+            self.history.note(&snapshot, bytes_sent(self.shared), now);
+        }
     }
 }

@@ -4,7 +4,7 @@ ghost use Rattle.std.specs.Prelude.{◌≤◌, length};
 
 use crate::service::Service;
 use rtsp_book::SessionView;
-use rtsp_grammar::{Item, Method, Request, read_item};
+use rtsp_grammar::{Feed, Item, Method, Request};
 use rtsp_lock::{BookHandle, Name as LockName};
 use rtsp_state::{Name, ParsedRequest, Screen, renewal, screen};
 use std::rt;
@@ -27,26 +27,23 @@ impl<'a, R: Wait + rt::Clock> Foresight<'a, R> {
         Foresight { service, handle }
     }
 
-    /// How many bytes at the front are whole items that make no entries.
+    /// How many bytes at the front are whole items that make no entries. They are read by a Feed of
+    /// their own: one more caller of what reads an item would have it copied on its way to an answer.
     pub(crate) fn harmless_len(&mut self, bytes: &[u8]) -> usize
         ensures { result ≤ length bytes.now }
     {
-        let mut rest = bytes;
+        let mut feed = Feed::open(self.service.alloc);
+        if feed.push(bytes).is_err() {
+            return 0;
+        }
+        let mut left = bytes.len();
         for _ in 0..bytes.len() {
-            match self.harmless_front(rest) {
-                Some(len) => rest = rest.get(len..).unwrap_or_default(),
-                None => break,
+            match feed.next() {
+                Ok(Some(item)) if !self.may_record(&item) => left = feed.len(),
+                Ok(_) | Err(_) => break,
             }
         }
-        bytes.len().saturating_sub(rest.len())
-    }
-
-    // How long the item at the front is, where it is whole and makes no entries.
-    fn harmless_front(&mut self, bytes: &[u8]) -> Option<usize> {
-        match read_item(self.service.alloc, bytes) {
-            Ok(Some((item, len))) if !self.may_record(&item) => Some(len),
-            Ok(_) | Err(_) => None,
-        }
+        bytes.len().saturating_sub(left)
     }
 
     // Whether an item may make entries. RTCP may renew a session, which is an entry once in a while.

@@ -1,9 +1,10 @@
-//! The figures of presentations, of the process and of the journal's writing.
+//! The figures of presentations, of the process and of the journal's writing, and who plays.
 
 use crate::operating::is_journal_written;
 use crate::shared::Shared;
 use rtsp_metrics::{
-    FilmFigures, FilmLine, ProcessFigures, Transport, WritingFigures, film_section, further_text,
+    FilmFigures, FilmLine, History, PLAYERS_SHOWN, PlayerLine, ProcessFigures, Transport,
+    WritingFigures, film_section, further_text, history_section, player_section,
 };
 use rtsp_status::Further;
 use rtsp_threads::OwnUsage;
@@ -42,12 +43,45 @@ fn writing<R: Wait + rt::Clock>(rt: &R, shared: &Shared) -> Option<WritingFigure
     })
 }
 
+/// How many bytes of RTP packets were sent, of all presentations.
+pub(crate) fn bytes_sent(shared: &Shared) -> u64 {
+    let mut bytes = 0u64;
+    for film in 0..shared.end_lines.films() {
+        for over in [Transport::Udp, Transport::Tcp] {
+            bytes = bytes.saturating_add(played(shared, film, over).bytes);
+        }
+    }
+    bytes
+}
+
+// The players of the least numbers, as many as are shown.
+fn players<R: Wait + rt::Clock>(
+    rt: &R,
+    alloc: Global,
+    shared: &Shared,
+) -> Result<Vec<u8>, AllocError> {
+    let mut players = Vec::new(alloc);
+    let mut from = 0u64;
+    for _ in 0..PLAYERS_SHOWN {
+        let Some(viewer) = shared.audience.next(rt, from) else {
+            break;
+        };
+        players.push(PlayerLine {
+            viewer,
+            film: shared.end_lines.name(viewer.viewing.film),
+        })?;
+        from = viewer.viewing.session.saturating_add(1);
+    }
+    player_section(alloc, &players, shared.now(rt))
+}
+
 /// What is shown beside the snapshot of a server.
 pub(crate) fn further<R: Wait + rt::Clock>(
     rt: &R,
     alloc: Global,
     shared: &Shared,
     usage: Option<&OwnUsage>,
+    history: &History,
 ) -> Result<Further, AllocError> {
     let mut films = Vec::new(alloc);
     for film in 0..shared.end_lines.films() {
@@ -59,8 +93,11 @@ pub(crate) fn further<R: Wait + rt::Clock>(
     }
     let process = process(shared, usage);
     let writing = writing(rt, shared);
+    let mut section = history_section(alloc, history)?;
+    section.extend_from_slice(&film_section(alloc, &films)?)?;
+    section.extend_from_slice(&players(rt, alloc, shared)?)?;
     Ok(Further {
         lines: further_text(alloc, process, writing, &films)?,
-        section: film_section(alloc, &films)?,
+        section,
     })
 }

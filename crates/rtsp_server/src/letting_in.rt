@@ -2,6 +2,7 @@
 
 use crate::client::Client;
 use crate::clients::Clients;
+use crate::guarding::open_gate;
 use crate::naming::Naming;
 use crate::service::Service;
 use mio::net::TcpStream;
@@ -64,7 +65,7 @@ impl Clients {
         if gate.is_shut() {
             service.shared.lanes.wake(service.rt);
         }
-        let is_taken_in = match Client::open(service, handle, stream, peer, naming) {
+        let is_taken_in = match self.open_client(service, handle, stream, peer, naming) {
             Some(client) => self.take_in(service.rt, &service.shared.outlets, client),
             None => false,
         };
@@ -72,6 +73,22 @@ impl Clients {
             service.shared.log.event(service.rt, Event::OutOfMemory);
             gate.leave(service.rt, place);
         }
+    }
+
+    // A connection that was accepted, with a gate of its own where only users are let through.
+    fn open_client<R: Wait>(
+        &mut self,
+        service: &Service<'_, R>,
+        handle: &mut BookHandle,
+        stream: TcpStream,
+        peer: u32,
+        naming: Naming,
+    ) -> Option<Client> {
+        let gate = match open_gate(service, &mut self.tools.words) {
+            Ok(gate) => gate,
+            Err(_) => return None,
+        };
+        Client::open(service, handle, stream, peer, naming, gate)
     }
 
     // Whether there was memory for the connection.

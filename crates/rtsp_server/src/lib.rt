@@ -1,18 +1,20 @@
 //! The threads of a server: lanes that serve connections, what paces the packets, and what ends
 //! sessions whose time is over.
 //!
-//! `server` starts all of them and joins them, with what `opening` gives; `threads` is what each does,
-//! and `shared` what all share, `all_lanes` and `end_note` among it. `socket_lane` is a lane of sockets,
-//! `clients` its connections and its turns, and `letting_in` lets them in; `client` is one of them, and
-//! `visiting` reads it. Where `balancers` lists who connected, `naming` finds whom it connects. While the journal has no room `foresight` tells what may be read, and
-//! `putting_aside` has the others wait. `answering` is what is done with its input over its handle of the book, `writing`
-//! and `hearing` what is done with its output and its RTCP; `unread` is what it holds of a message that
-//! isn't whole. Of a lane, `service` and `tools` are what it answers with, `lane_lines` what it holds of
-//! the log, and `recorded` whether it has to look at the journal's room. `sweeper` and `stopping` are the
-//! threads that end sessions and the server, and `figures` is what is counted and shown. `readers` and
-//! `writing_journal` are the threads that a disk may hold up, which are then left behind.
-//! What they go by is in rtsp_threads, who is to be visited in rtsp_roster, and how one player is kept
-//! from harming the others in rtsp_shares.
+//! `server` starts all of them and joins them, with what `opening` gives; `threads` is what each
+//! does, and `shared` what all share, `all_lanes` and `end_note` among it. `socket_lane` is a lane of
+//! sockets, `clients` its connections and its turns, and `letting_in` lets them in; `client` is one
+//! of them, and `visiting` reads it. Where `balancers` lists who connected, `naming` finds whom it
+//! connects. While the journal has no room `foresight` tells what may be read, and `putting_aside`
+//! has the others wait. `answering` is what is done with its input over its handle of the book,
+//! `writing` and `hearing` what is done with its output and its RTCP; `unread` is what it holds of a
+//! message that isn't whole. `guarding` is its gate, where only those of `users` are let through. Of
+//! a lane, `service` and `tools` are what it answers with, `lane_lines` what it holds of the log, and
+//! `recorded` whether it has to look at the journal's room. `sweeper` and `stopping` are the threads
+//! that end sessions and the server, and `figures` is what is counted and shown. `readers` and
+//! `writing_journal` are the threads that a disk may hold up, which are then left behind. What they
+//! go by is in rtsp_threads, who is to be visited in rtsp_roster, and how one player is kept from
+//! harming the others in rtsp_shares.
 
 #![tactic(auto)]
 
@@ -29,12 +31,14 @@ mod fault;
 mod figures;
 mod foresight;
 mod further;
+mod guarding;
 mod hearing;
 mod lane_lines;
 mod letting_in;
 mod naming;
 mod opening;
 mod operating;
+mod owners;
 mod putting_aside;
 mod readers;
 mod recorded;
@@ -48,6 +52,7 @@ mod sweeper;
 mod threads;
 mod tools;
 mod unread;
+mod users;
 mod visiting;
 mod writing;
 mod writing_journal;

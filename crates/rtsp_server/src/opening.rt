@@ -4,6 +4,7 @@ use crate::fault::ServerFault;
 use crate::shared::Shared;
 use crate::socket_lane::SocketLane;
 use crate::threads::OnePacer;
+use crate::users::open_users;
 use mio::net::TcpListener;
 use rtsp_content::{Operation, Table};
 use rtsp_lock::{BookHandle, open_book};
@@ -196,7 +197,7 @@ impl Opening<'_> {
     }
 
     // What the threads of the server share.
-    fn share<R: Net + rt::Clock>(
+    fn share<R: Net + rt::Clock + Files<File = File>>(
         self,
         rt: &R,
         alloc: Global,
@@ -204,7 +205,8 @@ impl Opening<'_> {
         connections: Option<u64>,
     ) -> Result<Arc<Shared>, ServerFault> {
         let listener = TcpListener::from_std(listener.try_clone()?);
-        let shared = Shared::open(rt, alloc, self, listener, connections)?;
+        let users = open_users(rt, alloc, self.operation)?;
+        let shared = Shared::open(rt, alloc, self, listener, connections, users)?;
         match Arc::new(alloc, shared) {
             Ok(shared) => Ok(shared),
             Err(_) => Err(ServerFault::OutOfMemory),

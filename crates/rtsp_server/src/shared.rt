@@ -6,10 +6,12 @@ use crate::draining::Draining;
 use crate::end_lines::EndLines;
 use crate::end_note::EndNote;
 use crate::opening::Opening;
+use crate::owners::Owners;
 use crate::stopping::StopTimes;
 use crate::unread::HELD_IN_ALL;
 use mio::net::TcpListener;
 use rtsp_content::{Operation, Server, Table};
+use rtsp_credentials::Users;
 use rtsp_lock::BookHandle;
 use rtsp_log::{BATCH_LINES, Event, HeaderCause, Log, moment};
 use rtsp_metrics::{Audience, Counters};
@@ -52,6 +54,10 @@ pub(crate) struct Shared {
     pub(crate) gate: Gate,
     /// Those whose connections begin with a header.
     pub(crate) balancers: Balancers,
+    /// Who is let through, where that isn't everybody.
+    pub(crate) users: Option<Users>,
+    /// Which of them each session is of.
+    pub(crate) owners: Owners,
     /// What addresses have of the sessions, where each has a share of them.
     pub(crate) session_shares: Option<Mutex<ShareTable>>,
     pub(crate) outlets: Outlets,
@@ -92,6 +98,8 @@ impl Drop for Shared {
             listener: _listener,
             gate: _gate,
             balancers: _balancers,
+            users: _users,
+            owners: _owners,
             session_shares: _session_shares,
             outlets: _outlets,
             lent: _lent,
@@ -152,6 +160,7 @@ impl Shared {
         of: Opening<'_>,
         listener: TcpListener,
         connections: Option<u64>,
+        users: Option<Users>,
     ) -> io::Result<Shared> {
         let numbers = of.table.server();
         let begun = Instant::now(rt)?;
@@ -169,6 +178,8 @@ impl Shared {
             listener,
             gate,
             balancers,
+            users,
+            owners: Owners::new(alloc),
             session_shares,
             outlets: Outlets::new(alloc),
             lent,

@@ -11,6 +11,7 @@ use rtsp_chronicle::{Doubt, JournalFolder};
 use rtsp_content::Table;
 use rtsp_lock::BookHandle;
 use rtsp_log::{Event, LogWriter, SleepPause, StderrSink};
+use rtsp_metrics::History;
 use rtsp_pacing::{PacerParts, PacerPlays, PacerRoom, pace};
 use rtsp_sockets::{Media, Reader};
 use rtsp_status::StatusServer;
@@ -124,6 +125,7 @@ fn show<R: Wait + Net + rt::Clock>(
             table,
             handle,
             usage,
+            history: History::new(alloc),
             nothing: Vec::new(alloc),
         };
         status.run(rt, figures, &shared.halt);

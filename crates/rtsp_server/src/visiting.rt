@@ -1,14 +1,15 @@
 //! A visit to a connection: what has come is read, answered and written.
 
 use crate::answering::Front;
+use crate::service::Service;
 use crate::writing::AnswerWriter;
-use rtsp_engine::{Connection, PieceReader, VisitEnd, visit};
-use rtsp_sockets::RunningClock;
+use rtsp_engine::{Connection, PieceAnswerer, PieceReader, VisitEnd, visit};
+use rtsp_sockets::{Outlet, RunningClock};
 use rtsp_state::Room;
 use rtsp_threads::{PIECE, PIECES, TimedReader};
 use std::net::Net;
 use std::rt;
-use std::sync::Wait;
+use std::sync::{Arc, Wait};
 
 /// What comes of a visit to a connection.
 #[derive(Clone, Copy, PartialEq, Eq)]
@@ -67,6 +68,41 @@ fn timed_end(end: VisitEnd, is_late: bool) -> VisitEnd {
     }
 }
 
+// Reads a part of what is there, until a moment, has it answered by this one, and puts the answers into
+// the outlet.
+pub(crate) fn visit_by<R: Wait + Net + rt::Clock, A: PieceAnswerer>(
+    service: &Service<'_, R>,
+    outlet: &Arc<Outlet>,
+    answerer: &mut A,
+    input: &mut Connection,
+    room: &mut Room,
+    piece: &mut [u8],
+    part: Part,
+    reads_all: bool,
+    until: u64,
+) -> Read {
+    let clock = RunningClock::new(service.rt, service.shared.begun);
+    let pieces = PieceReader::new(outlet.stream());
+    let mut reader = TimedReader::new(clock, pieces, until);
+    let mut writer = AnswerWriter::new(service.rt, outlet, service.now);
+    let bytes = part.bytes.min(piece.len());
+    let end = visit(
+        service.alloc,
+        answerer,
+        input,
+        &mut reader,
+        &mut writer,
+        room,
+        &mut piece[..bytes],
+        part.pieces,
+        reads_all,
+    );
+    Read {
+        end: timed_end(end, reader.is_late()),
+        is_kept: writer.is_kept(),
+    }
+}
+
 impl<R: Wait + Net + rt::Clock> Front<'_, R> {
     // Reads a part of what is there, until a moment, has it answered, and puts the answers into the
     // outlet.
@@ -79,25 +115,9 @@ impl<R: Wait + Net + rt::Clock> Front<'_, R> {
         reads_all: bool,
         until: u64,
     ) -> Read {
-        let clock = RunningClock::new(self.service.rt, self.service.shared.begun);
-        let pieces = PieceReader::new(self.outlet.stream());
-        let mut reader = TimedReader::new(clock, pieces, until);
-        let mut writer = AnswerWriter::new(self.service.rt, self.outlet, self.service.now);
-        let bytes = part.bytes.min(piece.len());
-        let end = visit(
-            self.service.alloc,
-            self,
-            input,
-            &mut reader,
-            &mut writer,
-            room,
-            &mut piece[..bytes],
-            part.pieces,
-            reads_all,
-        );
-        Read {
-            end: timed_end(end, reader.is_late()),
-            is_kept: writer.is_kept(),
-        }
+        let (service, outlet) = (self.service, self.outlet);
+        visit_by(
+            &service, outlet, self, input, room, piece, part, reads_all, until,
+        )
     }
 }

@@ -304,6 +304,70 @@ fn a_play_is_not_begun_where_something_fails(rt: HostRuntime) {
     }
 }
 
+// SETUPs over two ports, over one, and over the connection, of a player who came through a balancer.
+const BEHIND_A_BALANCER: &str = "\
+SETUP rtsp://h/tone/a RTSP/2.0
+CSeq: 1
+Transport: RTP/AVP;unicast;dest_addr=\":8000\"/\":8001\"
+
+SETUP rtsp://h/tone/b RTSP/2.0
+CSeq: 2
+Session: 00000000000000000000000000000001
+Transport: RTP/AVP;unicast;RTCP-mux;dest_addr=\":8002\"
+
+TEARDOWN rtsp://h/tone RTSP/2.0
+CSeq: 3
+Session: 00000000000000000000000000000001
+
+SETUP rtsp://h/tone/a RTSP/2.0
+CSeq: 4
+Transport: RTP/AVP/TCP;interleaved=0-1
+
+";
+
+const TOLD_BEHIND_A_BALANCER: &str = "\
+RTSP/2.0 200 OK
+CSeq: 1
+Session: 00000000000000000000000000000001;timeout=60
+Transport: RTP/AVP;unicast;dest_addr=\":8000\"/\":8001\";src_addr=\"10.77.0.11:5000\"/\"10.77.0.11:5001\";ssrc=00000001
+Accept-Ranges: npt
+Media-Properties: Random-Access=0.020, Immutable, Unlimited
+Media-Range: npt=0.000-10.000
+
+RTSP/2.0 200 OK
+CSeq: 2
+Session: 00000000000000000000000000000001;timeout=60
+Transport: RTP/AVP;unicast;dest_addr=\":8002\";src_addr=\"10.77.0.11:5002\";RTCP-mux;ssrc=00000002
+Accept-Ranges: npt
+Media-Properties: Random-Access=0.020, Immutable, Unlimited
+Media-Range: npt=0.000-10.000
+
+RTSP/2.0 200 OK
+CSeq: 3
+
+RTSP/2.0 200 OK
+CSeq: 4
+Session: 00000000000000000000000000000003;timeout=60
+Transport: RTP/AVP/TCP;unicast;interleaved=0-1;ssrc=00000003
+Accept-Ranges: npt
+Media-Properties: Random-Access=0.020, Immutable, Unlimited
+Media-Range: npt=0.000-10.000
+
+";
+
+#[test]
+fn a_player_behind_a_balancer_is_told_the_host(rt: HostRuntime) {
+    let server = Server {
+        source: Some(0x0a4d_000b),
+        ..SERVER
+    };
+    let is_told = match converse(&rt, server, BEHIND_A_BALANCER) {
+        Some(talk) => is_said(rt.alloc(), &talk, TOLD_BEHIND_A_BALANCER),
+        None => false,
+    };
+    assert!(rt; is_told);
+}
+
 // Requests of one session, a second apart.
 const REQUESTS_BY_SECOND: &str = "\
 SETUP rtsp://h/tone/a RTSP/2.0

@@ -22,6 +22,8 @@ mod files;
 #[cfg(test)]
 mod folders;
 #[cfg(test)]
+mod guards;
+#[cfg(test)]
 mod history;
 #[cfg(test)]
 mod host;
@@ -37,6 +39,8 @@ mod players;
 mod plays;
 #[cfg(test)]
 mod ports;
+#[cfg(test)]
+mod refused_headers;
 #[cfg(test)]
 mod repairs;
 #[cfg(test)]

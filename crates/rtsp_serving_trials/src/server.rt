@@ -17,12 +17,14 @@ use std::cell::Cell;
 use std::sync::Wait;
 
 /// Further lines of the configuration, how long the journal may be, how many pairs of ports can be
-/// bound, and which other devices work.
+/// bound, the address that packets come from where the player connected to another one, and which
+/// other devices work.
 #[derive(Clone, Copy)]
 pub(crate) struct Server {
     pub(crate) lines: &'static str,
     pub(crate) journal: u32,
     pub(crate) pairs: u16,
+    pub(crate) source: Option<u32>,
     pub(crate) words: bool,
     pub(crate) plays: bool,
 }
@@ -32,6 +34,7 @@ pub(crate) const SERVER: Server = Server {
     lines: "",
     journal: 1_000,
     pairs: 2,
+    source: None,
     words: true,
     plays: true,
 };
@@ -65,11 +68,6 @@ octets = 160
 ticks = 160
 file = \"tone-b.raw\"
 ";
-
-const ASKER: Asker = Asker {
-    conn: 1,
-    peer: 0x7f00_0001,
-};
 
 /// How many requests were told of, and of the last one its status, the first digits of its session,
 /// how long method and URI are, and the channel of the last frame before it.
@@ -108,9 +106,10 @@ impl Witness for Watcher {
     }
 }
 
-// What is lent to a connection.
+// Who asks, and what is lent to a connection.
 #[derive(Drop)]
 struct Devices {
+    asker: Asker,
     ports: PortSet,
     words: Drawing,
     clock: Ticking,
@@ -121,6 +120,11 @@ struct Devices {
 impl Devices {
     fn of(alloc: Global, server: Server) -> Result<Devices, AllocError> {
         Ok(Devices {
+            asker: Asker {
+                conn: 1,
+                peer: 0x7f00_0001,
+                source: server.source,
+            },
             ports: PortSet::open(alloc, 5000, server.pairs)?,
             words: Drawing {
                 works: server.words,
@@ -157,6 +161,7 @@ fn push<R: AllocGlobal + Wait>(
     ensures { SameSeat seat.old seat.new }
 {
     let alloc = rt.alloc();
+    let asker = devices.asker;
     let made = &mut Receipt::new();
     let ports = &mut devices.ports;
     let words = &mut devices.words;
@@ -165,7 +170,7 @@ fn push<R: AllocGlobal + Wait>(
     let shares = &mut NoShares;
     let watcher = &devices.watcher;
     push_lent(
-        rt, alloc, seat, lock, made, ports, words, clock, plays, shares, table, ASKER, watcher,
+        rt, alloc, seat, lock, made, ports, words, clock, plays, shares, table, asker, watcher,
         input, piece, room,
     )
 }
@@ -204,7 +209,8 @@ pub(crate) fn as_sent(alloc: Global, text: &str) -> Result<String, AllocError> {
     text.replace(alloc, "\n", "\r\n")
 }
 
-fn table_of(alloc: Global, lines: &str) -> Option<Table> {
+/// The configuration of a server with further lines.
+pub(crate) fn table_of(alloc: Global, lines: &str) -> Option<Table> {
     let text = format!(in alloc; "[server]\n{lines}\n{CONFIGURATION}");
     Table::read(alloc, text.ok()?.as_bytes()).ok()
 }

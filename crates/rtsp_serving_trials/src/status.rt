@@ -46,6 +46,8 @@ impl Source for SomeFigures {
     fn end(&mut self, session: SessionMeant) -> bool {
         session.number == 28 && session.digits.unwrap_or(0x0a1b_2c3d) == 0x0a1b_2c3d
     }
+
+    fn note(&mut self) {}
 }
 
 // What comes back to a request, of which these are the lines but for the host.

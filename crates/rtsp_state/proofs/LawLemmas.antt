@@ -26,7 +26,7 @@ turned_by start refusals.NumbersSpent = refl
 turned_by start refusals.OutOfMemory = refl
 
 pub answers_refusal : AnswersRefusal
-answers_refusal = record { step = λ plan r. turned_by plan.start r; setup = λ plan drawn r. turned_by (setup_start plan) r }
+answers_refusal = record { step = λ plan r. turned_by plan.start r; setup = λ plan source drawn r. turned_by (setup_start plan) r }
 
 pub shows_allowed : ShowsAllowed
 shows_allowed start (faults.Refused statuses.Success) e = absurd (omega (arith, e))

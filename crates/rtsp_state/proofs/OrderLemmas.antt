@@ -107,13 +107,13 @@ step_order : (plan : StepPlan) (made : Result (List Record) Refusal) → AreInOr
 step_order plan (Ok receipt) = in_order plan.done.cseq plan.done.session (shown_lines plan.details (moved receipt)) (shown_behind plan.details (moved receipt))
 step_order plan (Err r) = turned_order plan.start r
 
-setup_order : (plan : SetupPlan) (drawn : SessionKey) (made : Result Admitted Refusal) → AreInOrder (setup_answer plan drawn made).headers
-setup_order plan drawn (Ok made) = record {
+setup_order : (plan : SetupPlan) (source : Option ℕ) (drawn : SessionKey) (made : Result Admitted Refusal) → AreInOrder (setup_answer plan source drawn made).headers
+setup_order plan source drawn (Ok made) = record {
   fields = fields.CSeq ∷ fields.Session ∷ fields.Transport ∷ fields.AcceptRanges ∷ fields.MediaProperties ∷ fields.MediaRange ∷ [];
   names = refl;
   ascending = refl;
 }
-setup_order plan drawn (Err r) = turned_order (setup_start plan) r
+setup_order plan source drawn (Err r) = turned_order (setup_start plan) r
 
 -- ---- what is decided
 

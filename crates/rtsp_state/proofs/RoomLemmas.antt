@@ -8,8 +8,9 @@ use Rattle.std.proofs.lemmas.Fmt.{length-decimal-le}
 use Rattle.std.proofs.lemmas.List.{length-append}
 use Rattle.std.proofs.lemmas.List.Sums.{sum_by_more_le, sum_by_more}
 use Rattle.rtsp_text.specs.Hexadecimal.{hex_text}
-use Rattle.rtsp_transport.specs.Granted.{port_text, ports_text, transport_text}
-use Rattle.rtsp_transport.specs.declared.write.Granted.TheVariants.{Udp, Mux, Inter}
+use Rattle.rtsp_transport.specs.Granted.{port_text, ports_text, hosted_text, hosted_pair_text, transport_text}
+use Rattle.rtsp_transport.specs.Peer.{peer_text}
+use Rattle.rtsp_transport.specs.declared.write.Granted.TheVariants.{Udp, Mux, UdpFrom, MuxFrom, Inter}
 use Rattle.rtsp_text.proofs.HexLemmas.{length-hex_text}
 use Rattle.rtsp_state.specs.declared.rtp_info.StreamInfo.{StreamInfo}
 use Rattle.rtsp_state.specs.FixedText.{word_room}
@@ -106,6 +107,58 @@ mux_most a p ssrc x y =
     let v = port_most p (omega (arith, y)) in
     let s = ssrc_most ssrc in
     let e : length (transport_text (Mux a p ssrc)) ≡ 26 + length (port_text a) + 10 + length (port_text p) + 15 + length (hex_text 8 ssrc) = join6 (codes "RTP/AVP;unicast;dest_addr=") (port_text a) (codes ";src_addr=") (port_text p) (codes ";RTCP-mux;ssrc=") (hex_text 8 ssrc) in
+    omega (arith, u, v, s, e)
+
+-- ---- transports from another host
+
+byte_most : (n : ℕ) → n < 2 ^ 8 → length (decimal n) ≤ 3
+byte_most n small = length-decimal-le 3 n (lit< tt) (omega arith) (omega arith)
+
+join4 : (a b c d : List ℕ) → length (a ++ 46 ∷ (b ++ 46 ∷ (c ++ 46 ∷ d))) ≡ length a + length b + length c + length d + 3
+join4 a b c d =
+    let x = length-append a (46 ∷ (b ++ 46 ∷ (c ++ 46 ∷ d))) in
+    let y = length-append b (46 ∷ (c ++ 46 ∷ d)) in
+    let z = length-append c (46 ∷ d) in
+    omega (arith, x, y, z)
+
+peer_most : (host : ℕ) → host < 2 ^ 32 → length (peer_text host) ≤ 15
+peer_most host small =
+    let a = byte_most (host / 0x1000000) (omega (arith, small)) in
+    let b = byte_most (host / 0x10000 % 256) (omega arith) in
+    let c = byte_most (host / 0x100 % 256) (omega arith) in
+    let d = byte_most (host % 256) (omega arith) in
+    let e : length (peer_text host) ≡ length (decimal (host / 0x1000000)) + length (decimal (host / 0x10000 % 256)) + length (decimal (host / 0x100 % 256)) + length (decimal (host % 256)) + 3 =
+    join4 (decimal (host / 0x1000000)) (decimal (host / 0x10000 % 256)) (decimal (host / 0x100 % 256)) (decimal (host % 256)) in
+    omega (arith, a, b, c, d, e)
+
+hosted_most : (host port : ℕ) → host < 2 ^ 32 → port < 2 ^ 17 → length (hosted_text host port) ≤ 24
+hosted_most host port x y =
+    let h = peer_most host x in
+    let p = decimal_of_17 port y in
+    let e : length (hosted_text host port) ≡ 1 + length (peer_text host) + 1 + length (decimal port) + 1 = join5 (codes "\"") (peer_text host) (codes ":") (decimal port) (codes "\"") in
+    omega (arith, h, p, e)
+
+hosted_pair_most : (host a b : ℕ) → host < 2 ^ 32 → a < 2 ^ 17 → b < 2 ^ 17 → length (hosted_pair_text host a b) ≤ 49
+hosted_pair_most host a b h x y =
+    let p = hosted_most host a h x in
+    let q = hosted_most host b h y in
+    let e : length (hosted_pair_text host a b) ≡ length (hosted_text host a) + 1 + length (hosted_text host b) = join3 (hosted_text host a) (codes "/") (hosted_text host b) in
+    omega (arith, p, q, e)
+
+pub udp_from_most : (a b host p ssrc : ℕ) → a < 2 ^ 16 → b < 2 ^ 16 → host < 2 ^ 32 → p < 2 ^ 16 → length (transport_text (UdpFrom a b host p ssrc)) ≤ 118
+udp_from_most a b host p ssrc x y h z =
+    let u = ports_most a b (omega (arith, x)) (omega (arith, y)) in
+    let v = hosted_pair_most host p (p + 1) h (omega (arith, z)) (omega (arith, z)) in
+    let s = ssrc_most ssrc in
+    let e : length (transport_text (UdpFrom a b host p ssrc)) ≡ 26 + length (ports_text a b) + 10 + length (hosted_pair_text host p (p + 1)) + 6 + length (hex_text 8 ssrc) = join6 (codes "RTP/AVP;unicast;dest_addr=") (ports_text a b) (codes ";src_addr=") (hosted_pair_text host p (p + 1)) (codes ";ssrc=") (hex_text 8 ssrc) in
+    omega (arith, u, v, s, e)
+
+pub mux_from_most : (a host p ssrc : ℕ) → a < 2 ^ 16 → host < 2 ^ 32 → p < 2 ^ 16 → length (transport_text (MuxFrom a host p ssrc)) ≤ 118
+mux_from_most a host p ssrc x h y =
+    let u = port_most a (omega (arith, x)) in
+    let v = hosted_most host p h (omega (arith, y)) in
+    let s = ssrc_most ssrc in
+    let e : length (transport_text (MuxFrom a host p ssrc)) ≡ 26 + length (port_text a) + 10 + length (hosted_text host p) + 15 + length (hex_text 8 ssrc) = join6 (codes "RTP/AVP;unicast;dest_addr=") (port_text a) (codes ";src_addr=") (hosted_text host p) (codes ";RTCP-mux;ssrc=") (hex_text 8 ssrc) in
     omega (arith, u, v, s, e)
 
 pub inter_most : (k ssrc : ℕ) → k < 2 ^ 8 → length (transport_text (Inter k ssrc)) ≤ 88

@@ -184,9 +184,9 @@ step_undone a s r e = turned_shows s.start a.view r (planned_at a (plans.Step s)
 sets_up : (a : Asking) (plan : SetupPlan) → plan_of a ≡ plans.Admit plan → SetsUpIn a.view plan.session
 sets_up a plan e = (planned_at a (plans.Admit plan) e).1
 
-admitted_shows : (plan : SetupPlan) (drawn : SessionKey) (made : Admitted) → sessions_in (setup_answer plan drawn (Ok made)) ≡ timed (key_of plan.session drawn).id plan.timeout
+admitted_shows : (plan : SetupPlan) (source : Option ℕ) (drawn : SessionKey) (made : Admitted) → sessions_in (setup_answer plan source drawn (Ok made)) ≡ timed (key_of plan.session drawn).id plan.timeout
 unfolding values_of name_of_field text_of
-admitted_shows plan drawn made = refl
+admitted_shows plan source drawn made = refl
 
 -- the key of a session that is opened, or lives
 same_id : (view : Option Living) (session : SetupSession) (drawn : SessionKey) → SetsUpIn view session → (key_of session drawn).id ≡ id_in view drawn
@@ -194,9 +194,9 @@ same_id None (New expires startup) drawn h = refl
 same_id None (Lives key) drawn h = absurd h
 same_id (Some v) session drawn h = ap (λ (s : SetupSession). (key_of s drawn).id) h
 
-set_up : (a : Asking) (plan : SetupPlan) (drawn : SessionKey) (made : Admitted) → plan_of a ≡ plans.Admit plan → sessions_in (setup_answer plan drawn (Ok made)) ≡ timed (id_in a.view drawn) a.table.server.timeout
-set_up a plan drawn made e =
-    admitted_shows plan drawn made
+set_up : (a : Asking) (plan : SetupPlan) (source : Option ℕ) (drawn : SessionKey) (made : Admitted) → plan_of a ≡ plans.Admit plan → sessions_in (setup_answer plan source drawn (Ok made)) ≡ timed (id_in a.view drawn) a.table.server.timeout
+set_up a plan source drawn made e =
+    admitted_shows plan source drawn made
     ∙ ap (λ (id : ℕ). timed id plan.timeout) (same_id a.view plan.session drawn (planned_at a (plans.Admit plan) e).1)
     ∙ ap (λ (t : ℕ). timed (id_in a.view drawn) t) (planned_at a (plans.Admit plan) e).0
 
@@ -205,8 +205,8 @@ same_start None (New expires startup) h = refl
 same_start None (Lives key) h = absurd h
 same_start (Some v) session h = ap id_known h
 
-refused_setup : (a : Asking) (plan : SetupPlan) (drawn : SessionKey) (r : Refusal) → plan_of a ≡ plans.Admit plan → sessions_in (setup_answer plan drawn (Err r)) ≡ still_shown a.view r
-refused_setup a plan drawn r e = turned_shows (setup_start plan) a.view r (same_start a.view plan.session (planned_at a (plans.Admit plan) e).1)
+refused_setup : (a : Asking) (plan : SetupPlan) (source : Option ℕ) (drawn : SessionKey) (r : Refusal) → plan_of a ≡ plans.Admit plan → sessions_in (setup_answer plan source drawn (Err r)) ≡ still_shown a.view r
+refused_setup a plan source drawn r e = turned_shows (setup_start plan) a.view r (same_start a.view plan.session (planned_at a (plans.Admit plan) e).1)
 
 -- ---- answers at once
 

@@ -54,25 +54,25 @@ shown_lines (details.Played timing parts) phase = played_lines timing parts (pla
 abbrev pub done : StepPlan → List Record → Response
 done s receipt = response Success (start_lines s.done ++ shown_lines s.details (moved receipt)) []
 
-abbrev pub granted_lines : SetupPlan → ℕ → Admitted → List HeaderText
-granted_lines plan id made = cseq_line plan.cseq ∷ opened_line id plan.timeout ∷ transport_line made.address made.stream ∷ []
+abbrev pub granted_lines : SetupPlan → Option ℕ → ℕ → Admitted → List HeaderText
+granted_lines plan source id made = cseq_line plan.cseq ∷ opened_line id plan.timeout ∷ transport_line source made.address made.stream ∷ []
 
 abbrev pub media_lines : Timing → List HeaderText
 media_lines timing = accept_ranges_line ∷ properties_line timing.longest_gap timing.unit_ms ∷ media_range_line timing ∷ []
 
-abbrev pub admitted_lines : SetupPlan → ℕ → Admitted → List HeaderText
-admitted_lines plan id made = granted_lines plan id made ++ media_lines plan.timing
+abbrev pub admitted_lines : SetupPlan → Option ℕ → ℕ → Admitted → List HeaderText
+admitted_lines plan source id made = granted_lines plan source id made ++ media_lines plan.timing
 
--- the response to an admission into the session of this id
-abbrev pub admitted : SetupPlan → ℕ → Admitted → Response
-admitted plan id made = response Success (admitted_lines plan id made) []
+-- the response to an admission into the session of this id, with the host that packets come from, where it has to be told
+abbrev pub admitted : SetupPlan → Option ℕ → ℕ → Admitted → Response
+admitted plan source id made = response Success (admitted_lines plan source id made) []
 
 -- the response to a step, from what came of it
 abbrev pub step_answer : StepPlan → Result (List Record) Refusal → Response
 step_answer plan (Ok receipt) = done plan receipt
 step_answer plan (Err refusal) = refusal_response plan.start refusal
 
--- the response to an admission, from the key that was drawn and what came of it
-abbrev pub setup_answer : SetupPlan → SessionKey → Result Admitted Refusal → Response
-setup_answer plan drawn (Ok made) = admitted plan (key_of plan.session drawn).id made
-setup_answer plan drawn (Err refusal) = refusal_response (setup_start plan) refusal
+-- the response to an admission, from the host to be told, the key that was drawn and what came of it
+abbrev pub setup_answer : SetupPlan → Option ℕ → SessionKey → Result Admitted Refusal → Response
+setup_answer plan source drawn (Ok made) = admitted plan source (key_of plan.session drawn).id made
+setup_answer plan source drawn (Err refusal) = refusal_response (setup_start plan) refusal

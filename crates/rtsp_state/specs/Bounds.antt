@@ -29,7 +29,7 @@ step_room plan = details_room plan.details + 211
 
 -- the response to a SETUP, admitted or refused
 abbrev pub setup_room : ℕ
-setup_room = 440
+setup_room = 470
 
 -- option tags and a base are as long as the client wrote them; no other value of a reply is
 abbrev pub value_room : HeaderText → ℕ

@@ -68,7 +68,7 @@ ReadsOnce = (table : TableValue) (request : Request) (parsed : ParsedValue) → 
 -- a refused step, and a refused admission, is answered by its refusal's status
 pub record AnswersRefusal : Type 0 where
   pub step : (plan : StepPlan) (r : Refusal) → (step_answer plan (Err r)).status ≡ code (status_of r)
-  pub setup : (plan : SetupPlan) (drawn : SessionKey) (r : Refusal) → (setup_answer plan drawn (Err r)).status ≡ code (status_of r)
+  pub setup : (plan : SetupPlan) (source : Option ℕ) (drawn : SessionKey) (r : Refusal) → (setup_answer plan source drawn (Err r)).status ≡ code (status_of r)
 
 -- a 455 shows which methods are refused in no state, and nothing else behind the front (RFC 7826 section 18.6)
 abbrev pub ShowsAllowed : Type 0
@@ -162,7 +162,8 @@ pub record AnswersInOrder : Type 0 where
   pub planned : (a : Asking) (given : Response) → plan_of a ≡ plans.Answer given → AreInOrder given.headers
   -- a step and an admission, whatever came of them
   pub stepped : (plan : StepPlan) (made : Result (List Record) Refusal) → AreInOrder (step_answer plan made).headers
-  pub set_up : (plan : SetupPlan) (drawn : SessionKey) (made : Result Admitted Refusal) → AreInOrder (setup_answer plan drawn made).headers
+  pub set_up : (plan : SetupPlan) (source : Option ℕ) (drawn : SessionKey) (made : Result Admitted Refusal)
+      → AreInOrder (setup_answer plan source drawn made).headers
   -- a refusal, and a refused step
   pub fault : (start : ResponseStart) (f : Fault) → AreInOrder (refused start f).headers
   pub refusal : (start : ResponseStart) (r : Refusal) → AreInOrder (refusal_response start r).headers
@@ -236,7 +237,7 @@ pub record ShowsSession : Type 0 where
       → sessions_in (step_answer plan (Err r)) ≡ still_shown a.view r
   -- an admission opens a session exactly where none lives, and shows the one that it opened or found
   pub sets_up : (a : Asking) (plan : SetupPlan) → plan_of a ≡ plans.Admit plan → SetsUpIn a.view plan.session
-  pub set_up : (a : Asking) (plan : SetupPlan) (drawn : SessionKey) (made : Admitted) → plan_of a ≡ plans.Admit plan
-      → sessions_in (setup_answer plan drawn (Ok made)) ≡ timed (id_in a.view drawn) a.table.server.timeout
-  pub refused_setup : (a : Asking) (plan : SetupPlan) (drawn : SessionKey) (r : Refusal) → plan_of a ≡ plans.Admit plan
-      → sessions_in (setup_answer plan drawn (Err r)) ≡ still_shown a.view r
+  pub set_up : (a : Asking) (plan : SetupPlan) (source : Option ℕ) (drawn : SessionKey) (made : Admitted) → plan_of a ≡ plans.Admit plan
+      → sessions_in (setup_answer plan source drawn (Ok made)) ≡ timed (id_in a.view drawn) a.table.server.timeout
+  pub refused_setup : (a : Asking) (plan : SetupPlan) (source : Option ℕ) (drawn : SessionKey) (r : Refusal) → plan_of a ≡ plans.Admit plan
+      → sessions_in (setup_answer plan source drawn (Err r)) ≡ still_shown a.view r

@@ -4,7 +4,7 @@ use Rattle.rtsp_grammar.specs.Header.{HeaderText}
 use Rattle.rtsp_text.specs.Hexadecimal.{hex_text}
 use Rattle.rtsp_transport.specs.Granted.{transport_text}
 use Rattle.rtsp_transport.specs.declared.write.Granted.{Granted}
-use Rattle.rtsp_transport.specs.declared.write.Granted.TheVariants.{Udp, Mux, Inter}
+use Rattle.rtsp_transport.specs.declared.write.Granted.TheVariants.{Udp, Mux, UdpFrom, MuxFrom, Inter}
 use Rattle.rtsp_npt.specs.Printed.{time_text, range_text}
 use Rattle.rtsp_record.specs.declared.holdings.Thing.{Thing}
 use Rattle.rtsp_record.specs.declared.holdings.Thing.TheVariants.{Pair, Port, Chan, Rate}
@@ -60,20 +60,31 @@ range_line from stop unit_ms = record { name = name_of_field fields.Range; value
 abbrev pub seek_line : HeaderText
 seek_line = record { name = name_of_field fields.SeekStyle; value = text_of words.Rap }
 
+-- two ports of the server and two of the client; the server's are told with the host that packets come from, where that isn't the one that the
+-- client connected to (section 18.54)
+abbrev pub pair_of : Option ℕ → ℕ → Stream → Granted
+pair_of None p stream = Udp stream.rtp_port stream.rtcp_port p stream.ssrc
+pair_of (Some host) p stream = UdpFrom stream.rtp_port stream.rtcp_port host p stream.ssrc
+
+-- one port of each, in the same way
+abbrev pub port_of : Option ℕ → ℕ → Stream → Granted
+port_of None p stream = Mux stream.rtp_port p stream.ssrc
+port_of (Some host) p stream = MuxFrom stream.rtp_port host p stream.ssrc
+
 -- what an address and a stream are granted as: two channels of the connection, or two ports of the server and two of the
 -- client, or one of each; bandwidth alone is no transport
-abbrev pub granted_of : Thing → Stream → Option Granted
-granted_of (Pair p) stream = Some (Udp stream.rtp_port stream.rtcp_port p stream.ssrc)
-granted_of (Port p) stream = Some (Mux stream.rtp_port p stream.ssrc)
-granted_of (Chan c k) stream = Some (Inter k stream.ssrc)
-granted_of (Rate n) stream = None
+abbrev pub granted_of : Option ℕ → Thing → Stream → Option Granted
+granted_of source (Pair p) stream = Some (pair_of source p stream)
+granted_of source (Port p) stream = Some (port_of source p stream)
+granted_of source (Chan c k) stream = Some (Inter k stream.ssrc)
+granted_of source (Rate n) stream = None
 
 unfoldable pub granted_text : Option Granted → List ℕ
 granted_text None = []
 granted_text (Some granted) = transport_text granted
 
-abbrev pub transport_line : Thing → Stream → HeaderText
-transport_line address stream = record { name = name_of_field fields.Transport; value = granted_text (granted_of address stream) }
+abbrev pub transport_line : Option ℕ → Thing → Stream → HeaderText
+transport_line source address stream = record { name = name_of_field fields.Transport; value = granted_text (granted_of source address stream) }
 
 -- the base of the URIs of tracks: the URI of the request without query and fragment, with a slash at its end
 abbrev pub base_line : List ℕ → HeaderText

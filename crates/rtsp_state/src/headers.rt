@@ -3,11 +3,12 @@
 ghost use Rattle.std.specs.Prelude.{◌≡◌, ◌≤◌, ◌+◌, ◌++◌, ◌∷◌, [], length, decimal};
 ghost use Rattle.rtsp_grammar.specs.Writing.{header_text, headers_text};
 ghost use Rattle.rtsp_text.specs.Hexadecimal.{hex_text};
+ghost use Rattle.rtsp_transport.specs.Granted.{transport_text};
 ghost use Rattle.rtsp_npt.specs.Printed.{time_text};
 ghost use Rattle.rtsp_state.specs.Room.{Takes};
 ghost use Rattle.rtsp_state.specs.FixedText.{header_name, word_room, status_line};
 ghost use Rattle.rtsp_state.specs.Words.{name_of_field, text_of};
-ghost use Rattle.rtsp_state.specs.Lines.{cseq_line, session_line, opened_line, public_line, allow_line, unsupported_line, granted_of, granted_text, transport_line, accept_ranges_line, properties_line, media_range_line, range_line, seek_line, base_line, type_line, length_line, session_lines, start_lines};
+ghost use Rattle.rtsp_state.specs.Lines.{cseq_line, session_line, opened_line, public_line, allow_line, unsupported_line, pair_of, port_of, granted_of, granted_text, transport_line, accept_ranges_line, properties_line, media_range_line, range_line, seek_line, base_line, type_line, length_line, session_lines, start_lines};
 ghost use Rattle.rtsp_state.specs.declared.words.Word.TheVariants as words;
 ghost use Rattle.rtsp_state.specs.declared.words.Field.TheVariants as fields;
 ghost use Rattle.rtsp_state.specs.declared.status.Status.TheVariants as statuses;
@@ -179,29 +180,56 @@ pub fn put_unsupported(room: &mut Room, tags: &[u8])
     put_given(room, Field::Unsupported, tags);
 }
 
+// Over two ports of the server, from this host where it has to be told.
+fn put_pair(room: &mut Room, source: Option<u32>, port: u16, stream: &Stream)
+    requires { 118 ≤ room.old.spare }
+    ensures text { room.new.text ≡ room.old.text ++ transport_text (pair_of source port stream.now) }
+    ensures room { Takes room.old room.new 118 }
+{
+    match source {
+        None => room.put_udp(stream.rtp_port, stream.rtcp_port, port, stream.ssrc),
+        Some(host) => {
+            room.put_udp_from(stream.rtp_port, stream.rtcp_port, host, port, stream.ssrc)
+        }
+    }
+}
+
+// Over one port of the server, from this host where it has to be told.
+fn put_port(room: &mut Room, source: Option<u32>, port: u16, stream: &Stream)
+    requires { 118 ≤ room.old.spare }
+    ensures text { room.new.text ≡ room.old.text ++ transport_text (port_of source port stream.now) }
+    ensures room { Takes room.old room.new 118 }
+{
+    match source {
+        None => room.put_mux(stream.rtp_port, port, stream.ssrc),
+        Some(host) => room.put_mux_from(stream.rtp_port, host, port, stream.ssrc),
+    }
+}
+
 #[tactic(auto, unfolding(crate::specs::Lines::granted_text))]
-fn put_granted_value(room: &mut Room, address: Thing, stream: &Stream)
-    requires { 88 ≤ room.old.spare }
-    ensures text { room.new.text ≡ room.old.text ++ granted_text (granted_of address stream.now) }
-    ensures room { Takes room.old room.new 88 }
+fn put_granted_value(room: &mut Room, source: Option<u32>, address: Thing, stream: &Stream)
+    requires { 118 ≤ room.old.spare }
+    ensures text { room.new.text ≡ room.old.text ++ granted_text (granted_of source address stream.now) }
+    ensures room { Takes room.old room.new 118 }
 {
     match address {
-        Thing::Pair(port) => room.put_udp(stream.rtp_port, stream.rtcp_port, port, stream.ssrc),
-        Thing::Port(port) => room.put_mux(stream.rtp_port, port, stream.ssrc),
+        Thing::Pair(port) => put_pair(room, source, port, stream),
+        Thing::Port(port) => put_port(room, source, port, stream),
         Thing::Chan(_, channel) => room.put_interleaved(channel, stream.ssrc),
         Thing::Rate(_) => {}
     }
 }
 
-/// Transport, as it is granted over an address: ports or channels. A rate is none.
+/// Transport, as it is granted over an address: ports, on the host of `source` where it has to be
+/// told, or channels. A rate is none.
 #[tactic(auto, using(crate::proofs::MessageLemmas::line_of))]
-pub fn put_transport(room: &mut Room, address: Thing, stream: &Stream)
-    requires { 108 ≤ room.old.spare }
-    ensures text { room.new.text ≡ room.old.text ++ header_text (transport_line address stream.now) }
-    ensures room { Takes room.old room.new 108 }
+pub fn put_transport(room: &mut Room, source: Option<u32>, address: Thing, stream: &Stream)
+    requires { 138 ≤ room.old.spare }
+    ensures text { room.new.text ≡ room.old.text ++ header_text (transport_line source address stream.now) }
+    ensures room { Takes room.old room.new 138 }
 {
     put_name(room, Field::Transport);
-    put_granted_value(room, address, stream);
+    put_granted_value(room, source, address, stream);
     put_end(room);
 }
 

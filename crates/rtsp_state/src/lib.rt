@@ -49,6 +49,7 @@ pub use laws::{
 };
 pub use media_base::MediaBase;
 pub use media_uri::MediaUri;
+pub use order_of_refusals::cseq_of;
 pub use plan::Plan;
 pub use renewals::{renewal, renewal_refused};
 pub use reply::Reply;

@@ -1,13 +1,15 @@
 //! The buffer that a connection's responses are written into.
 
-ghost use Rattle.std.specs.Prelude.{◌<◌, ◌^◌, ◌-◌, ◌≡◌, ◌≤◌, ◌++◌, [], length, decimal, OnOk};
+ghost use Rattle.std.specs.Prelude.{◌<◌, ◌^◌, ◌-◌, ◌≡◌, ◌≤◌, ◌++◌, [], length, decimal, OnOk, OnErr};
+ghost use Rattle.rtsp_grammar.specs.Writing.{response_text};
 ghost use Rattle.rtsp_text.specs.Hexadecimal.{hex_text};
 ghost use Rattle.rtsp_transport.specs.Granted.{transport_text};
-ghost use Rattle.rtsp_transport.specs.declared.write.Granted.TheVariants.{Udp, Mux, Inter};
+ghost use Rattle.rtsp_transport.specs.declared.write.Granted.TheVariants.{Udp, Mux, UdpFrom, MuxFrom, Inter};
 ghost use Rattle.rtsp_npt.specs.Printed.{time_text, range_text, stop_text};
 ghost use Rattle.rtsp_state.specs.Room.{Takes};
 
 use itoa::Buffer;
+use rtsp_grammar::{Response, write_response};
 use rtsp_npt::{UnitLength, write_range, write_stop, write_time};
 use rtsp_transport::{Granted, write_session_id, write_ssrc, write_transport};
 use std::alloc::{AllocError, Global};
@@ -72,6 +74,14 @@ impl Room {
         ensures room { Takes self.old self.new (length text.now) }
     {
         self.bytes.extend_from_slice(text).unwrap();
+    }
+
+    /// Writes a response for which no room was made, or nothing.
+    pub fn append(&mut self, response: &Response) -> Result<(), AllocError>
+        ensures ok { OnOk result (self.new.text ≡ self.old.text ++ response_text response.now) }
+        ensures mute { OnErr result (self.new.text ≡ self.old.text) }
+    {
+        write_response(&mut self.bytes, response)
     }
 
     /// Writes a number in decimal.
@@ -141,6 +151,46 @@ impl Room {
     {
         let granted = Granted::Mux {
             client,
+            server,
+            ssrc,
+        };
+        write_transport(&mut self.bytes, &granted).unwrap();
+    }
+
+    /// Writes a transport over UDP from another host than the one that the client connected to.
+    #[tactic(auto, using(crate::proofs::RoomLemmas::appended, crate::proofs::RoomLemmas::udp_from_most))]
+    pub(crate) fn put_udp_from(
+        &mut self,
+        client_rtp: u16,
+        client_rtcp: u16,
+        host: u32,
+        server_rtp: u16,
+        ssrc: u32,
+    )
+        requires { 118 ≤ self.old.spare }
+        ensures text { self.new.text ≡ self.old.text ++ transport_text (UdpFrom client_rtp client_rtcp host server_rtp ssrc) }
+        ensures room { Takes self.old self.new 118 }
+    {
+        let granted = Granted::UdpFrom {
+            client_rtp,
+            client_rtcp,
+            host,
+            server_rtp,
+            ssrc,
+        };
+        write_transport(&mut self.bytes, &granted).unwrap();
+    }
+
+    /// Writes a transport over UDP with RTP and RTCP on one port, from another host.
+    #[tactic(auto, using(crate::proofs::RoomLemmas::appended, crate::proofs::RoomLemmas::mux_from_most))]
+    pub(crate) fn put_mux_from(&mut self, client: u16, host: u32, server: u16, ssrc: u32)
+        requires { 118 ≤ self.old.spare }
+        ensures text { self.new.text ≡ self.old.text ++ transport_text (MuxFrom client host server ssrc) }
+        ensures room { Takes self.old self.new 118 }
+    {
+        let granted = Granted::MuxFrom {
+            client,
+            host,
             server,
             ssrc,
         };

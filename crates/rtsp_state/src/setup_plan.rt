@@ -210,18 +210,25 @@ impl SetupPlan {
         ensures text { room.new.text ≡ room.old.text }
         ensures ok { OnOk result (setup_room ≤ room.new.spare) }
     {
-        room.reserve(440)
+        room.reserve(470)
     }
 
-    /// Writes the response, from the key that was drawn and what came of the admission. It takes
-    /// no memory and can't fail.
-    pub fn answer(&self, room: &mut Room, drawn: SessionKey, made: Result<&Admitted, Refusal>)
+    /// Writes the response, from the key that was drawn and what came of the admission. `source` is
+    /// the IPv4 address that packets over UDP come from, where the player connected to another one.
+    /// It takes no memory and can't fail.
+    pub fn answer(
+        &self,
+        room: &mut Room,
+        source: Option<u32>,
+        drawn: SessionKey,
+        made: Result<&Admitted, Refusal>,
+    )
         requires { setup_room ≤ room.old.spare }
-        ensures text { room.new.text ≡ room.old.text ++ response_text (setup_answer self.now drawn (result_map_both (λ m. m.now) (λ e. e) made.entry)) }
+        ensures text { room.new.text ≡ room.old.text ++ response_text (setup_answer self.now source drawn (result_map_both (λ m. m.now) (λ e. e) made.entry)) }
         ensures room { Takes room.old room.new setup_room }
     {
         match made {
-            Ok(made) => write_admitted(room, self, self.key(drawn).id, made),
+            Ok(made) => write_admitted(room, self, source, self.key(drawn).id, made),
             Err(refusal) => write_refused_step(room, self.start(), refusal),
         }
     }
@@ -238,14 +245,14 @@ impl SetupPlan {
 }
 
 #[tactic(auto, using(crate::proofs::MessageLemmas::headers_three))]
-fn put_granted(room: &mut Room, plan: &SetupPlan, id: u128, made: &Admitted)
-    requires { 209 ≤ room.old.spare }
-    ensures text { room.new.text ≡ room.old.text ++ headers_text (granted_lines plan.now id made.now) }
-    ensures room { Takes room.old room.new 209 }
+fn put_granted(room: &mut Room, plan: &SetupPlan, source: Option<u32>, id: u128, made: &Admitted)
+    requires { 239 ≤ room.old.spare }
+    ensures text { room.new.text ≡ room.old.text ++ headers_text (granted_lines plan.now source id made.now) }
+    ensures room { Takes room.old room.new 239 }
 {
     put_cseq(room, plan.cseq);
     put_opened(room, id, plan.timeout);
-    put_transport(room, made.address, &made.stream);
+    put_transport(room, source, made.address, &made.stream);
 }
 
 #[tactic(auto, using(crate::proofs::MessageLemmas::headers_three))]
@@ -260,13 +267,13 @@ fn put_media(room: &mut Room, timing: Timing)
 }
 
 // The response to a track that was admitted into the session of this id.
-fn write_admitted(room: &mut Room, plan: &SetupPlan, id: u128, made: &Admitted)
+fn write_admitted(room: &mut Room, plan: &SetupPlan, source: Option<u32>, id: u128, made: &Admitted)
     requires { setup_room ≤ room.old.spare }
-    ensures text { room.new.text ≡ room.old.text ++ response_text (admitted plan.now id made.now) }
+    ensures text { room.new.text ≡ room.old.text ++ response_text (admitted plan.now source id made.now) }
     ensures room { Takes room.old room.new setup_room }
 {
     put_status_line(room, Status::Success);
-    put_granted(room, plan, id, made);
+    put_granted(room, plan, source, id, made);
     put_media(room, plan.timing);
     put_end(room);
 }

@@ -1,6 +1,6 @@
 //! The limits of the status server.
 
-/// The most connections at once. One more closes the oldest.
+/// The most connections at once. One more closes the oldest of the address that has the most.
 pub const PEERS: usize = 16;
 
 /// For how long a connection lasts at most, in milliseconds.

@@ -3,7 +3,7 @@
 use crate::asked::SessionMeant;
 use crate::halt::Halt;
 use crate::limits::{HEAD, LIFE, PEERS};
-use crate::peer::{Peer, nearness_of};
+use crate::peer::Peer;
 use crate::service::StatusService;
 use crate::shown::Further;
 use crate::standing::Standing;
@@ -16,7 +16,7 @@ use slab::Slab;
 use std::alloc::{AllocError, Global};
 use std::hash::RandomState;
 use std::io;
-use std::net::{Net, SocketAddr};
+use std::net::{IpAddr, Net, SocketAddr};
 use std::os::fd::AsRawFd;
 use std::random::RandomSource;
 use std::rt::Clock;
@@ -45,6 +45,9 @@ pub trait Source: Drop {
 
     /// Ends a session. Whether there was such a one.
     fn end(&mut self, session: SessionMeant) -> bool;
+
+    /// A turn has come, some four a second: what is shown of how things went is noted.
+    fn note(&mut self);
 }
 
 /// A server that listens.
@@ -126,16 +129,29 @@ impl StatusServer {
         }
     }
 
-    // The oldest connection.
-    fn oldest(&self) -> Option<usize> {
-        let mut found = None;
-        let mut since = u64::MAX;
+    // How many connections a host has.
+    fn count_of(&self, host: IpAddr) -> usize {
+        let mut count = 0usize;
         for key in 0..self.peers.capacity() {
             if let Some(peer) = self.peers.get(key)
-                && peer.since < since
+                && peer.host() == host
             {
-                since = peer.since;
-                found = Some(key);
+                count = count.saturating_add(1);
+            }
+        }
+        count
+    }
+
+    // The connection that is closed for a newcomer: the oldest of the host that has the most, so that
+    // whoever opens many closes its own.
+    fn least_wanted(&self) -> Option<usize> {
+        let (mut found, mut most, mut since) = (None, 0usize, u64::MAX);
+        for key in 0..self.peers.capacity() {
+            if let Some(peer) = self.peers.get(key) {
+                let count = self.count_of(peer.host());
+                if count > most || count == most && peer.since < since {
+                    (found, most, since) = (Some(key), count, peer.since);
+                }
             }
         }
         found
@@ -146,10 +162,10 @@ impl StatusServer {
         drop(self.peers.try_remove(key));
     }
 
-    // Closes the oldest connection where there are as many as there may be.
+    // Closes a connection where there are as many as there may be.
     fn make_place(&mut self) {
         if self.peers.len() >= PEERS
-            && let Some(key) = self.oldest()
+            && let Some(key) = self.least_wanted()
         {
             self.end(key);
         }
@@ -159,7 +175,7 @@ impl StatusServer {
     fn receive(&mut self, stream: TcpStream, address: SocketAddr, now: u64) {
         self.make_place();
         let http = Connection::new(self.alloc, self.keys, config());
-        let peer = Peer::new(stream, http, nearness_of(address), now);
+        let peer = Peer::new(stream, http, address, now);
         let fd = peer.fd();
         let Ok(key) = self.peers.insert(peer) else {
             return;
@@ -231,6 +247,7 @@ impl StatusServer {
             if halt.is_halted() {
                 break;
             }
+            service.note();
             let now = self.now(rt);
             self.serve_once(&mut service, now);
         }

@@ -191,6 +191,11 @@ impl<S: Source> StatusService<S> {
         }
     }
 
+    /// Has the source note how it stands.
+    pub fn note(&mut self) {
+        self.source.note();
+    }
+
     // Has the source do what is asked of it, once the response is filled. A refusal does nothing.
     fn act(&mut self, asked: Asked, response: &mut Response) -> Result<(), AllocError>
         requires { Fills self.old.shown asked response.old }

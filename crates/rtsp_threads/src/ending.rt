@@ -3,6 +3,8 @@
 ghost use Rattle.std.specs.Prelude.{◌≡◌};
 ghost use Rattle.std.specs.Arc.{arc_value};
 ghost use Rattle.rtsp_lock.specs.Calls.{SameSeat};
+ghost use Rattle.rtsp_admit.specs.Runs.{state_of};
+ghost use Rattle.rtsp_threads.specs.Ending.{EndsSession};
 
 use rtsp_admit::unbind_freed;
 use rtsp_book::{Receipt, Step};
@@ -20,6 +22,7 @@ pub fn end_session<R: Wait, B: Binder>(
 ) -> bool
     ensures same { SameSeat handle.old.seat handle.new.seat }
     ensures lock { arc_value handle.new.lock ≡ arc_value handle.old.lock }
+    ensures ended { EndsSession B.calls session (state_of handle.old.seat binder.old) (state_of handle.new.seat binder.new) result }
 {
     let mut made = Receipt::new();
     let step = Step::End { session };

@@ -115,7 +115,11 @@ impl OneSetup {
         for _ in 0..self.ids {
             let _ = words.id();
         }
-        let asker = Asker { conn, peer: 0 };
+        let asker = Asker {
+            conn,
+            peer: 0,
+            source: None,
+        };
         if is_set_up(rt, alloc, &mut own, &mut binder, &mut words, table, asker) {
             self.answered.store(true, Ordering::SeqCst);
         }

@@ -80,7 +80,11 @@ pub fn converse<R: Wait>(
         &mut Ports::new(failing),
         &mut Counted::new(failing),
         &table,
-        Asker { conn, peer },
+        Asker {
+            conn,
+            peer,
+            source: None,
+        },
         &mut Requests::new(requests, failing),
         &mut answers,
         turns,

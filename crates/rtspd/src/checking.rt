@@ -3,6 +3,7 @@
 use crate::reasons::folder_fault;
 use crate::running::read_file;
 use crate::serving::{address_of, fault_exit};
+use crate::users::users_fault;
 use rtsp_command_line::Exit;
 use rtsp_content::{Operation, Presentation, Table, TableFault, Track};
 use rtsp_engine::{ByteOut, CountedWriter};
@@ -223,6 +224,18 @@ fn look_at_listening<R: Net<Listener = TcpListener, Stream = TcpStream>>(
     }
 }
 
+// Looks at the file of users.
+fn look_at_users<R: Files<File = File> + AllocGlobal>(
+    rt: &R,
+    report: &mut Report<'_, '_>,
+    path: &str,
+) -> Result<(), AllocError> {
+    match users_fault(rt, path)? {
+        None => Ok(()),
+        Some((exit, why)) => report.stop(exit, Some((Place::Server, "users")), why.as_str()),
+    }
+}
+
 // Looks at the folder of the journal's files.
 fn look_at_folder<R: Files<File = File> + AllocGlobal>(
     rt: &R,
@@ -276,6 +289,9 @@ fn look<R: Files<File = File> + AllocGlobal + Net<Listener = TcpListener, Stream
     };
     look_at_tracks(rt, report, table)?;
     look_at_listening(rt, report, listen, default, status)?;
+    if let Some(path) = operation.users() {
+        look_at_users(rt, report, path)?;
+    }
     if let Some(files) = operation.journal() {
         look_at_folder(rt, report, files.folder())?;
     }

@@ -2,8 +2,8 @@
 //! the server of a socket.
 //!
 //! `running` runs a command line of rtsp_command_line: the server behind standard input and output
-//! is that of `devices`; `serving` is that of a socket, `reasons` tells why there is none, and `checking`
-//! whether there would be one by a configuration.
+//! is that of `devices`; `serving` is that of a socket, `reasons` tells why there is none, of its file of
+//! users by `users`, and `checking` whether there would be one by a configuration.
 //!
 //! The definitions of `specs/` are those of `devices`, and read in this order: CountedWords (words
 //! that are counted), Alone (how one connection is served from a book of its own).
@@ -15,6 +15,7 @@ mod devices;
 mod reasons;
 mod running;
 mod serving;
+mod users;
 
 pub use devices::{
     Conversation, CountedWords, NoPlays, PEER, StandingClock, law_alone_has_places, serve_alone,

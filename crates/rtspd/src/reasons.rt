@@ -3,6 +3,7 @@
 use crate::checking::do_clash;
 use crate::running::read_operation;
 use crate::serving::address_of;
+use crate::users::tell_of_users;
 use rtsp_command_line::{CommandLine, Exit, USAGE, read_words};
 use rtsp_content::{Presentation, Table, TableFault, Track};
 use rtsp_explain::explain;
@@ -148,6 +149,11 @@ fn tell_of_operation<
     };
     if let Some(files) = operation.journal()
         && tell_of_folder(rt, files.folder())
+    {
+        return true;
+    }
+    if let Some(path) = operation.users()
+        && tell_of_users(rt, path)
     {
         return true;
     }

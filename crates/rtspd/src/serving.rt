@@ -35,7 +35,7 @@ pub(crate) fn address_of(listen: Option<&str>) -> Result<SocketAddr, Exit> {
 // How the program ends where the server couldn't be started, or has failed.
 pub(crate) fn fault_exit(fault: ServerFault) -> Exit {
     match fault {
-        ServerFault::WrongLength => Exit::BadConfiguration,
+        ServerFault::WrongLength | ServerFault::WrongUsers => Exit::BadConfiguration,
         ServerFault::FewDescriptors {
             ports,
             others,

@@ -7,8 +7,19 @@ use crate::tools::Tools;
 use crate::visiting::Visit;
 use rtsp_log::HeaderCause;
 use rtsp_proxy::Origin;
+use std::net::Ipv4Addr;
 use std::rt;
 use std::sync::Wait;
+
+// The address that packets over UDP come from, where it is known as one. The player connected to the
+// balancer's.
+fn told_source(host: Ipv4Addr) -> Option<u32> {
+    if host.is_unspecified() {
+        None
+    } else {
+        Some(host.to_bits())
+    }
+}
 
 impl Client {
     /// Reads the header where one is awaited. What comes of the visit where the player isn't known then.
@@ -50,6 +61,7 @@ impl Client {
             return Some(Visit::Ended);
         }
         self.asker.peer = peer;
+        self.asker.source = told_source(self.host);
         self.naming = Naming::Named;
         None
     }

@@ -70,7 +70,11 @@ pub fn serve_alone<R: Wait, I: ByteIn, O: ByteOut>(
         plays: &mut plays,
         shares: &mut shares,
         table,
-        asker: Asker { conn, peer: PEER },
+        asker: Asker {
+            conn,
+            peer: PEER,
+            source: None,
+        },
     };
     let end = desk.serve(alloc, reader, writer, turns);
     let kept = seat.finish(rt, lock);

@@ -11,5 +11,5 @@ use Rattle.rtsp_state.proofs.setup_plan.SetupPlan.answer.Goals as goal
 pub returns-in-Ok-clause-text : goal.returns-in-Ok-clause-text
 returns-in-Ok-clause-text c =
     c.write_admitted.ensures.text
-    ∙ ap (λ (key : SessionKey). c.args.room.now.text ++ response_text (admitted c.args.self.now key.id c.in-Ok.made.now)) c.key.ensures
-    ∙ ap (λ (m : Result (Bor Admitted) Refusal). c.args.room.now.text ++ response_text (setup_answer c.args.self.now c.args.drawn (result_map_both (λ a. a.now) (λ e. e) m))) (sym c.in-Ok.is)
+    ∙ ap (λ (key : SessionKey). c.args.room.now.text ++ response_text (admitted c.args.self.now c.args.source key.id c.in-Ok.made.now)) c.key.ensures
+    ∙ ap (λ (m : Result (Bor Admitted) Refusal). c.args.room.now.text ++ response_text (setup_answer c.args.self.now c.args.source c.args.drawn (result_map_both (λ a. a.now) (λ e. e) m))) (sym c.in-Ok.is)

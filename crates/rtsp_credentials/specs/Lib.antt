@@ -1,0 +1,16 @@
+pub mod Seen
+pub mod Digest
+pub mod CountView
+pub mod Parameters
+pub mod ParameterView
+pub mod Credentials
+pub mod CredentialsView
+pub mod User
+pub mod Users
+pub mod Adding
+pub mod Verdict
+pub mod Laws
+pub mod UsersFile
+pub mod UsersFileView
+pub mod Grammar
+pub mod Challenge

@@ -1,0 +1,6 @@
+use Rattle.rtsp_traits.specs.Devices.{devices}
+use Rattle.rtsp_guard.proofs.AtDesk.{pushed_same}
+use Rattle.rtsp_guard.proofs.understanding.push_strict.Goals as goal
+
+pub returns-clause-same : goal.returns-clause-same
+returns-clause-same g c = pushed_same (devices g.B.Binder.calls g.W.Words.calls g.C.Clock.tells g.P.Plays.calls g.S.Shares.calls) c.push_guarded.result _ _ _ _ c.push_guarded.ensures.goes_on c.push_guarded.ensures.ends

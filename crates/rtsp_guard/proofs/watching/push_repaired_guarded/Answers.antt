@@ -1,0 +1,19 @@
+use Rattle.std.proofs.Common.{refl, rules}
+use Rattle.rtsp_guard.specs.Guarding.{keeps}
+use Rattle.rtsp_guard.proofs.Behind.{guarded_as}
+use Rattle.rtsp_guard.proofs.Repaired.{taken_repaired, faulted_repaired}
+use Rattle.rtsp_guard.proofs.watching.push_repaired_guarded.Goals as goal
+
+pub returns-clause-goes_on : goal.returns-clause-goes_on
+returns-clause-goes_on g c =
+    taken_repaired g.A.Answerer.answers g.A.Answerer.gives_up c.push_repaired-pushed.result _ _ _ _ _ c.push_repaired-pushed.new.self
+    (keeps c.push_repaired-pushed.new.self.gate c.args.users.now c.answerer-1.given.0)
+    (guarded_as g.A.Answerer.answers g.A.Answerer.gives_up c.push_repaired-pushed.new.self _ _ _ refl c.push_repaired-pushed.ensures.users (search rules))
+    c.push_repaired-pushed.ensures.goes_on
+
+pub returns-clause-ends : goal.returns-clause-ends
+returns-clause-ends g c =
+    faulted_repaired g.A.Answerer.answers g.A.Answerer.gives_up c.push_repaired-pushed.result _ _ _ _ c.push_repaired-pushed.new.self
+    (keeps c.push_repaired-pushed.new.self.gate c.args.users.now c.answerer-1.given.0)
+    (guarded_as g.A.Answerer.answers g.A.Answerer.gives_up c.push_repaired-pushed.new.self _ _ _ refl c.push_repaired-pushed.ensures.users (search rules))
+    c.push_repaired-pushed.ensures.ends

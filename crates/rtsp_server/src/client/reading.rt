@@ -1,0 +1,55 @@
+//! Reads a connection of a lane.
+
+use crate::answering::Front;
+use crate::client::Client;
+use crate::guarding::GuardedFront;
+use crate::service::Service;
+use crate::tools::Tools;
+use crate::visiting::{Part, Read};
+use rtsp_lock::BookHandle;
+use std::net::Net;
+use std::rt;
+use std::sync::Wait;
+
+impl Client {
+    // Reads a part of what is there, has it answered, as far as it is let through, and puts the answers
+    // into the outlet.
+    pub(super) fn read<R: Wait + Net + rt::Clock>(
+        &mut self,
+        service: &Service<'_, R>,
+        tools: &mut Tools,
+        lane: &mut BookHandle,
+        part: Part,
+        until: u64,
+    ) -> Read {
+        let mut front = Front {
+            service: *service,
+            handle: &mut self.handle,
+            lane,
+            asker: self.asker,
+            host: self.host,
+            outlet: &self.outlet,
+            made: &mut tools.made,
+            words: &mut tools.words,
+            plays: &mut tools.plays,
+            heard: &tools.heard,
+            activity: &mut self.activity,
+            has_room: true,
+        };
+        let (input, reads_all) = (&mut self.input, self.is_ending);
+        let (room, piece) = (&mut tools.room, tools.piece.as_mut_slice());
+        match (self.gate.as_mut(), service.shared.users.as_ref()) {
+            (Some(gate), Some(users)) => {
+                let mut guarded = GuardedFront {
+                    front,
+                    gate: *gate,
+                    users,
+                };
+                let read = guarded.visit(input, room, piece, part, reads_all, until);
+                *gate = guarded.gate;
+                read
+            }
+            _ => front.visit(input, room, piece, part, reads_all, until),
+        }
+    }
+}
