@@ -9,3 +9,4 @@ pub record OperationValue : Type 0 where
   pub proxy : List ℕ
   pub status_open : Bool
   pub drain : ℕ
+  pub watch : Bool

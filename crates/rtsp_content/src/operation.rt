@@ -10,7 +10,7 @@ ghost use Rattle.rtsp_content.specs.Operation.{operation_of, operation_of_docume
 use crate::balancers::read_balancers;
 use crate::fault::TableFault;
 use crate::journal_files::{JournalFiles, read_files};
-use crate::keys::{Form, flag_at, number_at_or, optional_text_at, table_at};
+use crate::keys::{Form, flag_at, flag_at_or, number_at_or, optional_text_at, table_at};
 use crate::limits::{DEFAULT_DRAIN, MAX_DRAIN};
 use crate::media_path::media_folder;
 use std::alloc::Global;
@@ -26,6 +26,7 @@ pub struct Operation {
     proxy: Vec<u32>,
     status_open: bool,
     drain: u64,
+    watch: bool,
 }
 
 impl Model for Operation {
@@ -50,6 +51,7 @@ fn read_operation(alloc: Global, table: &Table, path: &str) -> Result<Operation,
     let proxy = read_balancers(alloc, server)?;
     let status_open = flag_at(server, "status_open")?;
     let drain = number_at_or(server, "drain", 1, MAX_DRAIN, DEFAULT_DRAIN)?;
+    let watch = flag_at_or(server, "watch", true)?;
     Ok(Operation {
         journal,
         access_log,
@@ -57,6 +59,7 @@ fn read_operation(alloc: Global, table: &Table, path: &str) -> Result<Operation,
         proxy,
         status_open,
         drain,
+        watch,
     })
 }
 
@@ -121,5 +124,42 @@ impl Operation {
         ensures { result ≡ self.now.drain }
     {
         self.drain
+    }
+
+    /// Whether the configuration is taken up anew where its file changes.
+    pub fn watch(&self) -> bool
+        ensures { result ≡ self.now.watch }
+    {
+        self.watch
+    }
+
+    /// The key that is another in this configuration, if one is. All of them stay as long as a server runs.
+    pub fn changed_key(&self, wanted: &Operation) -> Option<&'static str> {
+        if !are_same_files(self.journal.as_ref(), wanted.journal.as_ref()) {
+            Some("journal_files")
+        } else if wanted.access_log != self.access_log {
+            Some("access_log")
+        } else if wanted.status != self.status {
+            Some("status")
+        } else if wanted.proxy != self.proxy {
+            Some("proxy")
+        } else if wanted.status_open != self.status_open {
+            Some("status_open")
+        } else if wanted.drain != self.drain {
+            Some("drain")
+        } else if wanted.watch != self.watch {
+            Some("watch")
+        } else {
+            None
+        }
+    }
+}
+
+// Whether the journal is written to the same files.
+fn are_same_files(one: Option<&JournalFiles>, other: Option<&JournalFiles>) -> bool {
+    match (one, other) {
+        (None, None) => true,
+        (Some(one), Some(other)) => one.is_same(other),
+        _ => false,
     }
 }

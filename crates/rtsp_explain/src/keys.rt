@@ -22,7 +22,7 @@ pub(crate) struct Key {
 }
 
 /// `[server]`.
-pub(crate) const SERVER: [Key; 21] = [
+pub(crate) const SERVER: [Key; 22] = [
     Key {
         name: "first_port",
         rule: Rule::Even(1_024, 65_535),
@@ -148,6 +148,12 @@ pub(crate) const SERVER: [Key; 21] = [
         rule: Rule::Number(1, 86_400),
         presence: Presence::Optional,
         what: "seconds for which plays go on at most where the server is drained",
+    },
+    Key {
+        name: "watch",
+        rule: Rule::Flag,
+        presence: Presence::Optional,
+        what: "the configuration is taken up anew where its file changes",
     },
 ];
 
