@@ -15,7 +15,7 @@ use rtsp_npt::UnitLength;
 use std::marker::Model;
 
 /// Tracks that are played together, in units of one length.
-#[derive(Drop)]
+#[derive(Clone, Drop)]
 pub struct Presentation {
     pub(crate) name: String,
     pub(crate) units: u32,

@@ -21,9 +21,9 @@ use toml::{Table, Value};
 
 /// The units at which a play may begin, each of which stands alone, such as a key frame's: all of
 /// them where a presentation says none.
-#[derive(Drop)]
+#[derive(Clone, Drop)]
 pub struct Starts {
-    units: Option<Vec<u32>>,
+    pub(crate) units: Option<Vec<u32>>,
 }
 
 impl Model for Starts {

@@ -2,6 +2,7 @@
 
 use crate::operating::is_journal_written;
 use crate::shared::Shared;
+use rtsp_content::Table;
 use rtsp_metrics::{
     FilmFigures, FilmLine, History, PLAYERS_SHOWN, PlayerLine, ProcessFigures, Transport,
     WritingFigures, film_section, further_text, history_section, player_section,
@@ -13,16 +14,60 @@ use std::rt;
 use std::sync::Wait;
 use std::sync::atomic::Ordering;
 
-// What was played of a presentation over a transport.
-fn played(shared: &Shared, film: u16, over: Transport) -> FilmFigures {
-    match shared.audience.film(film, over) {
-        Some(figures) => figures,
-        None => FilmFigures {
-            sessions: 0,
-            plays: 0,
-            bytes: 0,
-        },
+// Nothing of a presentation was played.
+const NONE: FilmFigures = FilmFigures {
+    sessions: 0,
+    plays: 0,
+    bytes: 0,
+};
+
+fn sum(one: FilmFigures, other: FilmFigures) -> FilmFigures {
+    FilmFigures {
+        sessions: one.sessions.saturating_add(other.sessions),
+        plays: one.plays.saturating_add(other.plays),
+        bytes: one.bytes.saturating_add(other.bytes),
     }
+}
+
+// What was played over a transport of all presentations that have had this name.
+fn played(shared: &Shared, table: &Table, name: &str, over: Transport) -> FilmFigures {
+    let mut played = NONE;
+    for (place, presentation) in table.presentations().iter().enumerate() {
+        if presentation.name() == name {
+            let place = u16::try_from(place).unwrap_or(u16::MAX);
+            played = sum(played, shared.audience.film(place, over).unwrap_or(NONE));
+        }
+    }
+    played
+}
+
+// Whether no presentation at a place before this one has its name.
+fn is_first(table: &Table, place: usize, name: &str) -> bool {
+    !table
+        .presentations()
+        .iter()
+        .take(place)
+        .any(|other| other.name() == name)
+}
+
+// What was played of each presentation.
+fn film_lines<'t>(
+    alloc: Global,
+    shared: &Shared,
+    table: &'t Table,
+) -> Result<Vec<FilmLine<'t>>, AllocError> {
+    let mut films = Vec::new(alloc);
+    for (place, presentation) in table.presentations().iter().enumerate() {
+        let name = presentation.name();
+        if is_first(table, place, name) {
+            films.push(FilmLine {
+                name: name.as_bytes(),
+                udp: played(shared, table, name, Transport::Udp),
+                tcp: played(shared, table, name, Transport::Tcp),
+            })?;
+        }
+    }
+    Ok(films)
 }
 
 fn process(shared: &Shared, usage: Option<&OwnUsage>) -> Option<ProcessFigures> {
@@ -83,21 +128,18 @@ pub(crate) fn further<R: Wait + rt::Clock>(
     usage: Option<&OwnUsage>,
     history: &History,
 ) -> Result<Further, AllocError> {
-    let mut films = Vec::new(alloc);
-    for film in 0..shared.end_lines.films() {
-        films.push(FilmLine {
-            name: shared.end_lines.name(film),
-            udp: played(shared, film, Transport::Udp),
-            tcp: played(shared, film, Transport::Tcp),
-        })?;
-    }
+    let Some(content) = shared.contents.current(rt) else {
+        return Err(AllocError);
+    };
+    let films = film_lines(alloc, shared, &content.table)?;
+    let figures = shared.content_counts.read();
     let process = process(shared, usage);
     let writing = writing(rt, shared);
     let mut section = history_section(alloc, history)?;
     section.extend_from_slice(&film_section(alloc, &films)?)?;
     section.extend_from_slice(&players(rt, alloc, shared)?)?;
     Ok(Further {
-        lines: further_text(alloc, process, writing, &films)?,
+        lines: further_text(alloc, process, writing, &figures, &films)?,
         section,
     })
 }

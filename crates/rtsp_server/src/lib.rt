@@ -12,18 +12,22 @@
 //! a lane, `service` and `tools` are what it answers with, `lane_lines` what it holds of the log, and
 //! `recorded` whether it has to look at the journal's room. `sweeper` and `stopping` are the threads
 //! that end sessions and the server, and `figures` is what is counted and shown. `readers` and
-//! `writing_journal` are the threads that a disk may hold up, which are then left behind. What they
-//! go by is in rtsp_threads, who is to be visited in rtsp_roster, and how one player is kept from
-//! harming the others in rtsp_shares.
+//! `writing_journal` are the threads that a disk may hold up, which are then left behind. `growing`
+//! takes a changed configuration up: `watched_file` sees that it has changed, and `growth_reasons`
+//! tells why it is refused. What they go by is in rtsp_threads, who is to be visited in rtsp_roster,
+//! and how one player is kept from harming the others in rtsp_shares.
 
 #![tactic(auto)]
 
 mod all_lanes;
 mod answering;
+mod attending;
 mod balancers;
 mod channels;
 mod client;
 mod clients;
+mod content_counts;
+mod descriptors;
 mod draining;
 mod end_lines;
 mod end_note;
@@ -31,6 +35,8 @@ mod fault;
 mod figures;
 mod foresight;
 mod further;
+mod growing;
+mod growth_reasons;
 mod guarding;
 mod hearing;
 mod lane_lines;
@@ -54,11 +60,12 @@ mod tools;
 mod unread;
 mod users;
 mod visiting;
+mod watched_file;
 mod writing;
 mod writing_journal;
 
+pub use descriptors::descriptor_fault;
 pub use fault::ServerFault;
-pub use opening::descriptor_fault;
 pub use rtsp_chronicle::Doubt;
 pub use rtsp_lock::BookHandle;
 pub use rtsp_threads::{Lane, LaneTurn, PoolEnd, run_pool, whole_of};

@@ -5,14 +5,18 @@ ghost use Rattle.std.specs.FinMap.{empty};
 ghost use Rattle.rtsp_record.specs.Books.{book_of};
 
 use crate::fault::ServerFault;
-use crate::opening::{Handles, Listening, Opened, Sending};
+use crate::growing::Growth;
+use crate::opening::{Handles, Listening, Opened};
+use crate::readers::start_readers;
 use crate::threads::{Beside, Parts, Served, Start};
+use crate::watched_file::WatchedFile;
 use crate::writing_journal::folder_of;
 use rtsp_book::Kept;
 use rtsp_chronicle::Doubt;
 use rtsp_content::{Operation, Table};
 use rtsp_lock::{BookHandle, LockBook};
 use rtsp_log::Event;
+use rtsp_sockets::Reader;
 use rtsp_status::StatusServer;
 use rtsp_threads::{OwnStatus, OwnUsage, PoolEnd, StopBell, close_book};
 use std::alloc::Global;
@@ -64,10 +68,11 @@ pub struct Server {
     alloc: Global,
     parts: Parts,
     start: Start,
+    // Those that read ahead, where that is wanted.
+    readers: Vec<Reader>,
     // The handles of the book by which the figures are shown, and by which the book is given up.
     shown: BookHandle,
     last: BookHandle,
-    operation: Operation,
     status: Option<StatusServer>,
     address: SocketAddr,
     connections: u64,
@@ -80,9 +85,9 @@ impl Drop for Server {
             alloc: _,
             parts: _parts,
             start: _start,
+            readers: _readers,
             shown: _shown,
             last: _last,
-            operation: _operation,
             status: _status,
             address: _,
             connections: _,
@@ -91,7 +96,7 @@ impl Drop for Server {
 }
 
 impl Server {
-    /// A server of this configuration, which listens on this address, and keeps and shows what is
+    /// A server of this configuration, whose file has this path, which listens on this address, and keeps and shows what is
     /// wanted of it. There are as many lanes as the configuration has workers, and half as many pacers
     /// as the machine has cores, but at least one; where the media isn't held in memory, some threads
     /// read it ahead. With a number of connections it ends after so many. Where the limit of descriptors
@@ -101,25 +106,25 @@ impl Server {
         alloc: Global,
         table: Table,
         operation: Operation,
+        path: String,
         address: SocketAddr,
         connections: Option<u64>,
     ) -> Result<Server, ServerFault> {
+        let numbers = table.server();
+        let file = WatchedFile::open(rt, path);
         let Opened {
             status,
             handles,
-            sending,
-            listening,
-        } = Opened::open(rt, alloc, &table, &operation, address, connections)?;
-        let Sending {
-            media,
             readers,
             pacers,
-        } = sending;
+            listening,
+        } = Opened::open(rt, alloc, table, &operation, address, connections)?;
         let Listening {
             shared,
             lanes,
             address,
             connections,
+            descriptors,
         } = listening;
         let Handles {
             lanes: handle,
@@ -131,9 +136,7 @@ impl Server {
         Ok(Server {
             alloc,
             parts: Parts {
-                table,
-                media,
-                readers,
+                numbers,
                 folder,
                 shared,
                 over: StopBell::new(),
@@ -143,11 +146,12 @@ impl Server {
                 others,
                 lanes,
                 pacers,
+                growth: Growth::new(alloc, file, operation, descriptors),
                 is_short: false,
             },
+            readers,
             shown,
             last,
-            operation,
             status,
             address,
             connections,
@@ -172,7 +176,7 @@ impl Server {
     // Tells where there are more pairs of ports than connections that can have them.
     fn tell_of_descriptors<R: Wait + rt::Clock>(&self, rt: &R) {
         let connections = self.connections;
-        if connections < u64::from(self.parts.table.server().pairs) {
+        if connections < u64::from(self.parts.numbers.pairs) {
             let log = &self.parts.shared.log;
             log.event(rt, Event::FewConnections { connections });
         }
@@ -199,21 +203,24 @@ impl Server {
     >(self, rt: &R, announcer: A, errors: E) -> Result<ServerEnd, ServerFault>
         ensures { IfOk result (λ end. IfSome end.book (λ k. book_of k.journal ≡ empty)) }
     {
-        let scribe = self.parts.open_scribe(rt, self.alloc, &self.operation)?;
+        let scribe = self
+            .parts
+            .open_scribe(rt, self.alloc, self.start.growth.operation())?;
         self.tell_of_descriptors(rt);
         let Self {
             alloc,
             parts,
             mut start,
+            readers,
             shown,
             last,
-            operation: _operation,
             status,
             address,
             connections: _,
         } = self;
         let written = start.others.pop();
-        start.is_short = !(parts.start_readers(rt) && parts.start_scribe(rt, scribe, written));
+        let reads = start_readers(rt, &parts.shared, readers);
+        start.is_short = !(reads && parts.start_scribe(rt, scribe, written));
         let beside = Beside {
             signals: OwnStatus::open(rt).ok(),
             usage: usage_for(rt, &status),

@@ -328,13 +328,15 @@ fn a_scribe_writes_at_its_end(rt: HostRuntime) {
 }
 
 // Whether no file is made that nobody asks for, and the wait for requests ends where it is left.
-fn makes_nothing_unasked<R: Files<File = File> + Wait + AllocGlobal>(rt: &R) -> Option<bool> {
+fn makes_nothing_unasked<R: Files<File = File> + Wait + Clock + AllocGlobal>(
+    rt: &R,
+) -> Option<bool> {
     let folder = JournalFolder::new(rt.alloc(), "no such folder").ok()?;
     let requests = FileRequests::new();
     requests.answer(rt, &folder);
     requests.leave(rt);
-    requests.attend(rt, &folder);
-    Some(folder.make(rt, 0).is_err())
+    let is_left = requests.attend(rt, &folder, Duration::from_secs(60));
+    Some(is_left && folder.make(rt, 0).is_err())
 }
 
 #[test]

@@ -98,3 +98,9 @@ pub const HELD_TOLD_AFTER: u64 = 2_000;
 /// A file of the journal that has so many entries is followed by a new one. An audit reads a million,
 /// and what is handed out at once is seldom more than half of what the journal has room for.
 pub const LONG_FILE: usize = 400_000;
+
+/// The time between two looks at the configuration's file.
+pub const CONFIGURATION_EVERY: u64 = 500;
+
+/// A changed configuration is taken up once its file has stood for so long as it is.
+pub const CONFIGURATION_STANDS: u64 = 1_000;

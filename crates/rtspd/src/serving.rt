@@ -125,7 +125,10 @@ where
     let _held = hold_standard_streams(rt, rt.alloc())?;
     let table = read_table(rt, Some(config))?;
     let operation = read_operation(rt, config)?;
-    let server = match Server::open(rt, rt.alloc(), table, operation, address, connections) {
+    let Ok(path) = String::from_str(rt.alloc(), config) else {
+        return Err(Exit::OutOfMemory);
+    };
+    let server = match Server::open(rt, rt.alloc(), table, operation, path, address, connections) {
         Ok(server) => server,
         Err(fault) => return Err(fault_exit(fault)),
     };

@@ -1,0 +1,26 @@
+//! What the first thread does while the others serve.
+
+use crate::growing::Growth;
+use crate::threads::Parts;
+use rtsp_threads::CONFIGURATION_EVERY;
+use std::fs::File;
+use std::rt;
+use std::rt::Files;
+use std::sync::Wait;
+use std::thread::Threads;
+use std::time::Duration;
+
+impl Parts {
+    // Makes the files that the thread which writes the journal asks for, and takes a changed configuration up,
+    // until the lanes are over.
+    pub(crate) fn attend<
+        R: Threads + Wait + rt::Clock + Files<File = File> + Copy + Send + 'static,
+    >(&self, rt: &R, growth: &mut Growth) {
+        for _ in rt.forever() {
+            if self.attend_scribe(rt, Duration::from_millis(CONFIGURATION_EVERY)) {
+                break;
+            }
+            growth.turn(rt, &self.shared);
+        }
+    }
+}
