@@ -1,6 +1,6 @@
 -- What a table that goes on leaves as it is.
 use Rattle.std.proofs.Common.{◌≡◌, ◌∙◌, sym, refl, ap, subst, ℕ, zero, suc, ◌+◌, ◌<◌, ◌≤◌, Bool, true, false, List, [], ◌∷◌, ◌++◌, Option, Some, None, slice_get, length, inl, inr, ◌⊎◌, arith, append_assoc, append-nil, length-append}
-use Rattle.std.specs.Prelude.{replicate, slice_set}
+use Rattle.std.specs.Prelude.{replicate, slice_set, Result, Ok, Err, OnOk}
 use Rattle.std.proofs.lemmas.Bool.{cases_lt, false≢true}
 use Rattle.std.proofs.lemmas.Option.{slice_get_within, same_Some}
 use Rattle.std.proofs.lemmas.List.{length-replicate}
@@ -163,15 +163,15 @@ grown-end old wanted k ps ws high it = λ p. (
 
 -- ---- one step
 
-length-set : (xs : List Bool) (i : ℕ) (b : Bool) → length (slice_set xs i b) ≡ length xs
-length-set [] i b = refl
-length-set (x ∷ xs) zero b = refl
-length-set (x ∷ xs) (suc i) b = ap suc (length-set xs i b)
+length-slice_set : (xs : List Bool) (i : ℕ) (b : Bool) → length (slice_set xs i b) ≡ length xs
+length-slice_set [] i b = refl
+length-slice_set (x ∷ xs) zero b = refl
+length-slice_set (x ∷ xs) (suc i) b = ap suc (length-slice_set xs i b)
 
-get-set : (xs : List Bool) (i : ℕ) (b : Bool) → i < length xs → slice_get (slice_set xs i b) i ≡ Some b
-get-set [] i b low = absurd (omega (arith, low))
-get-set (x ∷ xs) zero b low = refl
-get-set (x ∷ xs) (suc i) b low = get-set xs i b (omega (arith, low))
+get-slice_set : (xs : List Bool) (i : ℕ) (b : Bool) → i < length xs → slice_get (slice_set xs i b) i ≡ Some b
+get-slice_set [] i b low = absurd (omega (arith, low))
+get-slice_set (x ∷ xs) zero b low = refl
+get-slice_set (x ∷ xs) (suc i) b low = get-slice_set xs i b (omega (arith, low))
 
 get-other : (xs : List Bool) (i j : ℕ) (b : Bool) → ¬ (j ≡ i) → slice_get (slice_set xs i b) j ≡ slice_get xs j
 get-other [] i j b n = refl
@@ -225,3 +225,9 @@ offers-behind old gone p lengths = record {
       (before, sym (gone-before gone i (omega (arith, slice_get_within old i q before, lengths))) ∙ on);
   stay = λ i q at on. gone-before gone i (omega (arith, slice_get_within old i q at, lengths)) ∙ on;
 }
+
+-- the same, of a call that is done or isn't
+pub offers-behind-then : {E : Type 0} (r : Result (Unit {0}) E) (old : List PresentationValue) (gone : List Bool) (p : PresentationValue) (new : List PresentationValue) (left : List Bool)
+    → length gone ≡ length old → OnOk r (new ≡ old ++ p ∷ []) → OnOk r (left ≡ gone ++ false ∷ []) → OnOk r (Offers old gone p new left)
+offers-behind-then (Ok x) old gone p new left lengths stands offered = rw (stands, offered) (offers-behind old gone p lengths)
+offers-behind-then (Err e) old gone p new left lengths stands offered = tt

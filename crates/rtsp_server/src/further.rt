@@ -1,5 +1,6 @@
 //! The figures of presentations, of the process and of the journal's writing, and who plays.
 
+use crate::end_lines::film_name;
 use crate::operating::is_journal_written;
 use crate::shared::Shared;
 use rtsp_content::Table;
@@ -7,12 +8,13 @@ use rtsp_metrics::{
     FilmFigures, FilmLine, History, PLAYERS_SHOWN, PlayerLine, ProcessFigures, Transport,
     WritingFigures, film_section, further_text, history_section, player_section,
 };
+use rtsp_sockets::Content;
 use rtsp_status::Further;
 use rtsp_threads::OwnUsage;
 use std::alloc::{AllocError, Global};
 use std::rt;
-use std::sync::Wait;
 use std::sync::atomic::Ordering;
+use std::sync::{Arc, Wait};
 
 // Nothing of a presentation was played.
 const NONE: FilmFigures = FilmFigures {
@@ -91,10 +93,13 @@ fn writing<R: Wait + rt::Clock>(rt: &R, shared: &Shared) -> Option<WritingFigure
 /// How many bytes of RTP packets were sent, of all presentations.
 pub(crate) fn bytes_sent(shared: &Shared) -> u64 {
     let mut bytes = 0u64;
-    for film in 0..shared.end_lines.films() {
-        for over in [Transport::Udp, Transport::Tcp] {
-            bytes = bytes.saturating_add(played(shared, film, over).bytes);
-        }
+    for place in 0..u16::MAX {
+        let udp = shared.audience.film(place, Transport::Udp);
+        let tcp = shared.audience.film(place, Transport::Tcp);
+        let (Some(udp), Some(tcp)) = (udp, tcp) else {
+            break;
+        };
+        bytes = bytes.saturating_add(sum(udp, tcp).bytes);
     }
     bytes
 }
@@ -104,6 +109,7 @@ fn players<R: Wait + rt::Clock>(
     rt: &R,
     alloc: Global,
     shared: &Shared,
+    content: &Arc<Content>,
 ) -> Result<Vec<u8>, AllocError> {
     let mut players = Vec::new(alloc);
     let mut from = 0u64;
@@ -113,7 +119,7 @@ fn players<R: Wait + rt::Clock>(
         };
         players.push(PlayerLine {
             viewer,
-            film: shared.end_lines.name(viewer.viewing.film),
+            film: film_name(Some(content), viewer.viewing.film),
         })?;
         from = viewer.viewing.session.saturating_add(1);
     }
@@ -136,8 +142,8 @@ pub(crate) fn further<R: Wait + rt::Clock>(
     let process = process(shared, usage);
     let writing = writing(rt, shared);
     let mut section = history_section(alloc, history)?;
-    section.extend_from_slice(&film_section(alloc, &films)?)?;
-    section.extend_from_slice(&players(rt, alloc, shared)?)?;
+    section.extend_from_slice(&film_section(alloc, &figures, &films)?)?;
+    section.extend_from_slice(&players(rt, alloc, shared, &content)?)?;
     Ok(Further {
         lines: further_text(alloc, process, writing, &figures, &films)?,
         section,
