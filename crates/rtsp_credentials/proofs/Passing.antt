@@ -1,21 +1,21 @@
 -- What is right is let through at a gate.
-use Rattle.std.proofs.Common.{◌≡◌, ◌<◌, ℕ, Bool, true, false, cond, List, [], ◌∷◌, Option, Some, None, Result, Ok, Err, refl, sym, ◌∙◌, ap, subst, arith}
+use Rattle.std.proofs.Common.{◌≡◌, ◌<◌, ℕ, Bool, true, false, cond, List, [], ◌∷◌, Option, Some, None, Result, Ok, Err, refl, sym, ◌∙◌, ap, arith}
 use Rattle.std.specs.Prelude.{codes, bytes_eq, nat_lt}
 use Rattle.std.proofs.lemmas.Bool.Decides.{nat_tests}
 use Rattle.std.proofs.lemmas.Slice.Eq.{bytes_eq-Decides}
 use Rattle.rtsp_text.specs.Results.{◌>>=◌}
-use Rattle.rtsp_grammar.specs.Header.{HeaderText, values_of}
+use Rattle.rtsp_grammar.specs.Header.{values_of}
 use Rattle.rtsp_grammar.specs.Method.{method_name}
 use Rattle.rtsp_grammar.specs.declared.message.Request.{Request}
 use Rattle.rtsp_credentials.specs.Digest.{CountText, response_of}
 use Rattle.rtsp_credentials.specs.Credentials.{CredentialTexts, authorization_of, credentials_in, credentials_among, count_number}
 use Rattle.rtsp_credentials.specs.Users.{secret_in}
-use Rattle.rtsp_credentials.specs.Verdict.{must, number_rule, last_uncounted, last_after, is_response, judged_by, judged, is_free, passed, IsNext, IsRight}
+use Rattle.rtsp_credentials.specs.Verdict.{must, number_rule, last_uncounted, last_after, is_response, judged_by, judged, passed, IsNext, IsRight}
 use Rattle.rtsp_credentials.specs.declared.gate.Gate.{Gate}
 use Rattle.rtsp_credentials.specs.declared.protection.Protection.{Protection}
 use Rattle.rtsp_credentials.specs.declared.users.Users.{Users}
 use Rattle.rtsp_credentials.specs.declared.refusal.Refusal.{Refusal}
-use Rattle.rtsp_credentials.specs.declared.refusal.Refusal.TheVariants.{OtherUri, OtherRealm, OtherProtection, Stale, Replayed, Wrong, TooManyWrong}
+use Rattle.rtsp_credentials.specs.declared.refusal.Refusal.TheVariants.{OtherUri, OtherRealm, Stale, Replayed, Wrong, TooManyWrong}
 use Rattle.rtsp_credentials.specs.Laws.{RightfulPass}
 
 same : (xs ys : List ℕ) → xs ≡ ys → bytes_eq xs ys ≡ true

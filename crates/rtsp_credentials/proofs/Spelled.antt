@@ -1,15 +1,15 @@
 -- The parameters of a list.
-use Rattle.std.proofs.Common.{◌≡◌, ℕ, Bool, true, false, cond, eqb, List, [], ◌∷◌, ◌++◌, length, Option, Some, None, refl, sym, ◌∙◌, ap, subst}
+use Rattle.std.proofs.Common.{◌≡◌, ℕ, Bool, true, false, cond, List, [], ◌∷◌, length, Option, Some, None, refl, sym, ◌∙◌, ap, subst}
 use Rattle.std.specs.Prelude.{◌==◌, ◌&&◌, not}
 use Rattle.std.specs.List.{join_with_byte}
 use Rattle.std.proofs.lemmas.Bool.{eqb-true, and_parts}
 use Rattle.rtsp_text.specs.Options.{◌>>=◌}
 use Rattle.rtsp_text.specs.Trim.{trimmed, IsPadded}
 use Rattle.rtsp_text.proofs.PaddingLemmas.{padded_only, trimmed_padded}
-use Rattle.rtsp_transport.specs.Split.{IsSplit, onto_first, split}
+use Rattle.rtsp_transport.specs.Split.{onto_first, split}
 use Rattle.rtsp_transport.proofs.PartsLemmas.{split_only}
-use Rattle.rtsp_credentials.specs.Parameters.{ParameterTexts, no_parameters, put, parameter_of, taken, gathered, parameters_in}
-use Rattle.rtsp_credentials.specs.Grammar.{SpellsPart, PartSpells, PartsSpell, put_one, put_all, SpellsTexts, ReadsGrammar}
+use Rattle.rtsp_credentials.specs.Parameters.{ParameterTexts, no_parameters, put, parameter_of, taken, gathered}
+use Rattle.rtsp_credentials.specs.Grammar.{PartSpells, PartsSpell, put_one, put_all, ReadsGrammar}
 use Rattle.rtsp_credentials.proofs.Values.{bind_some, no_bytes, some_bytes, parameter_read, parameter_spelled}
 
 -- ---- one part

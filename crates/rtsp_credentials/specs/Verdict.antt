@@ -1,5 +1,5 @@
 -- Whether a request is let through at the gate of a connection.
-use Rattle.std.specs.Prelude.{◌≡◌, ◌<◌, ◌+◌, ℕ, Bool, true, false, ◌==◌, ◌&&◌, nat_lt, List, [], ◌∷◌, length, codes, bytes_eq, Option, Some, None, Result, Ok, Err, IsTrue, if◌then◌else◌}
+use Rattle.std.specs.Prelude.{◌≡◌, ◌<◌, ◌+◌, ℕ, Bool, true, false, ◌==◌, ◌&&◌, nat_lt, List, [], ◌∷◌, length, codes, bytes_eq, Option, Some, None, Result, Ok, Err, if◌then◌else◌}
 use Rattle.rtsp_text.specs.Results.{◌>>=◌}
 use Rattle.rtsp_grammar.specs.Header.{values_of}
 use Rattle.rtsp_grammar.specs.Method.{method_name}

@@ -4,7 +4,7 @@ ghost use Rattle.std.specs.Prelude.{◌≡◌, ◌==◌, ◌⊎◌, [], length, 
 ghost use Rattle.rtsp_text.specs.Slices.{held};
 ghost use Rattle.rtsp_credentials.specs.declared.users_fault.UsersFault.TheVariants.{OutOfMemory};
 
-use crate::users_fault::UsersFault;
+use crate::users_fault::{UsersFault, must};
 use indexmap::IndexMap;
 use rtsp_text::Text;
 use std::alloc::Global;
@@ -65,9 +65,7 @@ impl Digests {
     {
         let name = Vec::from_slice(alloc, name)?;
         let secret = Text::from_slice(alloc, secret)?;
-        match self.secrets.insert(name, secret)? {
-            None => Ok(()),
-            Some(_) => Err(UsersFault::Twice),
-        }
+        let old = self.secrets.insert(name, secret)?;
+        must(old.is_none(), UsersFault::Twice)
     }
 }

@@ -6,14 +6,13 @@ ghost use Rattle.rtsp_text.specs.Slices.{held, halves};
 ghost use Rattle.rtsp_text.specs.Results.{Gives, GivesBy};
 ghost use Rattle.rtsp_text.specs.SplitOnce.{split_once};
 ghost use Rattle.rtsp_credentials.specs.Seen.{seen};
-ghost use Rattle.rtsp_credentials.specs.Adding.{must};
 ghost use Rattle.rtsp_credentials.specs.UsersFile.{lines, lines_left, is_name_byte, is_name, is_digit, algorithm_by, algorithm_of, algorithm_or, halves_or, line_of, is_realm, no_users, all_added, users_among, users_of};
 ghost use Rattle.rtsp_credentials.specs.UsersFileView.{found_in};
 ghost use Rattle.rtsp_credentials.specs.declared.users_fault.UsersFault.TheVariants.{OutOfMemory};
 
 use crate::algorithm::Algorithm;
 use crate::users::{UserTable, Users};
-use crate::users_fault::UsersFault;
+use crate::users_fault::{UsersFault, must};
 use rtsp_text::{Text, split_once};
 use std::alloc::Global;
 
@@ -73,12 +72,6 @@ fn algorithm_or(algorithm: Option<Algorithm>) -> Result<Algorithm, UsersFault>
     ensures { result ≡ algorithm_or algorithm }
 {
     algorithm.ok_or(UsersFault::WrongDigest)
-}
-
-fn must(holds: bool, fault: UsersFault) -> Result<(), UsersFault>
-    ensures { result ≡ must holds fault }
-{
-    if holds { Ok(()) } else { Err(fault) }
 }
 
 // The line at the front, and what follows its end.

@@ -1,5 +1,5 @@
 -- A request of no session is refused before any session is looked up.
-use Rattle.std.proofs.Common.{◌≡◌, ℕ, Bool, true, false, cond, List, [], ◌∷◌, length, map, Result, Ok, Err, refl, sym, ◌∙◌, ap, subst, arith}
+use Rattle.std.proofs.Common.{◌≡◌, ℕ, Bool, true, false, cond, List, [], ◌∷◌, length, map, Option, Result, Ok, Err, refl, sym, ◌∙◌, ap, subst, arith}
 use Rattle.std.specs.Prelude.{codes, ◌==◌, ◌&&◌, nat_lt}
 use Rattle.std.proofs.lemmas.Bool.Decides.{nat_tests}
 use Rattle.rtsp_text.specs.Results.{◌>>=◌}
@@ -7,15 +7,18 @@ use Rattle.rtsp_grammar.specs.Header.{HeaderText, is_named, values_of}
 use Rattle.rtsp_grammar.specs.declared.message.Item.TheVariants as items
 use Rattle.rtsp_grammar.specs.declared.message.Request.{Request}
 use Rattle.rtsp_content.specs.TableValue.{TableValue}
-use Rattle.rtsp_state.specs.OrderOfRefusals.{cseq_of, name_of, name_of_values, asked_of}
+use Rattle.rtsp_state.specs.OrderOfRefusals.{cseq_of, version_rule, served, require_rule, target_of, name_of, name_of_values, asked_of}
+use Rattle.rtsp_state.specs.Method.{method_of}
 use Rattle.rtsp_state.specs.Screen.{screened, screen}
 use Rattle.rtsp_state.specs.Values.{single_of, session_name, id_of}
 use Rattle.rtsp_state.specs.declared.fault.Fault.{Fault}
 use Rattle.rtsp_state.specs.declared.fault.Fault.TheVariants.{Refused}
 use Rattle.rtsp_state.specs.declared.method.Method.{Method}
 use Rattle.rtsp_state.specs.declared.order_of_refusals.Asked.{Asked}
+use Rattle.rtsp_state.specs.declared.request.Name.{Name}
 use Rattle.rtsp_state.specs.declared.request.Screen.{Screen}
 use Rattle.rtsp_state.specs.declared.request.Screen.TheVariants.{Answered, Asks}
+use Rattle.rtsp_state.specs.declared.request.Target.{Target}
 use Rattle.rtsp_state.specs.declared.status.Status.TheVariants.{SessionNotFound}
 use Rattle.rtsp_grammar.specs.declared.message.Response.{Response}
 use Rattle.rtsp_traits.specs.Devices.{Devices}
@@ -82,19 +85,25 @@ named_nobody : (method : Method) (headers : List HeaderText) → sessions header
 unfolding session_name id_of
 named_nobody method headers e = ap (λ (vs : List (List ℕ)). single_of vs >>= name_of_values method headers) e
 
+last_step : {T N Z E : Type 0} (r : Result T E) (w : Result N E) (z : T → N → Z) (fault : E) → w ≡ Err fault → (e : E) × ((r >>= λ y. w >>= λ v. Ok (z y v)) ≡ Err e)
+last_step (Err e) w z fault h = (e, refl)
+last_step {N = N} {E = E} (Ok y) w z fault h = (fault, ap (λ (v : Result N E). v >>= λ x. Ok (z y x)) h)
+
 in_turn : {A M C T N Z E : Type 0} (a : Result A E) (m : Result M E) (c : Result C E) (t : M → Result T E) (n : M → Result N E) (z : M → T → N → Z) (fault : E) → ((x : M) → n x ≡ Err fault)
     → (e : E) × ((a >>= λ _. m >>= λ x. c >>= λ _. t x >>= λ y. n x >>= λ w. Ok (z x y w)) ≡ Err e)
 in_turn (Err e) m c t n z fault h = (e, refl)
 in_turn (Ok a) (Err e) c t n z fault h = (e, refl)
 in_turn (Ok a) (Ok x) (Err e) t n z fault h = (e, refl)
-in_turn (Ok a) (Ok x) (Ok c) t n z fault h = go (t x) where
-  go : (r : Result T E) → (e : E) × ((r >>= λ y. n x >>= λ w. Ok (z x y w)) ≡ Err e)
-  go (Err e) = (e, refl)
-  go (Ok y) = (fault, ap (λ r. r >>= λ w. Ok (z x y w)) (h x))
+in_turn (Ok a) (Ok x) (Ok c) t n z fault h = last_step (t x) (n x) (z x) fault (h x)
+
+abbrev asks : Method → Target → Option Name → Asked
+asks method target name = record { method = method; target = target; name = name }
 
 asks_nothing : (table : TableValue) (request : Request) → sessions request.headers ≡ codes "none" ∷ [] → (fault : Fault) × (asked_of table request ≡ Err fault)
 unfolding asked_of
-asks_nothing table request e = in_turn _ _ _ _ (λ method. name_of method request.headers) _ (Refused SessionNotFound) (λ method. named_nobody method request.headers e)
+asks_nothing table request e =
+    in_turn (version_rule request.version) (served (method_of request.method)) (require_rule request.headers) (λ method. target_of table method request.uri)
+    (λ method. name_of method request.headers) asks (Refused SessionNotFound) (λ method. named_nobody method request.headers e)
 
 is_answered : (request : Request) (cseq : Result ℕ Fault) (asked : Result Asked Fault) (fault : Fault) → asked ≡ Err fault → (given : Response) × (screened request cseq asked ≡ Answered given)
 is_answered request (Err other) (Err fault) e h = (_, refl)

@@ -1,4 +1,4 @@
-use Rattle.std.proofs.Common.{◌≡◌, ℕ, ◌<◌, length, get_or, arith, rules, ap}
+use Rattle.std.proofs.Common.{◌≡◌, length, arith}
 use Rattle.rtsp_credentials.proofs.Same.{compared}
 use Rattle.rtsp_credentials.proofs.comparing.is_same.Goals as goal
 
