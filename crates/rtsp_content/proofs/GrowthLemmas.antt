@@ -67,11 +67,11 @@ name-of (q ∷ ps) zero p e = let same : q ≡ p = cc in ap (λ (x : Presentatio
 name-of (q ∷ ps) (suc i) p e = name-of ps i p e
 
 -- where a presentation that is offered is among the first of those that are wanted
-record Among (wanted : TableValue) (k : ℕ) (q : PresentationValue) : Type 0 where
-  i : ℕ
-  below : i < k
-  stands : StandsIn wanted.presentations q i
-  offered : is_withdrawn wanted.withdrawn i ≡ false
+pub record Among (wanted : TableValue) (k : ℕ) (q : PresentationValue) : Type 0 where
+  pub i : ℕ
+  pub below : i < k
+  pub stands : StandsIn wanted.presentations q i
+  pub offered : is_withdrawn wanted.withdrawn i ≡ false
 
 -- the first so many that are wanted are offered, and no others
 pub record Grown (old : List PresentationValue) (wanted : TableValue) (k : ℕ) (ps : List PresentationValue) (ws : List Bool) : Type 0 where

@@ -16,10 +16,17 @@ use crate::table::Table;
 use std::alloc::{AllocError, Global};
 
 // Copies of these, in their order.
-fn copies(presentations: &Vec<Presentation>) -> Result<Vec<Presentation>, AllocError>
+fn copies(
+    alloc: Global,
+    presentations: &Vec<Presentation>,
+) -> Result<Vec<Presentation>, AllocError>
     ensures { IfOk result (λ v. v.items ≡ presentations.now.items) }
 {
-    presentations.clone()
+    let mut copies = Vec::new(alloc);
+    for place in 0..presentations.len() {
+        copies.push(presentations[place].copied()?)?;
+    }
+    Ok(copies)
 }
 
 // The first place of a presentation that is the same, but for those of which the media are others now.
@@ -39,13 +46,6 @@ fn place_of(
     None
 }
 
-// A copy.
-fn copy(presentation: &Presentation) -> Result<Presentation, AllocError>
-    ensures { IfOk result (λ p. p ≡ presentation.now) }
-{
-    presentation.clone()
-}
-
 // Offers what stands at a place.
 fn offer_there(withdrawn: &mut Vec<bool>, place: usize)
     requires { place < length withdrawn.old.items }
@@ -63,7 +63,7 @@ fn offer_behind(
     ensures stands { OnOk result (presentations.new.items ≡ presentations.old.items ++ wanted.now ∷ []) }
     ensures offered { OnOk result (withdrawn.new.items ≡ withdrawn.old.items ++ false ∷ []) }
 {
-    presentations.push(copy(wanted)?)?;
+    presentations.push(wanted.copied()?)?;
     withdrawn.push(false)?;
     Ok(())
 }
@@ -106,7 +106,7 @@ fn grown(
     ensures offers { IfOk result (λ r. OffersWhat wanted.now r.0.items r.1.items) }
     ensures distinct { IfOk result (λ r. AreOfferedDistinct r.1.items (presentation_names r.0.items)) }
 {
-    let mut presentations = copies(old)?;
+    let mut presentations = copies(alloc, old)?;
     let mut withdrawn = Vec::from_elem(alloc, true, presentations.len())?;
     for place in 0..wanted.presentations.len() {
         if !is_gone(wanted.withdrawn.as_slice(), place) {
