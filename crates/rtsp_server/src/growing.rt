@@ -1,6 +1,7 @@
 //! Has a changed configuration taken up while the server runs.
 
 use crate::descriptors::Descriptors;
+use crate::growing_users::UsersGrowth;
 use crate::growth_reasons::reason;
 use crate::readers::start_readers;
 use crate::shared::Shared;
@@ -77,6 +78,8 @@ pub(crate) struct Growth {
     operation: Operation,
     file: WatchedFile,
     descriptors: Descriptors,
+    // Where only users are let through.
+    users: Option<UsersGrowth>,
     looked: u64,
     // When the content was replaced last, or files were seen last that are wanted no more.
     changed: u64,
@@ -90,12 +93,14 @@ impl Growth {
         file: WatchedFile,
         operation: Operation,
         descriptors: Descriptors,
+        users: Option<UsersGrowth>,
     ) -> Growth {
         Growth {
             alloc,
             operation,
             file,
             descriptors,
+            users,
             looked: 0,
             changed: 0,
             replaced: VecDeque::new(alloc),
@@ -119,6 +124,9 @@ impl Growth {
         }
         self.looked = now;
         self.let_go(now);
+        if let Some(users) = &mut self.users {
+            users.turn(rt, shared, now);
+        }
         if self.file.has_settled(rt, now) {
             self.take(rt, shared, now);
         } else if self.changed.saturating_add(KEPT) <= now {

@@ -45,7 +45,7 @@ pub(crate) fn open_gate<R>(
     service: &Service<'_, R>,
     words: &mut RandomWords,
 ) -> Result<Option<Gate>, WordsFault> {
-    if service.shared.users.is_none() {
+    if service.users.is_none() {
         return Ok(None);
     }
     let number = words.id()?;

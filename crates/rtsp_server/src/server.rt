@@ -6,6 +6,7 @@ ghost use Rattle.rtsp_record.specs.Books.{book_of};
 
 use crate::fault::ServerFault;
 use crate::growing::Growth;
+use crate::growing_users::UsersGrowth;
 use crate::opening::{Handles, Listening, Opened};
 use crate::readers::start_readers;
 use crate::threads::{Beside, Parts, Served, Start};
@@ -133,6 +134,7 @@ impl Server {
             last,
         } = handles;
         let folder = folder_of(alloc, &operation)?;
+        let users = UsersGrowth::open(rt, alloc, &operation)?;
         Ok(Server {
             alloc,
             parts: Parts {
@@ -146,7 +148,7 @@ impl Server {
                 others,
                 lanes,
                 pacers,
-                growth: Growth::new(alloc, file, operation, descriptors),
+                growth: Growth::new(alloc, file, operation, descriptors, users),
                 is_short: false,
             },
             readers,

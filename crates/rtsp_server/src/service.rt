@@ -6,6 +6,7 @@ use crate::lane_lines::LaneLines;
 use crate::recorded::Recorded;
 use crate::shared::Shared;
 use rtsp_content::Table;
+use rtsp_credentials::Users;
 use rtsp_lock::BookHandle;
 use rtsp_metrics::AnswerCounters;
 use rtsp_sockets::LaneDecisions;
@@ -20,6 +21,8 @@ pub(crate) struct Service<'a, R> {
     pub(crate) rt: &'a R,
     pub(crate) alloc: Global,
     pub(crate) table: &'a Table,
+    /// Who is let through, where that isn't everybody.
+    pub(crate) users: Option<&'a Users>,
     pub(crate) shared: &'a Shared,
     /// Where the lane counts its answers.
     pub(crate) answers: &'a AnswerCounters,

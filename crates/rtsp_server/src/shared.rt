@@ -10,9 +10,9 @@ use crate::opening::Opening;
 use crate::owners::Owners;
 use crate::stopping::StopTimes;
 use crate::unread::HELD_IN_ALL;
+use crate::users::CurrentUsers;
 use mio::net::TcpListener;
 use rtsp_content::{MAX_PLACES, Operation, Server, Table};
-use rtsp_credentials::Users;
 use rtsp_lock::BookHandle;
 use rtsp_log::{BATCH_LINES, Event, HeaderCause, Log, moment};
 use rtsp_metrics::{Audience, Counters};
@@ -58,7 +58,7 @@ pub(crate) struct Shared {
     /// Those whose connections begin with a header.
     pub(crate) balancers: Balancers,
     /// Who is let through, where that isn't everybody.
-    pub(crate) users: Option<Users>,
+    pub(crate) users: Option<CurrentUsers>,
     /// Which of them each session is of.
     pub(crate) owners: Owners,
     /// What addresses have of the sessions, where each has a share of them.
@@ -169,7 +169,7 @@ impl Shared {
         content: Content,
         listener: TcpListener,
         connections: Option<u64>,
-        users: Option<Users>,
+        users: Option<CurrentUsers>,
     ) -> io::Result<Shared> {
         let numbers = of.numbers;
         let begun = Instant::now(rt)?;

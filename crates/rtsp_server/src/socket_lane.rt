@@ -5,6 +5,7 @@ use crate::lane_lines::LaneLines;
 use crate::recorded::Recorded;
 use crate::service::Service;
 use crate::shared::Shared;
+use crate::users::SeenUsers;
 use crossbeam_utils::CachePadded;
 use rtsp_lock::BookHandle;
 use rtsp_metrics::AnswerCounters;
@@ -30,6 +31,8 @@ pub struct SocketLane {
     clients: Clients,
     // What is served, as the lane sees it.
     seen: Seen,
+    // Who is let through, as the lane sees it, where that isn't everybody.
+    users: Option<SeenUsers>,
     // Whether it has begun.
     stands: bool,
 }
@@ -49,6 +52,13 @@ impl SocketLane {
         let Some(seen) = Seen::open(rt, &shared.contents) else {
             return Err(io::Error::from(io::ErrorKind::OutOfMemory));
         };
+        let users = match &shared.users {
+            Some(users) => match SeenUsers::open(rt, users) {
+                Some(seen) => Some(seen),
+                None => return Err(io::Error::from(io::ErrorKind::OutOfMemory)),
+            },
+            None => None,
+        };
         Ok(SocketLane {
             shared,
             answers,
@@ -57,6 +67,7 @@ impl SocketLane {
             looks: Cell::new(RoomLooks::new()),
             clients,
             seen,
+            users,
             stands: false,
         })
     }
@@ -81,15 +92,20 @@ impl Lane for SocketLane {
             looks,
             clients,
             seen,
+            users,
             ..
         } = self;
         let told = clients.wait(rt, &shared.lanes, lines, looks.get());
         let now = clients.begin_turn(shared.now(rt));
         seen.refresh(rt, &shared.contents);
+        if let (Some(seen), Some(users)) = (users.as_mut(), shared.users.as_ref()) {
+            seen.refresh(rt, users);
+        }
         let service = Service {
             rt,
             alloc,
             table: &seen.content().table,
+            users: users.as_ref().map(|seen| seen.users()),
             shared: &**shared,
             answers: &***answers,
             lines,

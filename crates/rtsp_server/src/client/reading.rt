@@ -38,7 +38,7 @@ impl Client {
         };
         let (input, reads_all) = (&mut self.input, self.is_ending);
         let (room, piece) = (&mut tools.room, tools.piece.as_mut_slice());
-        match (self.gate.as_mut(), service.shared.users.as_ref()) {
+        match (self.gate.as_mut(), service.users) {
             (Some(gate), Some(users)) => {
                 let mut guarded = GuardedFront {
                     front,
