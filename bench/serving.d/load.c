@@ -5,6 +5,9 @@
  *   renewals PORT CONNECTIONS SECONDS        each has a session and renews it, one request after another: how many times
  *   plays PORT DEPTH SECONDS                 one connection has so many PLAYs of its session under way: how many were
  *                                            answered 200, and how many otherwise
+ *   guesses PORT CONNECTIONS EACH SECONDS [RATE]
+ *                                            each gives so many wrong answers to what it is asked, and begins anew, all
+ *                                            together so many a second at most: how many were refused
  *   fresh PORT TIMES                         from the start of a new connection to its answer: the middle, 99 % and
  *                                            the greatest, in microseconds
  *   idle PORT COUNT                          opens so many, says so, and holds them until its input ends */
@@ -27,12 +30,16 @@
 #define RENEWAL "GET_PARAMETER rtsp://h/tone RTSP/2.0\r\nCSeq: 3\r\nSession: %.32s\r\n\r\n"
 #define PLAY "PLAY rtsp://h/tone RTSP/2.0\r\nCSeq: 4\r\nSession: %.32s\r\nRange: npt=0-\r\n\r\n"
 
-enum { MOST = 20000, ANSWER = 1024, EVENTS = 256 };
+#define DESCRIBE "DESCRIBE rtsp://h/tone RTSP/2.0\r\nCSeq: 5\r\n"
+#define GUESS DESCRIBE "Authorization: Digest username=\"ann\", realm=\"rtspd\", nonce=\"%.32s\", uri=\"rtsp://h/tone\", " \
+              "algorithm=SHA-256, response=\"%064d\", qop=auth, nc=00000001, cnonce=\"c\"\r\n\r\n"
+
+enum { MOST = 20000, ANSWER = 1024, REQUEST = 512, EVENTS = 256 };
 
 typedef struct {
     int fd, length, is_set_up;
     long left;
-    char answer[ANSWER + 1], request[256];
+    char answer[ANSWER + 1], request[REQUEST];
 } Connection;
 
 static int port;
@@ -230,6 +237,81 @@ static void plays(int depth, double seconds) {
     printf("%ld %ld\n", accepted, refused);
 }
 
+/* A new connection, which asks for what it is to prove. */
+static void begin_guessing(Connection *it, int poll) {
+    struct epoll_event event = {.events = EPOLLIN, .data.ptr = it};
+    *it = (Connection){.fd = dial()};
+    epoll_ctl(poll, EPOLL_CTL_ADD, it->fd, &event);
+    put(it->fd, DESCRIBE "\r\n", sizeof DESCRIBE + 1);
+}
+
+/* Takes what has come of the challenge, and once that is whole gives so many wrong answers. */
+static void guess(Connection *it, long got, int each) {
+    if (it->length + got > ANSWER)
+        fail("a challenge");
+    memcpy(it->answer + it->length, piece, got);
+    it->length += got;
+    it->answer[it->length] = 0;
+    if (!strstr(it->answer, "\r\n\r\n"))
+        return;
+    char *nonce = strstr(it->answer, "nonce=\"");
+    if (!nonce)
+        fail("nothing is to be proved");
+    int size = snprintf(it->request, REQUEST, GUESS, nonce + 7, 0);
+    for (int i = 0; i < each; i++)
+        memcpy(block + i * size, it->request, size);
+    put(it->fd, block, (long)each * size);
+    it->left = each;
+    it->length = 0;
+}
+
+/* How many answers have ended in what came. The length is how much there is of an end. */
+static long refused(Connection *it, long got) {
+    long count = 0;
+    if (memmem(piece, got, "RTSP/2.0 200", 12))
+        fail("a wrong answer is let through");
+    for (long i = 0; i < got; i++) {
+        it->length = piece[i] == "\r\n\r\n"[it->length] ? it->length + 1 : piece[i] == '\r';
+        count += it->length == 4;
+        it->length %= 4;
+    }
+    it->left -= count;
+    return count;
+}
+
+static long guesses(int count, int each, double seconds, double rate) {
+    int poll = epoll_create1(0);
+    long done = 0;
+    struct linger reset = {1, 0};
+    struct epoll_event events[EVENTS];
+    Connection *all = calloc(count, sizeof *all);
+    for (int i = 0; i < count; i++)
+        begin_guessing(&all[i], poll);
+    double began = now();
+    while (now() < began + seconds) {
+        int ready = epoll_wait(poll, events, EVENTS, 100);
+        for (int i = 0; i < ready; i++) {
+            Connection *it = events[i].data.ptr;
+            long got = recv(it->fd, piece, sizeof piece, MSG_DONTWAIT);
+            if (got <= 0)
+                fail("an answer");
+            if (!it->left) {
+                guess(it, got, each);
+                continue;
+            }
+            done += refused(it, got);
+            if (!it->left) {
+                /* A reset leaves the port to others. */
+                setsockopt(it->fd, SOL_SOCKET, SO_LINGER, &reset, sizeof reset);
+                close(it->fd);
+                begin_guessing(it, poll);
+            }
+        }
+        hold_back(done, rate, began);
+    }
+    return done;
+}
+
 static int ascending(const void *left, const void *right) {
     double a = *(const double *)left, b = *(const double *)right;
     return (a > b) - (a < b);
@@ -269,6 +351,8 @@ int main(int count, char **words) {
         printf("%ld\n", renewals(number, atof(words[4])));
     else if (!strcmp(words[1], "plays") && count == 5)
         plays(number, atof(words[4]));
+    else if (!strcmp(words[1], "guesses") && (count == 6 || count == 7) && atoi(words[4]) * REQUEST <= (int)sizeof block)
+        printf("%ld\n", guesses(number, atoi(words[4]), atof(words[5]), count == 7 ? atof(words[6]) : 0));
     else if (!strcmp(words[1], "fresh") && count == 4)
         fresh(number);
     else if (!strcmp(words[1], "idle") && count == 4) {

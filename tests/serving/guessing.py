@@ -1,9 +1,10 @@
-"""Who guesses passwords without end, beside players who are users."""
+"""Who guesses passwords without end, beside players who are users, and beside streams of one."""
 import re
 import socket
 import time
 
 from checks import Checks
+from rtsp_client.credentials import Credentials
 from rtsp_client.messages import written
 
 from .bystanders import Bystanders, judge
@@ -12,6 +13,7 @@ from .floods import flooded
 from .operator import figures, shown_at
 from .runner import serving_test
 from .server import HERE, Presentation
+from .waiting_disks import SLOW, STREAMS, Audience, play_all
 from .witness import Punctuality, Witness
 
 MINUTE = Presentation(units=3000)
@@ -59,4 +61,22 @@ def plays_beside_guesses_without_end(checks: Checks) -> None:
         checks.that("memory stays", grown < FLAT, grown)
         checks.same("what went wrong with players", [], heard.faults)
         checks.that("they were answered", heard.answered > 10 * PLAYERS, heard.answered)
+        judge(Punctuality(checks, witness.stalls()), heard.arrivals, GUESSERS)
+
+
+@serving_test(limit=90, is_alone=True)
+def streams_beside_guesses_without_end(checks: Checks) -> None:
+    """500 streams of a user, of which each is heard: beside wrong answers as fast as four processes ask no packet is late
+    (`bench/serving guesses` says by how much)."""
+    port, address = shown_at()
+    room = {"pairs": STREAMS, "sessions": STREAMS + 10, "uplink": 2 * STREAMS * SLOW.whole_rate}
+    with Witness() as witness, guarded(checks, presentation=SLOW, status=address, **room) as server, Audience(SLOW) as all:
+        play_all(checks, server, all.port, STREAMS, Credentials(NAME, PASSWORD))
+        with flooded(server, GUESSERS, ELSEWHERE, guesses):
+            before, began = figures(port)[REFUSED], time.monotonic()
+            time.sleep(BESIDE)
+            refused, took = figures(port)[REFUSED] - before, time.monotonic() - began
+        heard = all.heard()
+        checks.that("many guess", refused >= MANY, f"{refused / took:.0f} a second")
+        checks.same("streams that were heard", STREAMS, heard.streams)
         judge(Punctuality(checks, witness.stalls()), heard.arrivals, GUESSERS)

@@ -7,10 +7,11 @@ import statistics
 import struct
 import time
 from multiprocessing.connection import Connection as Channel
-from typing import Dict, Iterator, List, NamedTuple
+from typing import Dict, Iterator, List, NamedTuple, Optional
 
 from checks import Checks
-from rtsp_client.connection import datagram_socket, take_datagram
+from rtsp_client.connection import Connection, datagram_socket, take_datagram
+from rtsp_client.credentials import Credentials
 
 from .bystanders import Arrival, judge
 from .failing_disks import moves, on_a_disk, stops, until
@@ -84,9 +85,11 @@ class Audience:
         return self.told.recv()
 
 
-def play_all(checks: Checks, server: Server, port: int, count: int) -> List[str]:
+def play_all(
+    checks: Checks, server: Server, port: int, count: int, credentials: Optional[Credentials] = None
+) -> List[str]:
     """Has so many streams played to a port. The sessions."""
-    talk, track = server.connect(), server.presentation.tracks[0].name
+    talk, track = Connection(HERE, server.port, credentials=credentials), server.presentation.tracks[0].name
     over = ("Transport", f'RTP/AVP;unicast;dest_addr=":{port}"/":{port}"')
     sessions = []
     for _ in range(count):

@@ -1,4 +1,3 @@
-pub mod Gathering
 pub mod Same
 pub mod Rightful
 pub mod Lines
@@ -6,3 +5,6 @@ pub mod Passing
 pub mod Values
 pub mod Spelled
 pub mod Listed
+pub mod Plain
+pub mod Fronts
+pub mod Putting

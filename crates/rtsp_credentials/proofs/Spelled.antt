@@ -19,7 +19,7 @@ unfolding parameter_of
 some_core [] p h = absurd cc
 some_core (x ∷ xs) p h = some_bytes x xs
 
-part_read : (ps : ParameterTexts) (part : List ℕ) (v : Option (List ℕ × List ℕ)) → PartSpells part v → taken ps part ≡ put_one ps v
+pub part_read : (ps : ParameterTexts) (part : List ℕ) (v : Option (List ℕ × List ℕ)) → PartSpells part v → taken ps part ≡ put_one ps v
 unfolding taken
 part_read ps part None s = ap (λ (xs : List ℕ). cond (length xs == 0) (Some ps) (parameter_of xs >>= (λ (p : List ℕ × List ℕ). put ps p.0 p.1))) (padded_only part [] s)
 part_read ps part (Some p) s =

@@ -32,7 +32,7 @@ some_bytes x xs = grind (arith, nat_tests)
 
 -- ---- a value
 
-plain_other : (b : ℕ) → is_plain_byte b ≡ true → is_other 34 b ≡ true
+pub plain_other : (b : ℕ) → is_plain_byte b ≡ true → is_other 34 b ≡ true
 plain_other b h = go (b == 34) (b == 92) h where
   go : (x y : Bool) → not (x || y) ≡ true → not x ≡ true
   go true y h = h
@@ -86,7 +86,7 @@ not_blank b s t = go (b == 32) (b == 9) s t where
 token_byte : (b : ℕ) → is_token_byte b ≡ true → is_blank b ≡ false
 token_byte b h = not_blank b (other is_token_byte 32 b refl h) (other is_token_byte 9 b refl h)
 
-token_at : (text : List ℕ) (i : ℕ) → is_token text ≡ true → i < length text → is_blank (get_or text i 0) ≡ false
+pub token_at : (text : List ℕ) (i : ℕ) → is_token text ≡ true → i < length text → is_blank (get_or text i 0) ≡ false
 token_at text i h lt = token_byte (get_or text i 0) (all_get is_token_byte text i (some_parts is_token_byte text h).1 lt)
 
 value_first : (text value : List ℕ) → SpellsValue text value → 0 < length text → is_blank (get_or text 0 0) ≡ false

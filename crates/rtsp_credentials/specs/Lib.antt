@@ -14,3 +14,5 @@ pub mod UsersFile
 pub mod UsersFileView
 pub mod Grammar
 pub mod Challenge
+pub mod Field
+pub mod Front

@@ -74,6 +74,14 @@ passed users gate request =
     if is_free request then Ok gate
     else (must (nat_lt gate.wrong 8) refusals.TooManyWrong >>= (λ few. judged users gate request >>= (λ last. Ok (record gate { last = last }))))
 
+abbrev pub name_in : Result CredentialTexts Refusal → Option (List ℕ)
+name_in (Ok c) = Some c.username
+name_in (Err refusal) = None
+
+-- the user that a request says it is from; an OPTIONS that is free is from nobody
+unfoldable pub user_asking : Request → Option (List ℕ)
+user_asking request = if is_free request then None else name_in (credentials_among request.headers)
+
 -- one wrong response more, as far as they are counted
 abbrev pub counted : ℕ → ℕ
 counted wrong = if nat_lt wrong 8 then wrong + 1 else wrong

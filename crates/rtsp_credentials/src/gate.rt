@@ -1,9 +1,8 @@
 //! The gate of a connection.
 
-ghost use Rattle.std.specs.Prelude.{◌≡◌, ◌==◌, ◌&&◌, length, codes, bytes_eq, nat_lt, option_map};
+ghost use Rattle.std.specs.Prelude.{◌≡◌, IfOk, option_map};
 ghost use Rattle.rtsp_text.specs.Slices.{held};
-ghost use Rattle.rtsp_grammar.specs.Header.{values_of};
-ghost use Rattle.rtsp_grammar.specs.Method.{method_name};
+ghost use Rattle.rtsp_credentials.specs.Seen.{seen};
 ghost use Rattle.rtsp_credentials.specs.CountView as counts;
 ghost use Rattle.rtsp_credentials.specs.CredentialsView.{shown};
 ghost use Rattle.rtsp_credentials.specs.Verdict.{must, is_right, is_response, number_rule, last_uncounted, is_options, is_free, counted};
@@ -34,6 +33,15 @@ pub struct Gate {
     /// How many responses were wrong.
     pub wrong: u32,
     pub protection: Protection,
+}
+
+/// A request that is let through.
+#[derive(Clone, Copy)]
+pub struct Passage<'r> {
+    /// The gate after it.
+    pub gate: Gate,
+    /// The user it is from. Nobody, where it is an OPTIONS that is free.
+    pub user: Option<&'r [u8]>,
 }
 
 // Stands for the secret of a user that isn't there, so that a request of one takes as long.
@@ -135,7 +143,7 @@ fn is_free(request: &Request) -> bool
 }
 
 impl Gate {
-    ghost use Rattle.rtsp_credentials.specs.Verdict.{last_after, judged_by, judged, passed, after};
+    ghost use Rattle.rtsp_credentials.specs.Verdict.{last_after, judged_by, passed, user_asking, after};
 
     // The greatest nc after a request.
     fn last_after(&self, count: Option<Count<'_>>) -> Result<u32, Refusal>
@@ -166,14 +174,6 @@ impl Gate {
         Ok(last)
     }
 
-    #[tactic(auto, unfolding(crate::specs::Verdict::judged))]
-    fn judged(&self, users: &Users, request: &Request) -> Result<u32, Refusal>
-        ensures { result ≡ judged users.now self.now request.now }
-    {
-        let c = Credentials::among(&request.headers)?;
-        self.judged_by(users, request.method.as_bytes(), request.uri.as_bytes(), &c)
-    }
-
     /// The gate of a connection that was just opened. The number has to be drawn at random.
     pub fn open(number: u128, protection: Protection) -> Gate
         ensures nonce { result.nonce ≡ hex_text 32 number }
@@ -188,22 +188,38 @@ impl Gate {
         }
     }
 
+    /// Who a request is from, and the gate after it, or why it isn't let through.
+    #[tactic(auto, unfolding(crate::specs::Verdict::passed, crate::specs::Verdict::judged, crate::specs::Verdict::user_asking))]
+    pub fn passage<'r>(&self, users: &Users, request: &'r Request) -> Result<Passage<'r>, Refusal>
+        ensures gate { seen (λ p. p.gate) result ≡ passed users.now self.now request.now }
+        ensures user { IfOk result (λ p. held p.user ≡ user_asking request.now) }
+    {
+        if is_free(request) {
+            return Ok(Passage {
+                gate: *self,
+                user: None,
+            });
+        }
+        must(self.wrong < MOST_WRONG, Refusal::TooManyWrong)?;
+        let credentials = Credentials::among(&request.headers)?;
+        let method = request.method.as_bytes();
+        let last = self.judged_by(users, method, request.uri.as_bytes(), &credentials)?;
+        Ok(Passage {
+            gate: Gate {
+                nonce: self.nonce,
+                last,
+                wrong: self.wrong,
+                protection: self.protection,
+            },
+            user: Some(credentials.username),
+        })
+    }
+
     /// The gate after a request that is let through, or why it isn't.
-    #[tactic(auto, unfolding(crate::specs::Verdict::passed))]
     pub fn passed(&self, users: &Users, request: &Request) -> Result<Gate, Refusal>
         ensures { result ≡ passed users.now self.now request.now }
     {
-        if is_free(request) {
-            return Ok(*self);
-        }
-        must(self.wrong < MOST_WRONG, Refusal::TooManyWrong)?;
-        let last = self.judged(users, request)?;
-        Ok(Gate {
-            nonce: self.nonce,
-            last,
-            wrong: self.wrong,
-            protection: self.protection,
-        })
+        Ok(self.passage(users, request)?.gate)
     }
 
     /// The gate after a refusal.

@@ -42,8 +42,8 @@ module _ {A : Type 0} (Answers : A → Item → List ℕ → A → Type 0) (Give
     pub goes_on : new.gate ≡ gate
     pub users : new.users ≡ old.users
 
-  -- A request that is let through is answered as it is. One that names a session of another user is answered as of a session that
-  -- no server has, so that all that is done with a session is done by its own user.
+  -- A request that is let through is answered as it is; but where the porter says so, as one of a session that no server has, or
+  -- about a name that nobody serves. Which requests these are is the porter's to know.
   pub record Passes (gate : Gate) (old : Kept A) (request : Request) (bytes : List ℕ) (new : Kept A) : Type 0 where
     pub seen : Request
     pub taken : IsTakenAs request seen

@@ -43,15 +43,19 @@ fn estranged_by(
     }
 }
 
-// The request as it is taken, where it names what isn't there for its user.
+// The request as it is taken, where it names what isn't there for its user. A free OPTIONS has none.
 fn taken_as<P: Porter>(
     alloc: Global,
     porter: &P,
     request: &Request,
+    user: Option<&[u8]>,
 ) -> Result<Option<Request>, AllocError>
     ensures { IfOk result (λ found. IfSome found (IsTakenAs request.now)) }
 {
-    match porter.of_another(request)? {
+    let Some(user) = user else {
+        return Ok(None);
+    };
+    match porter.of_another(request, user)? {
         Some(Foreign::Session(by)) => estranged_by(alloc, by, request),
         Some(Foreign::Presentation) => Ok(Some(hidden(alloc, request)?)),
         None => Ok(None),
@@ -79,10 +83,10 @@ impl<A: Answerer, P: Porter> Answerer for Guarded<'_, '_, '_, A, P> {
 
     fn answer(&mut self, alloc: Global, item: &Item, room: &mut Room) -> Result<(), AllocError> {
         match item {
-            Item::Request(request) => match self.gate.passed(self.users, request) {
-                Ok(next) => {
-                    let taken = taken_as(alloc, self.porter, request)?;
-                    self.gate = next;
+            Item::Request(request) => match self.gate.passage(self.users, request) {
+                Ok(passage) => {
+                    let taken = taken_as(alloc, self.porter, request, passage.user)?;
+                    self.gate = passage.gate;
                     match taken {
                         Some(request) => answer_request(alloc, self.answerer, request, room),
                         None => self.answerer.answer(alloc, item, room),

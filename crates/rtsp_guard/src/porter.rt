@@ -25,7 +25,7 @@ pub enum Foreign {
 pub trait Porter {
     fn refused(&self, refusal: Refusal, request: &Request);
 
-    /// What a request that is let through names that isn't there for its user, if it names such. Who asks
-    /// for a session isn't forgotten until the request is answered.
-    fn of_another(&self, request: &Request) -> Result<Option<Foreign>, AllocError>;
+    /// What a request of this user names that isn't there for him, if it names such. Who asks for a session
+    /// isn't forgotten until the request is answered.
+    fn of_another(&self, request: &Request, user: &[u8]) -> Result<Option<Foreign>, AllocError>;
 }

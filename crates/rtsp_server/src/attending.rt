@@ -10,8 +10,8 @@ use std::sync::Wait;
 use std::time::Duration;
 
 impl Parts {
-    // Makes the files that the thread which writes the journal asks for, and takes a changed file of users
-    // up, until the lanes are over.
+    // Makes the files that the thread which writes the journal asks for, and looks whether the file of
+    // users has changed, until the lanes are over.
     pub(crate) fn attend<R: Wait + rt::Clock + Files<File = File>>(
         &self,
         rt: &R,

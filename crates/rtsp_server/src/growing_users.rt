@@ -1,17 +1,24 @@
-//! Has a changed file of users taken up while the server runs.
+//! Has a changed file of users taken up while the server runs: the first thread sees that it has changed,
+//! since it alone opens files, and another one reads it, since a disk may hold that up.
 
 use crate::shared::Shared;
+use crate::users::CurrentUsers;
 use crate::users_reasons::users_reason;
-use crate::watched_file::WatchedFile;
+use crate::watched_file::{WatchedFile, read_all};
 use rtsp_content::Operation;
 use rtsp_credentials::{Users, UsersFault, read_users};
 use rtsp_log::Event;
 use rtsp_threads::CONFIGURATION_EVERY;
 use std::alloc::{AllocError, Global};
 use std::fs::File;
-use std::rt;
 use std::rt::Files;
 use std::sync::{Arc, Wait};
+use std::thread::Threads;
+use std::time::Duration;
+use std::{rt, thread};
+
+// So often it is looked whether the file is to be read, in milliseconds.
+const LOOK: u64 = 100;
 
 // The users of a text, for all lanes.
 fn shared_users(alloc: Global, text: &[u8]) -> Result<Arc<Users>, UsersFault> {
@@ -21,7 +28,24 @@ fn shared_users(alloc: Global, text: &[u8]) -> Result<Arc<Users>, UsersFault> {
     }
 }
 
-/// What takes a changed file of users up.
+// The file isn't taken up: the log tells why.
+fn refuse<R: Wait + rt::Clock>(
+    rt: &R,
+    alloc: Global,
+    shared: &Shared,
+    reason: Result<String, AllocError>,
+) {
+    match reason {
+        Ok(reason) => shared.log.not_taken(rt, alloc, reason.as_bytes()),
+        Err(AllocError) => shared.log.not_taken(rt, alloc, b"out of memory"),
+    }
+}
+
+fn unreadable(alloc: Global, path: &str) -> Result<String, AllocError> {
+    format!(in alloc; "{path}: it can't be read")
+}
+
+/// What sees that the file of users has changed.
 #[derive(Drop)]
 pub(crate) struct UsersGrowth {
     alloc: Global,
@@ -47,8 +71,7 @@ impl UsersGrowth {
         }))
     }
 
-    /// Looks whether the file has changed, if it is time, and takes it up. A bad one changes nothing, and
-    /// the log tells why.
+    /// Looks whether the file has changed, if it is time, and has it read then.
     pub(crate) fn turn<R: Wait + rt::Clock + Files<File = File>>(
         &mut self,
         rt: &R,
@@ -65,34 +88,94 @@ impl UsersGrowth {
         if !self.file.has_settled(rt, now) {
             return;
         }
-        let path = self.file.path();
-        let Some(text) = self.file.read(rt, self.alloc) else {
-            return self.refuse(
+        match self.file.open_again(rt) {
+            Some(file) => users.note_changed(rt, file),
+            None => refuse(
                 rt,
+                self.alloc,
                 shared,
-                format!(in self.alloc; "{path}: it can't be read"),
-            );
+                unreadable(self.alloc, self.file.path()),
+            ),
+        }
+    }
+}
+
+/// What reads the file of users.
+#[derive(Drop)]
+pub(crate) struct UsersReader {
+    alloc: Global,
+    path: String,
+}
+
+impl UsersReader {
+    /// Nothing where the configuration names no file of users.
+    pub(crate) fn open(
+        alloc: Global,
+        operation: &Operation,
+    ) -> Result<Option<UsersReader>, AllocError> {
+        let Some(path) = operation.users() else {
+            return Ok(None);
+        };
+        let path = String::from_str(alloc, path)?;
+        Ok(Some(UsersReader { alloc, path }))
+    }
+
+    // Takes the file up. A bad one changes nothing, and the log tells why.
+    fn take<R: Wait + rt::Clock>(
+        &self,
+        rt: &R,
+        shared: &Shared,
+        users: &CurrentUsers,
+        file: &File,
+    ) {
+        let path = self.path.as_str();
+        let Some(text) = read_all(self.alloc, file) else {
+            return refuse(rt, self.alloc, shared, unreadable(self.alloc, path));
         };
         match shared_users(self.alloc, &text) {
             Ok(taken) => {
                 users.replace(rt, taken);
                 shared.log.event(rt, Event::UsersTaken);
             }
-            Err(fault) => {
-                self.refuse(rt, shared, users_reason(self.alloc, path, &text, fault));
-            }
+            Err(fault) => refuse(
+                rt,
+                self.alloc,
+                shared,
+                users_reason(self.alloc, path, &text, fault),
+            ),
         }
     }
 
-    fn refuse<R: Wait + rt::Clock>(
-        &self,
-        rt: &R,
-        shared: &Shared,
-        reason: Result<String, AllocError>,
-    ) {
-        match reason {
-            Ok(reason) => shared.log.not_taken(rt, self.alloc, reason.as_bytes()),
-            Err(AllocError) => shared.log.not_taken(rt, self.alloc, b"out of memory"),
+    // The body of the thread.
+    fn run<R: Wait + rt::Clock>(&self, rt: &R, shared: &Shared) {
+        let Some(users) = &shared.users else {
+            return;
+        };
+        for _ in rt.forever() {
+            if shared.stop_bell.wait(rt, Duration::from_millis(LOOK)) {
+                break;
+            }
+            if let Some(file) = users.take_changed(rt) {
+                self.take(rt, shared, users, &file);
+            }
         }
     }
+}
+
+/// Starts the thread that reads the file of users, where there is one. Whether it could be made. Nobody
+/// joins it, since a disk may hold it up for longer than the server lives, so it has its own share of what
+/// it needs.
+pub(crate) fn start_users<R: Threads + Wait + rt::Clock + Copy + Send + 'static>(
+    rt: &R,
+    reader: Option<UsersReader>,
+    shared: &Arc<Shared>,
+) -> bool {
+    let Some(reader) = reader else {
+        return true;
+    };
+    let Ok(shared) = Arc::try_clone(shared) else {
+        return false;
+    };
+    let own = *rt;
+    thread::spawn(rt, move || reader.run(&own, &shared)).is_ok()
 }

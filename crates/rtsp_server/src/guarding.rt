@@ -95,7 +95,7 @@ impl<R: Wait + rt::Clock> Porter for AnswerCounter<'_, R> {
         }
     }
 
-    fn of_another(&self, request: &Request) -> Result<Option<Foreign>, AllocError> {
+    fn of_another(&self, request: &Request, user: &[u8]) -> Result<Option<Foreign>, AllocError> {
         let Service {
             rt,
             alloc,
@@ -104,15 +104,7 @@ impl<R: Wait + rt::Clock> Porter for AnswerCounter<'_, R> {
         } = self.service;
         let naming = Naming::of(self.asker.conn, &request.headers);
         let sets_up = matches!(request.method, Method::Setup);
-        let allowed = shared.allowed.as_ref();
-        if naming.is_none() && !sets_up && allowed.is_none() {
-            return Ok(None);
-        }
-        let Ok(credentials) = Credentials::among(&request.headers) else {
-            return Ok(None);
-        };
-        let user = credentials.username;
-        if let Some(allowed) = allowed
+        if let Some(allowed) = shared.allowed.as_ref()
             && !is_there(&self.service, allowed, request, user)?
         {
             return Ok(Some(Foreign::Presentation));

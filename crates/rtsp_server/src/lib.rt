@@ -12,9 +12,9 @@
 //! session is of; `growing_users` takes a changed file of them up, which `watched_file` sees. Of
 //! a lane, `service` and `tools` are what it answers with, `lane_lines` what it holds of the log, and
 //! `recorded` whether it has to look at the journal's room. `sweeper` and `stopping` are the threads
-//! that end sessions and the server, and `figures` is what is counted and shown. `readers` and
-//! `writing_journal` are the threads that a disk may hold up, which are then left behind. What they
-//! go by is in rtsp_threads, who is to be visited in rtsp_roster, and how one player is kept from
+//! that end sessions and the server, and `figures` is what is counted and shown. `readers`,
+//! `writing_journal` and `growing_users` have the threads that a disk may hold up, which are then left
+//! behind. What they go by is in rtsp_threads, who is to be visited in rtsp_roster, and how one player is kept from
 //! harming the others in rtsp_shares.
 
 #![tactic(auto)]

@@ -109,8 +109,8 @@ impl Rows {
     }
 }
 
-/// Which user each session is of: who asked for it. A session that the server took over from an
-/// earlier run, or for which there was no memory here, is of nobody until one sets up a track in it.
+/// Which user each session is of: who asked for it. One for which there was no memory here is of nobody until somebody sets up
+/// a track in it.
 #[derive(Drop)]
 pub(crate) struct Owners {
     rows: Mutex<Rows>,

@@ -5,7 +5,7 @@ ghost use Rattle.std.specs.FinMap.{empty};
 ghost use Rattle.rtsp_record.specs.Books.{book_of};
 
 use crate::fault::ServerFault;
-use crate::growing_users::UsersGrowth;
+use crate::growing_users::{UsersGrowth, UsersReader, start_users};
 use crate::opening::{Handles, Listening, Opened, Sending};
 use crate::threads::{Beside, Parts, Served, Start};
 use crate::writing_journal::folder_of;
@@ -204,6 +204,7 @@ impl Server {
         ensures { IfOk result (λ end. IfSome end.book (λ k. book_of k.journal ≡ empty)) }
     {
         let scribe = self.parts.open_scribe(rt, self.alloc, &self.operation)?;
+        let users = UsersReader::open(self.alloc, &self.operation)?;
         self.tell_of_descriptors(rt);
         let Self {
             alloc,
@@ -217,7 +218,9 @@ impl Server {
             connections: _,
         } = self;
         let written = start.others.pop();
-        start.is_short = !(parts.start_readers(rt) && parts.start_scribe(rt, scribe, written));
+        start.is_short = !(parts.start_readers(rt)
+            && parts.start_scribe(rt, scribe, written)
+            && start_users(rt, users, &parts.shared));
         let beside = Beside {
             signals: OwnStatus::open(rt).ok(),
             usage: usage_for(rt, &status),

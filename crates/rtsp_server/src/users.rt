@@ -16,6 +16,8 @@ pub(crate) struct CurrentUsers {
     // How often they were replaced.
     number: AtomicU64,
     current: Mutex<Arc<Users>>,
+    // A changed file, until it is read.
+    changed: Mutex<Option<File>>,
 }
 
 impl CurrentUsers {
@@ -24,6 +26,7 @@ impl CurrentUsers {
             Ok(users) => Ok(CurrentUsers {
                 number: AtomicU64::new(0),
                 current: Mutex::new(users),
+                changed: Mutex::new(None),
             }),
             Err(_) => Err(AllocError),
         }
@@ -37,6 +40,16 @@ impl CurrentUsers {
     pub(crate) fn replace<R: Wait>(&self, rt: &R, users: Arc<Users>) {
         *self.current.lock(rt) = users;
         self.number.fetch_add(1, Ordering::SeqCst);
+    }
+
+    /// Their file has changed, and this is to be read.
+    pub(crate) fn note_changed<R: Wait>(&self, rt: &R, file: File) {
+        *self.changed.lock(rt) = Some(file);
+    }
+
+    /// The changed file, if it is still to be read.
+    pub(crate) fn take_changed<R: Wait>(&self, rt: &R) -> Option<File> {
+        self.changed.lock(rt).take()
     }
 }
 

@@ -34,10 +34,14 @@ impl FileMark {
     }
 }
 
-// What is seen of the file: nothing where it isn't there.
+// What is seen of the file: nothing where it isn't there, nor of a pipe, which would hold a read up.
 fn mark_of<R: Files<File = File>>(rt: &R, path: &str) -> Option<FileMark> {
     let metadata = fs::metadata(rt, path).ok()?;
-    Some(FileMark::of(&metadata))
+    if metadata.is_file() {
+        Some(FileMark::of(&metadata))
+    } else {
+        None
+    }
 }
 
 /// A file, as it was taken and as it was seen last.
@@ -82,18 +86,23 @@ impl WatchedFile {
         has_settled
     }
 
-    /// What is in it.
-    pub(crate) fn read<R: Files<File = File>>(&self, rt: &R, alloc: Global) -> Option<Vec<u8>> {
-        let file = File::open(rt, self.path.as_str()).ok()?;
-        let mut text = Vec::new(alloc);
-        let mut piece = Vec::from_elem(alloc, 0u8, PIECE).ok()?;
-        for _ in 0..MOST / PIECE {
-            let count = file.read_at(piece.as_mut_slice(), text.len() as u64).ok()?;
-            if count == 0 {
-                return Some(text);
-            }
-            text.extend_from_slice(piece.get(..count)?).ok()?;
-        }
-        None
+    /// The file, to be read. Nothing where it isn't one, or can't be opened.
+    pub(crate) fn open_again<R: Files<File = File>>(&self, rt: &R) -> Option<File> {
+        mark_of(rt, self.path.as_str())?;
+        File::open(rt, self.path.as_str()).ok()
     }
+}
+
+/// What is in a file. Nothing where it can't be read.
+pub(crate) fn read_all(alloc: Global, file: &File) -> Option<Vec<u8>> {
+    let mut text = Vec::new(alloc);
+    let mut piece = Vec::from_elem(alloc, 0u8, PIECE).ok()?;
+    for _ in 0..MOST / PIECE {
+        let count = file.read_at(piece.as_mut_slice(), text.len() as u64).ok()?;
+        if count == 0 {
+            return Some(text);
+        }
+        text.extend_from_slice(piece.get(..count)?).ok()?;
+    }
+    None
 }

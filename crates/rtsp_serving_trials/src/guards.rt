@@ -55,7 +55,7 @@ impl Witness for Nobody {
 impl Porter for Nobody {
     fn refused(&self, _refusal: Refusal, _request: &Request) {}
 
-    fn of_another(&self, _request: &Request) -> Result<Option<Foreign>, AllocError> {
+    fn of_another(&self, _request: &Request, _user: &[u8]) -> Result<Option<Foreign>, AllocError> {
         Ok(self.another)
     }
 }

@@ -33,6 +33,7 @@ pub struct Asked<'a> {
 }
 
 /// The first place: the number of the request.
+#[inline(always)]
 pub fn cseq_of(headers: &Headers) -> Result<u32, Fault>
     ensures { result ≡ cseq_of headers.now }
 {
@@ -122,6 +123,7 @@ fn parsed_media<'a>(alloc: Global, table: &Table, text: &[u8]) -> Result<Target<
     }
 }
 
+#[inline(always)]
 fn media_of<'a>(alloc: Global, table: &Table, text: &'a [u8]) -> Result<Target<'a>, Fault>
     ensures { Gives result (media_of table.now (uri_of text.now)) }
 {
@@ -132,6 +134,7 @@ fn media_of<'a>(alloc: Global, table: &Table, text: &'a [u8]) -> Result<Target<'
 }
 
 /// The fifth place: what the URI names.
+#[inline(always)]
 pub fn target_of<'a>(
     alloc: Global,
     table: &Table,

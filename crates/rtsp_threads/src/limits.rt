@@ -75,10 +75,10 @@ pub const STOP_LIMIT: u64 = 2_500;
 
 /// A write to the journal's file is left behind so long after the lanes were to have hung up, so that all
 /// is over within 3 s.
-pub const JOURNAL_LEFT_AFTER: u64 = 350;
+pub const JOURNAL_LEFT_AFTER: u64 = 250;
 
 /// The same after a second signal, so that all is over within 0.3 s.
-pub const JOURNAL_LEFT_AT_ONCE: u64 = 120;
+pub const JOURNAL_LEFT_AT_ONCE: u64 = 90;
 
 /// The queue of the log has room for about so many lines, in batches, where each answer has one; further
 /// ones are dropped and counted.

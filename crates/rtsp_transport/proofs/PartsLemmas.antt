@@ -27,7 +27,7 @@ pub nil_split : (inside : Bool) (separator : ℕ) → split inside separator [] 
 unfolding split
 nil_split inside separator = refl
 
-alone : (inside : Bool) (separator : ℕ) (part : List ℕ) → is_part inside separator part ≡ true → (split inside separator part ≡ part ∷ []) × (is_closed inside part ≡ true)
+pub alone : (inside : Bool) (separator : ℕ) (part : List ℕ) → is_part inside separator part ≡ true → (split inside separator part ≡ part ∷ []) × (is_closed inside part ≡ true)
 alone inside separator [] e = (nil_split inside separator, e)
 alone inside separator (b ∷ bytes) e = go (eqb b 34) refl (λ i h. alone i separator bytes h) where
   go : (x : Bool) → eqb b 34 ≡ x → ((i : Bool) → is_part i separator bytes ≡ true → (split i separator bytes ≡ bytes ∷ []) × (is_closed i bytes ≡ true)) → (split inside separator (b ∷ bytes) ≡ (b ∷ bytes) ∷ []) × (is_closed inside (b ∷ bytes) ≡ true)
@@ -41,7 +41,7 @@ alone inside separator (b ∷ bytes) e = go (eqb b 34) refl (λ i h. alone i sep
       let r = again inside s.1 in
       (split_plain inside separator b bytes q (part_byte (eqb b separator) inside s.0) ∙ ap (onto_first (b ∷ [])) r.0, rw q r.1)
 
-followed : (inside : Bool) (separator : ℕ) (part rest : List ℕ) → eqb separator 34 ≡ false → is_part inside separator part ≡ true
+pub followed : (inside : Bool) (separator : ℕ) (part rest : List ℕ) → eqb separator 34 ≡ false → is_part inside separator part ≡ true
     → (split inside separator (part ++ separator ∷ rest) ≡ part ∷ split false separator rest) × (is_closed inside (part ++ separator ∷ rest) ≡ is_closed false rest)
 followed inside separator [] rest n e =
     let out : inside ≡ false = not-true inside e in
