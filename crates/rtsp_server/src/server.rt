@@ -106,6 +106,8 @@ impl Server {
         address: SocketAddr,
         connections: Option<u64>,
     ) -> Result<Server, ServerFault> {
+        // Before its file is read, so that a change meanwhile is seen.
+        let users = UsersGrowth::open(rt, alloc, &operation)?;
         let Opened {
             status,
             handles,
@@ -130,7 +132,6 @@ impl Server {
             last,
         } = handles;
         let folder = folder_of(alloc, &operation)?;
-        let users = UsersGrowth::open(rt, alloc, &operation)?;
         Ok(Server {
             alloc,
             parts: Parts {
