@@ -4,7 +4,22 @@ use crate::service::Service;
 use rtsp_content::Allowed;
 use rtsp_grammar::Request;
 use rtsp_state::presentation_asked;
-use std::alloc::AllocError;
+use std::alloc::{AllocError, Global};
+use std::sync::Arc;
+
+/// For whom presentations are there, for all contents that go on by it.
+pub(crate) fn share_allowed(
+    alloc: Global,
+    allowed: Option<Allowed>,
+) -> Result<Option<Arc<Allowed>>, AllocError> {
+    let Some(allowed) = allowed else {
+        return Ok(None);
+    };
+    match Arc::new(alloc, allowed) {
+        Ok(allowed) => Ok(Some(allowed)),
+        Err(_) => Err(AllocError),
+    }
+}
 
 /// Whether what a request is about is there for this user, as far as it is served.
 pub(crate) fn is_there<R>(

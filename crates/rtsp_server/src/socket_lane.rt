@@ -6,9 +6,9 @@ use crate::recorded::Recorded;
 use crate::service::Service;
 use crate::shared::Shared;
 use crossbeam_utils::CachePadded;
-use rtsp_content::Table;
 use rtsp_lock::BookHandle;
 use rtsp_metrics::AnswerCounters;
+use rtsp_sockets::Seen;
 use rtsp_threads::{Lane, LaneTurn, RoomLooks};
 use std::alloc::Global;
 use std::cell::Cell;
@@ -28,6 +28,8 @@ pub struct SocketLane {
     recorded: Recorded,
     looks: Cell<RoomLooks>,
     clients: Clients,
+    // What is served, as the lane sees it.
+    seen: Seen,
     // Whether it has begun.
     stands: bool,
 }
@@ -44,6 +46,9 @@ impl SocketLane {
         let answers = shared.lanes.answer_counters(rt, alloc)?;
         let shared = Arc::try_clone(shared)?;
         let clients = Clients::open(rt, alloc, &shared, number, listener)?;
+        let Some(seen) = Seen::open(rt, &shared.contents) else {
+            return Err(io::Error::from(io::ErrorKind::OutOfMemory));
+        };
         Ok(SocketLane {
             shared,
             answers,
@@ -51,6 +56,7 @@ impl SocketLane {
             recorded: Recorded::new(),
             looks: Cell::new(RoomLooks::new()),
             clients,
+            seen,
             stands: false,
         })
     }
@@ -62,7 +68,6 @@ impl Lane for SocketLane {
         rt: &R,
         alloc: Global,
         handle: &mut BookHandle,
-        table: &Table,
     ) -> LaneTurn {
         if !self.stands {
             self.stands = true;
@@ -75,15 +80,19 @@ impl Lane for SocketLane {
             recorded,
             looks,
             clients,
+            seen,
             ..
         } = self;
         let told = clients.wait(rt, &shared.lanes, lines, looks.get());
         let now = clients.begin_turn(shared.now(rt));
         clients.tools.refresh(rt, shared);
+        seen.refresh(rt, &shared.contents);
+        let content = seen.content();
         let service = Service {
             rt,
             alloc,
-            table,
+            table: &content.table,
+            allowed: content.allowed(),
             shared: &**shared,
             answers: &***answers,
             lines,

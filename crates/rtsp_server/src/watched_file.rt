@@ -1,38 +1,17 @@
 //! A file at which is looked from time to time.
 
+use rtsp_sockets::FileMark;
 use rtsp_threads::CONFIGURATION_STANDS;
 use std::alloc::Global;
 use std::fs;
-use std::fs::{File, Metadata};
-use std::os::unix::fs::{FileExt, MetadataExt};
+use std::fs::File;
+use std::os::unix::fs::FileExt;
 use std::rt::Files;
 
 // The most bytes of the file, and of a read.
 const MOST: usize = 16 * 1_024 * 1_024;
 
 const PIECE: usize = 64 * 1_024;
-
-// Which file it is, and since when it has its bytes, as the system tells.
-#[derive(Clone, Copy, PartialEq, Eq)]
-struct FileMark {
-    device: u64,
-    number: u64,
-    seconds: i64,
-    nanoseconds: i64,
-    len: u64,
-}
-
-impl FileMark {
-    fn of(metadata: &Metadata) -> FileMark {
-        FileMark {
-            device: metadata.dev(),
-            number: metadata.ino(),
-            seconds: metadata.mtime(),
-            nanoseconds: metadata.mtime_nsec(),
-            len: metadata.len(),
-        }
-    }
-}
 
 // What is seen of the file: nothing where it isn't there, nor of a pipe, which would hold a read up.
 fn mark_of<R: Files<File = File>>(rt: &R, path: &str) -> Option<FileMark> {

@@ -15,6 +15,7 @@
 
 mod bound;
 mod clock;
+mod contents;
 mod cut;
 mod decisions;
 mod disk;
@@ -25,6 +26,7 @@ mod loan;
 mod media;
 mod media_file;
 mod message;
+mod opened_files;
 mod options;
 mod outlet;
 mod outlets;
@@ -34,6 +36,7 @@ mod ports;
 mod put;
 mod read_at;
 mod reader;
+mod renewing;
 mod shelf;
 mod slots;
 mod spaces;
@@ -46,11 +49,13 @@ mod wishes;
 mod words;
 
 pub use clock::{PieceClock, RunningClock};
+pub use contents::{Content, Contents, Seen};
 pub use decisions::{Decisions, LaneDecisions};
 pub use disk::READERS;
 pub use frame_room::{FrameRoom, LENT_IN_ALL, MOST_ROOM};
 pub use loan::{Loan, SharedRoom};
 pub use media::{HELD_LIMIT, Media, MediaFault, MediaOf, TrackPlace};
+pub use media_file::FileMark;
 pub use message::{ALL_ROOM, FRAME_ROOM, Message};
 pub use options::{FIRST_SEND_BUFFER, SEND_BUFFER, prepare};
 pub use outlet::{Outlet, SLOW_LIMIT, STALL_LIMIT};

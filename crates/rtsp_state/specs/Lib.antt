@@ -27,7 +27,9 @@ pub mod Pause
 pub mod Teardown
 pub mod GetParameter
 pub mod SetParameter
+pub mod Aim
 pub mod StateTable
+pub mod Growth
 pub mod Renewal
 pub mod Answer
 pub mod Laws

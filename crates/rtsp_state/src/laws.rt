@@ -3,6 +3,7 @@
 ghost use Rattle.rtsp_state.specs.About.{NamesNothing};
 ghost use Rattle.rtsp_state.specs.Laws.{ReadsOnce, AnswersRefusal, ShowsAllowed, AllowedIsValid, AnswersInOrder, ShowsSession};
 ghost use Rattle.rtsp_state.specs.Renewal.{RenewsInSteps};
+ghost use Rattle.rtsp_state.specs.Growth.{PlaysOn, IsGone};
 
 /// What is handed on of a request is what it says, so that nothing of it is read again.
 pub fn law_reads_once()
@@ -46,4 +47,15 @@ pub fn law_answers_in_order()
 /// if the session is alive after the request, or was opened by it.
 pub fn law_shows_session()
     ensures { ShowsSession }
+{}
+
+/// A request of a session for what it has is decided as before, whatever of that was withdrawn or replaced
+/// meanwhile.
+pub fn law_plays_on()
+    ensures { PlaysOn }
+{}
+
+/// A description of what is withdrawn, and a first track of it, isn't found, unless its name is offered again.
+pub fn law_is_gone()
+    ensures { IsGone }
 {}

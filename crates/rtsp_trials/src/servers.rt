@@ -104,7 +104,8 @@ fn has_served_one(end: &ServerEnd) -> bool {
 fn a_server_answers_three_requests(rt: HostRuntime) -> Result<(), Fail> {
     let (table, operation) = configured(&rt)?;
     let any = SocketAddr::V4(SocketAddrV4::new(Ipv4Addr::LOCALHOST, 0));
-    let server = Server::open(&rt, rt.alloc(), table, operation, None, any, Some(1))?;
+    let path = String::new(rt.alloc());
+    let server = Server::open(&rt, rt.alloc(), table, operation, None, path, any, Some(1))?;
     let address = server.address();
     let errors = rt.stderr();
     let (ended, said) = thread::join(

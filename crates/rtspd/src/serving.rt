@@ -126,12 +126,16 @@ where
     let table = read_table(rt, Some(config))?;
     let operation = read_operation(rt, config)?;
     let allowed = read_allowed(rt, config)?;
+    let Ok(path) = String::from_str(rt.alloc(), config) else {
+        return Err(Exit::OutOfMemory);
+    };
     let opened = Server::open(
         rt,
         rt.alloc(),
         table,
         operation,
         allowed,
+        path,
         address,
         connections,
     );

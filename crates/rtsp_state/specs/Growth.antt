@@ -1,0 +1,45 @@
+-- What of an answer changes where the content does (RFC 7826 section 13).
+use Rattle.std.specs.Prelude.{◌≡◌, ◌⊎◌, ℕ, true, false, None, Option, Some, slice_get}
+use Rattle.rtsp_content.specs.TableValue.{TableValue}
+use Rattle.rtsp_content.specs.Withdrawn.{is_withdrawn}
+use Rattle.rtsp_content.specs.Offering.{is_namesake, offered_named}
+use Rattle.rtsp_content.specs.Growing.{Extends}
+use Rattle.rtsp_state.specs.declared.method.Method.{Method}
+use Rattle.rtsp_state.specs.declared.method.Method.TheVariants as methods
+use Rattle.rtsp_state.specs.declared.status.Status.TheVariants.{NotFound}
+use Rattle.rtsp_state.specs.declared.fault.Fault.TheVariants.{Refused}
+use Rattle.rtsp_state.specs.declared.request.Target.{Target}
+use Rattle.rtsp_state.specs.declared.request.Target.TheVariants as targets
+use Rattle.rtsp_state.specs.declared.plan.Plan.TheVariants as plans
+use Rattle.rtsp_state.specs.Response.{refused}
+use Rattle.rtsp_state.specs.ParsedRequest.{ParsedValue}
+use Rattle.rtsp_state.specs.Context.{Living}
+use Rattle.rtsp_state.specs.Aim.{place_of}
+use Rattle.rtsp_state.specs.StateTable.{decide, start_of}
+
+-- the target has the name of what stands at the place, or names no presentation
+abbrev pub IsOwn : TableValue → ℕ → Target → Type 0
+IsOwn table own (targets.Presentation base p) = is_namesake (slice_get table.presentations own) (slice_get table.presentations p) ≡ true
+IsOwn table own (targets.Track base p t) = is_namesake (slice_get table.presentations own) (slice_get table.presentations p) ≡ true
+IsOwn table own targets.Server = Unit {0}
+IsOwn table own targets.Star = Unit {0}
+
+-- a request of a session for what it has is decided as before, whatever of that is withdrawn or replaced
+abbrev pub PlaysOn : Type 0
+PlaysOn = (old new : TableValue) → Extends old new → new.server ≡ old.server → (request : ParsedValue) (living : Living) (own : ℕ)
+    → place_of (Some living) ≡ Some own → ¬ (request.method ≡ methods.Describe) → IsOwn old own request.target
+    → (peer moment : ℕ) → decide new request (Some living) peer moment ≡ decide old request (Some living) peer moment
+
+-- the target is of the place
+abbrev pub IsAt : ℕ → Target → Type 0
+IsAt p (targets.Presentation base q) = q ≡ p
+IsAt p (targets.Track base q t) = q ≡ p
+IsAt p targets.Server = ⊥
+IsAt p targets.Star = ⊥
+
+-- a description of what is withdrawn, and a first track of it, isn't found, unless its name is offered again
+abbrev pub IsGone : Type 0
+IsGone = (table : TableValue) (request : ParsedValue) (view : Option Living) (p : ℕ)
+    → (request.method ≡ methods.Describe) ⊎ ((request.method ≡ methods.Setup) × (view ≡ None))
+    → request.name ≡ None → IsAt p request.target → is_withdrawn table.withdrawn p ≡ true → offered_named table (slice_get table.presentations p) ≡ None
+    → (peer moment : ℕ) → decide table request view peer moment ≡ plans.Answer (refused (start_of request.cseq view) (Refused NotFound))
