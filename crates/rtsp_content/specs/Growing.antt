@@ -53,12 +53,14 @@ pub record Offers (old : List PresentationValue) (gone : List Bool) (p : Present
   pub place : ℕ
   pub stands : StandsIn new p place
   pub offered : is_withdrawn left place ≡ false
-  pub others : (i : ℕ) (q : PresentationValue) → ¬ (i ≡ place) → StandsIn new q i → is_withdrawn left i ≡ false → StandsIn old q i × (is_withdrawn gone i ≡ false)
+  pub others : (i : ℕ) (q : PresentationValue) → ¬ (i ≡ place) → StandsIn new q i → is_withdrawn left i ≡ false
+      → StandsIn old q i × (is_withdrawn gone i ≡ false)
   pub stay : (i : ℕ) (q : PresentationValue) → StandsIn old q i → is_withdrawn gone i ≡ false → is_withdrawn left i ≡ false
 
 -- a table that goes on has at each place of the old one what that has
 abbrev pub KeepsPlaces : Type 0
-KeepsPlaces = (old new : TableValue) → Extends old new → (place : ℕ) (p : PresentationValue) → StandsIn old.presentations p place → StandsIn new.presentations p place
+KeepsPlaces = (old new : TableValue) → Extends old new → (place : ℕ) (p : PresentationValue)
+    → StandsIn old.presentations p place → StandsIn new.presentations p place
 
 -- tables that go on chain
 abbrev pub ExtendsChain : Type 0

@@ -39,10 +39,13 @@ impl<F: ReadAt> MediaOf<F> {
         now: u64,
         out: &mut [u8],
     ) -> Result<(), NotTaken>
-        ensures ok { OnOk result (StandInFile (λ file. F.text (F.number (arc_value file).file)) self.now.files.items self.now.places.items presentation track unit out.new) }
+        ensures ok { OnOk result (StandInFile (λ file. F.text (F.number (arc_value file).file)) self.now.files.items
+            self.now.places.items presentation track unit out.new) }
         ensures err { OnErr result (out.new ≡ out.old) }
-        ensures held { IsUnitHeld (λ file. (arc_value file).held) self.now.files.items self.now.places.items presentation track unit (length out.old) → IsOk result }
-        ensures waits { IsInMemory (λ file. (arc_value file).held) self.now.files.items self.now.places.items presentation track → IfErr result (λ e. e ≡ NotTaken.Unreadable) }
+        ensures held { IsUnitHeld (λ file. (arc_value file).held) self.now.files.items self.now.places.items
+            presentation track unit (length out.old) → IsOk result }
+        ensures waits { IsInMemory (λ file. (arc_value file).held) self.now.files.items self.now.places.items
+            presentation track → IfErr result (λ e. e ≡ NotTaken.Unreadable) }
     {
         let Some(place) = self.place(presentation, track) else {
             return Err(NotTaken::Unreadable);

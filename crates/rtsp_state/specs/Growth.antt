@@ -41,5 +41,6 @@ IsAt p targets.Star = ⊥
 abbrev pub IsGone : Type 0
 IsGone = (table : TableValue) (request : ParsedValue) (view : Option Living) (p : ℕ)
     → (request.method ≡ methods.Describe) ⊎ ((request.method ≡ methods.Setup) × (view ≡ None))
-    → request.name ≡ None → IsAt p request.target → is_withdrawn table.withdrawn p ≡ true → offered_named table (slice_get table.presentations p) ≡ None
+    → request.name ≡ None → IsAt p request.target → is_withdrawn table.withdrawn p ≡ true
+    → offered_named table (slice_get table.presentations p) ≡ None
     → (peer moment : ℕ) → decide table request view peer moment ≡ plans.Answer (refused (start_of request.cseq view) (Refused NotFound))
