@@ -24,7 +24,7 @@ impl ContentCounts {
     }
 
     /// The configuration was taken up so many seconds after the start, and so many presentations are
-    /// offered. For the how-manieth time.
+    /// offered. How often it was, with this time.
     pub(crate) fn take(&self, seconds: u64, presentations: u64) -> u64 {
         self.taken.store(seconds, Ordering::Relaxed);
         self.presentations.store(presentations, Ordering::Relaxed);

@@ -15,8 +15,8 @@ const STANDARD_STREAMS: u64 = 3;
 const LANE: u64 = 6;
 
 // The descriptors that whoever runs the server has besides: for the log, for those who look at the
-// figures and for the account of what the process has used, for a file of the journal, the next one
-// and their folder, and for the configuration where that is taken up anew.
+// figures and for the account of what the process has used, and for a file of the journal, the next one
+// and their folder. A changed file of users or of what is served is read by one that is free then.
 fn kept_for(operation: &Operation) -> u64 {
     let shown = if operation.status().is_some() {
         PEERS as u64 + 2

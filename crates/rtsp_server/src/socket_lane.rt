@@ -8,7 +8,7 @@ use crate::shared::Shared;
 use crossbeam_utils::CachePadded;
 use rtsp_lock::BookHandle;
 use rtsp_metrics::AnswerCounters;
-use rtsp_sockets::Seen;
+use rtsp_sockets::{Content, Seen};
 use rtsp_threads::{Lane, LaneTurn, RoomLooks};
 use std::alloc::Global;
 use std::cell::Cell;
@@ -62,6 +62,34 @@ impl SocketLane {
     }
 }
 
+// What a turn is made with, of parts that live as long.
+fn service_of<'a, R>(
+    rt: &'a R,
+    alloc: Global,
+    content: &'a Content,
+    shared: &'a Shared,
+    answers: &'a AnswerCounters,
+    lines: &'a LaneLines,
+    recorded: &'a Recorded,
+    looks: &'a Cell<RoomLooks>,
+    lane: usize,
+    now: u64,
+) -> Service<'a, R> {
+    Service {
+        rt,
+        alloc,
+        table: &content.table,
+        allowed: content.allowed(),
+        shared,
+        answers,
+        lines,
+        recorded,
+        looks,
+        lane,
+        now,
+    }
+}
+
 impl Lane for SocketLane {
     fn turn<R: Wait + Net<Listener = net::TcpListener, Stream = net::TcpStream> + rt::Clock>(
         &mut self,
@@ -87,20 +115,18 @@ impl Lane for SocketLane {
         let now = clients.begin_turn(shared.now(rt));
         clients.tools.refresh(rt, shared);
         seen.refresh(rt, &shared.contents);
-        let content = seen.content();
-        let service = Service {
+        let service = service_of(
             rt,
             alloc,
-            table: &content.table,
-            allowed: content.allowed(),
-            shared: &**shared,
-            answers: &***answers,
+            seen.content(),
+            &**shared,
+            &***answers,
             lines,
             recorded,
             looks,
-            lane: clients.number,
+            clients.number,
             now,
-        };
+        );
         clients.serve(&service, handle, told)
     }
 }
