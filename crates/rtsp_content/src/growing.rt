@@ -86,7 +86,7 @@ fn offer(
 }
 
 // Whether what stands at a place is offered no more.
-fn is_gone(withdrawn: &[bool], place: usize) -> bool
+pub(crate) fn is_gone(withdrawn: &[bool], place: usize) -> bool
     ensures { result ≡ is_withdrawn withdrawn.now place }
 {
     match withdrawn.get(place) {

@@ -1,17 +1,18 @@
 //! Which place a request means: a session's own, or the one that is offered under the name.
 
-ghost use Rattle.std.specs.Prelude.{◌≡◌, ◌≤◌, ◌<◌, length, option_map, IfSome};
+ghost use Rattle.std.specs.Prelude.{◌≡◌, ◌≤◌, ◌<◌, ◌&&◌, not, bytes_eq, length, option_map, IfSome};
 ghost use Rattle.rtsp_content.specs.declared.limits.TheConstants.{MAX_PLACES, MAX_TRACKS};
-ghost use Rattle.rtsp_content.specs.Offering.{is_offered_as, offered_from, is_namesake, offered_like, meant_of, track_named, track_as};
+ghost use Rattle.rtsp_content.specs.Offering.{offered_from, is_namesake, offered_like, meant_of, track_named, track_as};
 
+use crate::growing::is_gone;
 use crate::presentation::Presentation;
 use crate::table::Table;
 
 // Whether what stands at a place is offered, under this name.
-fn is_offered_as(presentation: &Presentation, gone: Option<&bool>, name: &str) -> bool
-    ensures { result ≡ is_offered_as presentation.now (option_map (λ b. b.now) gone.entry) name.now }
+fn is_offered_as(presentation: &Presentation, gone: bool, name: &str) -> bool
+    ensures { result ≡ (not gone && bytes_eq presentation.now.name name.now) }
 {
-    !matches!(gone, Some(true)) && presentation.name() == name
+    !gone && presentation.name() == name
 }
 
 // The place at which a presentation of this name is offered.
@@ -20,7 +21,7 @@ fn offered_under(presentations: &[Presentation], withdrawn: &[bool], name: &str)
     ensures { result ≡ offered_from 0 presentations.now withdrawn.now name.now }
 {
     for (index, presentation) in presentations.iter().enumerate() {
-        if is_offered_as(presentation, withdrawn.get(index), name) {
+        if is_offered_as(presentation, is_gone(withdrawn, index), name) {
             return Some(index as u16);
         }
     }

@@ -24,9 +24,9 @@ loop-place-preserved c =
     let gone : c.is_gone.result ≡ is_withdrawn c.args.wanted.now.withdrawn place = c.is_gone.ensures ∙ ap (λ ws. is_withdrawn ws place) (c.as_slice.ensures.value ∙ withdrawn) in
     elim c.if-not-is_gone.branch [
       | then-not-is_gone+in_ok-offer w ↦
-          let p = w.index-presentation.result in
+          let p = w.index-presentation.result.now in
           let low : place < length c.wanted.inside.presentations.items = omega (arith, c.loop-place-test.true, c.len-place-end.ensures, c.wanted.inside.presentations.ok.0) in
-          let at : slice_get c.wanted.inside.presentations.items place ≡ Some p = slice_get_read c.wanted.inside.presentations.items (length c.wanted.inside.presentations.items) place p refl low w.index-presentation.is in
+          let at : slice_get c.wanted.inside.presentations.items place ≡ Some p = slice_get_read c.wanted.inside.presentations.items (length c.wanted.inside.presentations.items) place p refl low w.index-presentation.ensures in
           let here : StandsIn c.args.wanted.now.presentations p place = subst (λ (t : TableValue). StandsIn t.presentations p place) v at in
           let apart : AreOfferedDistinct c.args.wanted.now.withdrawn (presentation_names c.args.wanted.now.presentations) = subst (λ (t : TableValue). AreOfferedDistinct t.withdrawn (presentation_names t.presentations)) v c.wanted.invariant.presentations_distinct in
           let on : is_withdrawn c.args.wanted.now.withdrawn place ≡ false = sym gone ∙ w.if-not-is_gone.true in
