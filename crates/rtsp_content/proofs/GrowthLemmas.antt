@@ -1,5 +1,5 @@
 -- What a table that goes on leaves as it is.
-use Rattle.std.proofs.Common.{◌≡◌, ◌∙◌, sym, refl, ap, subst, ℕ, zero, suc, ◌+◌, ◌<◌, ◌≤◌, Bool, true, false, List, [], ◌∷◌, ◌++◌, Option, Some, None, slice_get, length, inl, inr, ◌⊎◌, arith, append_assoc, append-nil, length-append}
+use Rattle.std.proofs.Common.{◌≡◌, ◌∙◌, sym, refl, ap, subst, ℕ, zero, suc, ◌+◌, ◌<◌, ◌≤◌, Bool, true, false, List, [], ◌∷◌, ◌++◌, Some, slice_get, length, inl, inr, ◌⊎◌, arith, append_assoc, append-nil, length-append}
 use Rattle.std.specs.Prelude.{replicate, slice_set, Result, Ok, Err, OnOk}
 use Rattle.std.proofs.lemmas.Bool.{cases_lt, false≢true}
 use Rattle.std.proofs.lemmas.Option.{slice_get_within, same_Some}
@@ -7,7 +7,7 @@ use Rattle.std.proofs.lemmas.List.{length-replicate}
 use Rattle.rtsp_content.specs.PresentationValue.{PresentationValue, presentation_names}
 use Rattle.rtsp_content.specs.TableValue.{TableValue}
 use Rattle.rtsp_content.specs.Withdrawn.{is_gone, is_withdrawn, AreOfferedDistinct}
-use Rattle.rtsp_content.specs.Growing.{Extends, IsFront, IsFixed, StandsIn, IsOffered, Offers, OffersWhat, KeepsPlaces, ExtendsChain}
+use Rattle.rtsp_content.specs.Growing.{IsFront, StandsIn, IsOffered, Offers, OffersWhat, KeepsPlaces, ExtendsChain}
 
 pub get-longer : {X : Type 0} (xs ys : List X) (i : ℕ) (x : X) → slice_get xs i ≡ Some x → slice_get (xs ++ ys) i ≡ Some x
 get-longer [] ys i x e = absurd cc

@@ -1,4 +1,4 @@
-use Rattle.std.proofs.Common.{◌≡◌, ◌≤◌, ◌∙◌, sym, ap, ◌++◌, length, take, drop, arith}
+use Rattle.std.proofs.Common.{◌≤◌, ◌∙◌, sym, ap, ◌++◌, length, drop}
 use Rattle.std.proofs.lemmas.List.{take-append-drop, take_all}
 use Rattle.rtsp_content.proofs.growing.begins_with.Goals as goal
 

@@ -1,4 +1,4 @@
-use Rattle.std.proofs.Common.{rules, arith}
+use Rattle.std.proofs.Common.{arith}
 use Rattle.rtsp_content.proofs.table.read_table.Goals as goal
 
 pub invariant_of-result : goal.invariant_of-result
