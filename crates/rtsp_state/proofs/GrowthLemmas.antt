@@ -125,7 +125,10 @@ pub plays-on : PlaysOn
 unfolding decide
 plays-on old new x s request living own is n e peer moment =
     let own_is_it = own_is request.method living own is n in
-    ap (settled (start_of request.cseq (Some living))) (rw own_is_it (aim-alike old new x s request (Some living) own peer moment request.method request.name request.target e))
+    let same : cell (context_of new request (Some living) peer moment) request.method (Some living) request.name request.target
+            ≡ cell (context_of old request (Some living) peer moment) request.method (Some living) request.name request.target =
+        rw own_is_it (aim-alike old new x s request (Some living) own peer moment request.method request.name request.target e) in
+    ap (settled (start_of request.cseq (Some living))) same
 
 -- ---- whoever comes
 
@@ -150,4 +153,6 @@ found-fresh method None (inr comes) = rw comes.0 refl
 pub is-gone : IsGone
 unfolding decide
 is-gone table request view p comes unnamed at gone none peer moment =
-    ap (settled (start_of request.cseq view)) (rw (unnamed, found-fresh request.method view comes, none-own request.method view comes, aimed-gone table p request.target at (gone-aim table p gone none)) refl)
+    let same : cell (context_of table request view peer moment) request.method view request.name request.target ≡ Err (Refused NotFound) =
+        rw (unnamed, found-fresh request.method view comes, none-own request.method view comes, aimed-gone table p request.target at (gone-aim table p gone none)) refl in
+    ap (settled (start_of request.cseq view)) same
