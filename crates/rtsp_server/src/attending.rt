@@ -3,22 +3,23 @@
 use crate::growing::Growth;
 use crate::growing_users::UsersGrowth;
 use crate::threads::Parts;
-use rtsp_threads::CONFIGURATION_EVERY;
 use std::fs::File;
 use std::rt;
 use std::rt::Files;
 use std::sync::Wait;
-use std::thread::Threads;
 use std::time::Duration;
 
 impl Parts {
     // Makes the files that the thread which writes the journal asks for, takes a changed configuration up,
     // and looks whether the file of users has changed, until the lanes are over.
-    pub(crate) fn attend<
-        R: Threads + Wait + rt::Clock + Files<File = File> + Copy + Send + 'static,
-    >(&self, rt: &R, growth: &mut Growth, mut users: Option<UsersGrowth>) {
+    pub(crate) fn attend<R: Wait + rt::Clock + Files<File = File>>(
+        &self,
+        rt: &R,
+        growth: &mut Growth,
+        mut users: Option<UsersGrowth>,
+    ) {
         for _ in rt.forever() {
-            if self.attend_scribe(rt, Duration::from_millis(CONFIGURATION_EVERY)) {
+            if self.attend_scribe(rt, Duration::from_millis(growth.pause())) {
                 break;
             }
             growth.turn(rt, &self.shared);

@@ -1,27 +1,29 @@
 //! Has a changed configuration taken up while the server runs.
 
 use crate::descriptors::Descriptors;
+use crate::errands::{Errand, Errands, Outcome};
 use crate::growth_reasons::reason;
 use crate::hiding::share_allowed;
-use crate::readers::start_readers;
 use crate::shared::Shared;
-use crate::watched_file::{WatchedFile, read_all};
+use crate::watched_file::WatchedFile;
 use rtsp_content::{Allowed, Operation, Table, TableFault};
 use rtsp_log::Event;
 use rtsp_metrics::Transport;
-use rtsp_sockets::{Content, MediaFault};
+use rtsp_sockets::{Content, Longer, MediaFault};
 use rtsp_threads::CONFIGURATION_EVERY;
 use std::alloc::{AllocError, Global};
 use std::collections::VecDeque;
 use std::fs::File;
-use std::rt;
 use std::rt::Files;
 use std::sync::{Arc, Wait};
-use std::thread::Threads;
+use std::{mem, rt};
 
 // For how long, in milliseconds, what was replaced is kept: by then all threads have let go of it, so that
 // none of them closes files. For as long, too, files of what is withdrawn stay open that nobody watches.
 const KEPT: u64 = 3_000;
+
+// So often it is looked how far a change is that is under way, in milliseconds.
+const UNDER_WAY_EVERY: u64 = 20;
 
 /// Why a configuration isn't taken up.
 #[derive(Clone, Copy, PartialEq, Eq)]
@@ -71,13 +73,50 @@ struct Replaced {
     content: Arc<Content>,
 }
 
-/// What takes a changed configuration up.
+// What a changed configuration wants, but for its media.
+#[derive(Drop)]
+struct Wanted {
+    old: Arc<Content>,
+    table: Table,
+    allowed: Option<Arc<Allowed>>,
+    // How many presentations it offers. Nothing where files are closed alone.
+    offered: Option<u64>,
+}
+
+// A content that is served once all threads that it needs run.
+#[derive(Drop)]
+struct Ready {
+    old: Arc<Content>,
+    content: Arc<Content>,
+    // For how many connections it leaves descriptors.
+    connections: u64,
+    offered: Option<u64>,
+}
+
+// How far a change is.
+#[derive(Drop)]
+enum Phase {
+    // There is none.
+    Resting,
+    // Its text is being read.
+    Reading,
+    // What it wants held in memory is being read.
+    Holding(Wanted),
+    // Threads that read a further disk ahead are being started.
+    Starting(Ready),
+}
+
+/// What takes a changed configuration up. What a disk may hold up for long is done by another thread.
 #[derive(Drop)]
 pub(crate) struct Growth {
     alloc: Global,
     operation: Operation,
     file: WatchedFile,
     descriptors: Descriptors,
+    errands: Arc<Errands>,
+    phase: Phase,
+    // The text of the change.
+    text: Vec<u8>,
     looked: u64,
     // When the content was replaced last, or files were seen last that are wanted no more.
     changed: u64,
@@ -86,21 +125,24 @@ pub(crate) struct Growth {
 
 impl Growth {
     /// Nothing has changed yet.
-    pub(crate) fn new(
+    pub(crate) fn open(
         alloc: Global,
         file: WatchedFile,
         operation: Operation,
         descriptors: Descriptors,
-    ) -> Growth {
-        Growth {
+    ) -> Result<Growth, AllocError> {
+        Ok(Growth {
             alloc,
             operation,
             file,
             descriptors,
+            errands: Errands::open(alloc)?,
+            phase: Phase::Resting,
+            text: Vec::new(alloc),
             looked: 0,
             changed: 0,
             replaced: VecDeque::new(alloc),
-        }
+        })
     }
 
     /// What the server keeps and shows.
@@ -108,20 +150,56 @@ impl Growth {
         &self.operation
     }
 
-    /// Looks whether the configuration has changed, if it is time and that is wanted, and takes it up.
-    pub(crate) fn turn<R: Threads + Wait + rt::Clock + Files<File = File> + Copy + Send + 'static>(
+    /// What another thread is to do.
+    pub(crate) fn errands(&self) -> &Arc<Errands> {
+        &self.errands
+    }
+
+    /// The milliseconds up to the next turn.
+    pub(crate) fn pause(&self) -> u64 {
+        match self.phase {
+            Phase::Resting => CONFIGURATION_EVERY,
+            _ => UNDER_WAY_EVERY,
+        }
+    }
+
+    /// Looks whether the configuration has changed, if it is time and that is wanted, and takes it up, as far
+    /// as it is by now.
+    pub(crate) fn turn<R: Wait + rt::Clock + Files<File = File>>(
         &mut self,
         rt: &R,
-        shared: &Arc<Shared>,
+        shared: &Shared,
     ) {
         let now = shared.now(rt);
+        match mem::replace(&mut self.phase, Phase::Resting) {
+            Phase::Resting => self.look(rt, shared, now),
+            phase => match self.errands.outcome(rt) {
+                Some(outcome) => self.go_on(rt, shared, phase, outcome, now),
+                None => self.phase = phase,
+            },
+        }
+    }
+
+    // Looks whether the configuration has changed, and has it read then.
+    fn look<R: Wait + rt::Clock + Files<File = File>>(
+        &mut self,
+        rt: &R,
+        shared: &Shared,
+        now: u64,
+    ) {
         if !self.operation.watch() || now < self.looked.saturating_add(CONFIGURATION_EVERY) {
             return;
         }
         self.looked = now;
         self.let_go(now);
         if self.file.has_settled(rt, now) {
-            self.take(rt, shared, now);
+            match self.file.open_again(rt) {
+                Some(file) => {
+                    self.errands.ask(rt, Errand::Read(file));
+                    self.phase = Phase::Reading;
+                }
+                None => self.refuse(rt, shared, NotTaken::Unreadable),
+            }
         } else if self.changed.saturating_add(KEPT) <= now {
             self.close_unwatched(rt, shared, now);
         }
@@ -138,134 +216,150 @@ impl Growth {
         }
     }
 
-    // Takes the configuration up as it is now, or tells why not.
-    fn take<R: Threads + Wait + rt::Clock + Files<File = File> + Copy + Send + 'static>(
+    // Goes on with a change by what came of the errand that it waited for.
+    fn go_on<R: Wait + rt::Clock + Files<File = File>>(
         &mut self,
         rt: &R,
-        shared: &Arc<Shared>,
+        shared: &Shared,
+        phase: Phase,
+        outcome: Outcome,
         now: u64,
     ) {
-        let text = match self.file.open_again(rt) {
-            Some(file) => read_all(self.alloc, &file),
-            None => None,
-        };
-        let grown = match &text {
-            Some(text) => self.grow(rt, shared, text.as_slice(), now),
-            None => Err(NotTaken::Unreadable),
-        };
-        match grown {
-            Ok(presentations) => {
-                let number = shared.content_counts.take(now / 1_000, presentations);
-                let event = Event::Taken {
-                    number,
-                    presentations,
-                };
-                shared.log.event(rt, event);
+        let next = match (phase, outcome) {
+            (Phase::Reading, Outcome::Read(Some(text))) => {
+                self.text = text;
+                self.begin(rt, shared, now)
             }
-            Err(why) => {
-                shared.content_counts.refuse();
-                let text: &[u8] = match &text {
-                    Some(text) => text.as_slice(),
-                    None => b"",
-                };
-                match reason(rt, self.alloc, self.file.path(), text, why) {
-                    Ok(reason) => shared.log.not_taken(rt, self.alloc, reason.as_bytes()),
-                    Err(AllocError) => shared.log.not_taken(rt, self.alloc, b"out of memory"),
-                }
+            (Phase::Reading, Outcome::Read(None)) => Err(NotTaken::Unreadable),
+            (Phase::Holding(wanted), Outcome::Held(Ok(media))) => {
+                self.assemble(rt, shared, wanted, media, now)
             }
+            (Phase::Holding(_), Outcome::Held(Err(fault))) => Err(NotTaken::from(fault)),
+            (Phase::Starting(ready), Outcome::Started(true)) => {
+                Ok(self.switch(rt, shared, ready, now))
+            }
+            (Phase::Starting(_), Outcome::Started(false)) => Err(NotTaken::NoThread),
+            _ => Ok(Phase::Resting),
+        };
+        match next {
+            Ok(phase) => self.phase = phase,
+            Err(why) => self.refuse(rt, shared, why),
         }
     }
 
-    // Has the configuration of a text served. How many presentations it offers.
-    fn grow<R: Threads + Wait + rt::Clock + Files<File = File> + Copy + Send + 'static>(
+    // The change isn't taken up: the log tells why.
+    fn refuse<R: Wait + rt::Clock + Files<File = File>>(
         &mut self,
         rt: &R,
-        shared: &Arc<Shared>,
-        text: &[u8],
-        now: u64,
-    ) -> Result<u64, NotTaken> {
-        let wanted = Table::read_at(self.alloc, text, self.file.path())?;
-        let operation = Operation::read_at(self.alloc, text, self.file.path())?;
+        shared: &Shared,
+        why: NotTaken,
+    ) {
+        shared.content_counts.refuse();
+        match reason(rt, self.alloc, self.file.path(), self.text.as_slice(), why) {
+            Ok(reason) => shared.log.not_taken(rt, self.alloc, reason.as_bytes()),
+            Err(AllocError) => shared.log.not_taken(rt, self.alloc, b"out of memory"),
+        }
+    }
+
+    // What the text wants that was read, unless it changes what stays as long as the server runs.
+    fn wanted<R: Wait + Files<File = File>>(
+        &self,
+        rt: &R,
+        shared: &Shared,
+    ) -> Result<Wanted, NotTaken> {
+        let (text, path) = (self.text.as_slice(), self.file.path());
+        let wanted = Table::read_at(self.alloc, text, path)?;
+        let operation = Operation::read_at(self.alloc, text, path)?;
         let allowed = share_allowed(self.alloc, Allowed::read(self.alloc, text)?)?;
         let old = current(rt, shared)?;
-        if let Some(key) = old.table.changed_key(&wanted) {
-            return Err(NotTaken::Stays(key));
-        }
-        if let Some(key) = self.operation.changed_key(&operation) {
+        let changed = old.table.changed_key(&wanted);
+        if let Some(key) = changed.or(self.operation.changed_key(&operation)) {
             return Err(NotTaken::Stays(key));
         }
         let renewed = renewed(rt, self.alloc, &old)?;
         let table = old.table.longer(self.alloc, &wanted, renewed.as_slice())?;
-        let needed = needed(self.alloc, shared, &table, Some(&*old))?;
-        let media = old.media.longer(rt, self.alloc, &table, needed.as_slice())?;
-        let content = Content {
+        Ok(Wanted {
+            old,
             table,
-            media,
             allowed,
-        };
-        self.switch(rt, shared, old, content, now)?;
-        Ok(wanted.presentations().len() as u64)
+            offered: Some(wanted.presentations().len() as u64),
+        })
     }
 
-    // Closes the files of what is withdrawn and watched by nobody, if there are such.
-    fn close_unwatched<R: Threads + Wait + rt::Clock + Files<File = File> + Copy + Send + 'static>(
+    // Opens the files of the change that was read, and has those held in memory that are to be.
+    fn begin<R: Wait + rt::Clock + Files<File = File>>(
         &mut self,
         rt: &R,
-        shared: &Arc<Shared>,
+        shared: &Shared,
         now: u64,
-    ) {
-        let Ok(old) = current(rt, shared) else {
-            return;
-        };
-        if is_any_unwatched(shared, &old) {
-            let _ = self.close(rt, shared, old, now);
+    ) -> Result<Phase, NotTaken> {
+        let wanted = self.wanted(rt, shared)?;
+        let needed = needed(self.alloc, shared, &wanted.table, Some(&*wanted.old))?;
+        let media = wanted
+            .old
+            .media
+            .longer(rt, self.alloc, &wanted.table, needed.as_slice())?;
+        if media.is_held() {
+            self.errands.ask(rt, Errand::Hold(media));
+            return Ok(Phase::Holding(wanted));
         }
+        self.assemble(rt, shared, wanted, media, now)
     }
 
-    // Has the same presentations served, with the files alone that are wanted.
-    fn close<R: Threads + Wait + rt::Clock + Files<File = File> + Copy + Send + 'static>(
+    // Has the content served whose media are whole, once the threads run that it needs. Connections give up
+    // what descriptors its files need, or get them back.
+    fn assemble<R: Wait + rt::Clock>(
         &mut self,
         rt: &R,
-        shared: &Arc<Shared>,
-        old: Arc<Content>,
+        shared: &Shared,
+        wanted: Wanted,
+        media: Longer,
         now: u64,
-    ) -> Result<(), NotTaken> {
-        let table = old.table.longer(self.alloc, &old.table, &[])?;
-        let needed = needed(self.alloc, shared, &table, None)?;
-        let media = old.media.longer(rt, self.alloc, &table, needed.as_slice())?;
-        let allowed = match &old.allowed {
-            Some(allowed) => Some(Arc::try_clone(allowed).map_err(|_| NotTaken::OutOfMemory)?),
-            None => None,
-        };
-        let content = Content {
+    ) -> Result<Phase, NotTaken> {
+        let Wanted {
+            old,
             table,
-            media,
             allowed,
-        };
-        self.switch(rt, shared, old, content, now)
-    }
-
-    // Has this content served from now on. Connections give up what descriptors its files need, or get them
-    // back.
-    fn switch<R: Threads + Wait + rt::Clock + Copy + Send + 'static>(
-        &mut self,
-        rt: &R,
-        shared: &Arc<Shared>,
-        old: Arc<Content>,
-        content: Content,
-        now: u64,
-    ) -> Result<(), NotTaken> {
-        let connections = match self.descriptors.connections(content.media.open_files()) {
+            offered,
+        } = wanted;
+        let media = media.finish(self.alloc)?;
+        let connections = match self.descriptors.connections(media.open_files()) {
             Some(connections) if connections >= shared.gate.open_now() => connections,
             _ => return Err(NotTaken::NoDescriptor),
         };
-        let readers = content.media.readers(self.alloc, old.media.disk_count())?;
-        let Ok(content) = Arc::new(self.alloc, content) else {
-            return Err(NotTaken::OutOfMemory);
+        let readers = media.readers(self.alloc, old.media.disk_count())?;
+        let content = Content {
+            table,
+            media,
+            allowed,
         };
-        if !start_readers(rt, shared, readers) {
-            return Err(NotTaken::NoThread);
+        let ready = Ready {
+            old,
+            content: shared_content(self.alloc, content)?,
+            connections,
+            offered,
+        };
+        if readers.is_empty() {
+            return Ok(self.switch(rt, shared, ready, now));
         }
+        self.errands.ask(rt, Errand::Start(readers));
+        Ok(Phase::Starting(ready))
+    }
+
+    // Has this content served from now on.
+    fn switch<R: Wait + rt::Clock>(
+        &mut self,
+        rt: &R,
+        shared: &Shared,
+        ready: Ready,
+        now: u64,
+    ) -> Phase {
+        let Ready {
+            old,
+            content,
+            connections,
+            offered,
+        } = ready;
         shared.gate.allow(connections);
         shared.contents.replace(rt, content);
         self.changed = now;
@@ -273,15 +367,70 @@ impl Growth {
             at: now,
             content: old,
         });
-        Ok(())
+        if let Some(presentations) = offered {
+            let number = shared.content_counts.take(now / 1_000, presentations);
+            let event = Event::Taken {
+                number,
+                presentations,
+            };
+            shared.log.event(rt, event);
+        }
+        Phase::Resting
     }
+
+    // Closes the files of what is withdrawn and watched by nobody, if there are such.
+    fn close_unwatched<R: Wait + rt::Clock + Files<File = File>>(
+        &mut self,
+        rt: &R,
+        shared: &Shared,
+        now: u64,
+    ) {
+        let Ok(old) = current(rt, shared) else {
+            return;
+        };
+        if is_any_unwatched(shared, &old)
+            && let Ok(phase) = self.close(rt, shared, old, now)
+        {
+            self.phase = phase;
+        }
+    }
+
+    // Has the same presentations served, with the files alone that are wanted.
+    fn close<R: Wait + rt::Clock + Files<File = File>>(
+        &mut self,
+        rt: &R,
+        shared: &Shared,
+        old: Arc<Content>,
+        now: u64,
+    ) -> Result<Phase, NotTaken> {
+        let table = old.table.longer(self.alloc, &old.table, &[])?;
+        let needed = needed(self.alloc, shared, &table, None)?;
+        let media = old.media.longer(rt, self.alloc, &table, needed.as_slice())?;
+        let allowed = match &old.allowed {
+            Some(allowed) => Some(Arc::try_clone(allowed).map_err(|_| NotTaken::OutOfMemory)?),
+            None => None,
+        };
+        let wanted = Wanted {
+            old,
+            table,
+            allowed,
+            offered: None,
+        };
+        self.assemble(rt, shared, wanted, media, now)
+    }
+}
+
+// A content that threads share.
+fn shared_content(alloc: Global, content: Content) -> Result<Arc<Content>, NotTaken> {
+    Arc::new(alloc, content).map_err(|_| NotTaken::OutOfMemory)
 }
 
 fn current<R: Wait>(rt: &R, shared: &Shared) -> Result<Arc<Content>, NotTaken> {
     shared.contents.current(rt).ok_or(NotTaken::OutOfMemory)
 }
 
-// Of each place whether other media are at its paths now.
+// Of each place whether other media are at its paths now, as far as that is known: of a place whose files are
+// closed it isn't, so what comes back gets another place.
 fn renewed<R: Files<File = File>>(
     rt: &R,
     alloc: Global,
@@ -289,7 +438,8 @@ fn renewed<R: Files<File = File>>(
 ) -> Result<Vec<bool>, NotTaken> {
     let mut renewed = Vec::new(alloc);
     for (place, presentation) in content.table.presentations().iter().enumerate() {
-        let is_renewed = content.media.is_renewed(rt, place, presentation);
+        let media = &content.media;
+        let is_renewed = !media.has(place) || media.is_renewed(rt, place, presentation);
         renewed.push(is_renewed).map_err(AllocError::from)?;
     }
     Ok(renewed)

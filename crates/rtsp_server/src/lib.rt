@@ -32,6 +32,7 @@ mod descriptors;
 mod draining;
 mod end_lines;
 mod end_note;
+mod errands;
 mod fault;
 mod figures;
 mod foresight;

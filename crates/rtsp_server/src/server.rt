@@ -4,6 +4,7 @@ ghost use Rattle.std.specs.Prelude.{◌≡◌, IfOk, IfSome};
 ghost use Rattle.std.specs.FinMap.{empty};
 ghost use Rattle.rtsp_record.specs.Books.{book_of};
 
+use crate::errands::start_errands;
 use crate::fault::ServerFault;
 use crate::growing::Growth;
 use crate::growing_users::{UsersGrowth, UsersReader, start_users};
@@ -150,7 +151,7 @@ impl Server {
                 others,
                 lanes,
                 pacers,
-                growth: Growth::new(alloc, file, operation, descriptors),
+                growth: Growth::open(alloc, file, operation, descriptors)?,
                 users,
                 is_short: false,
             },
@@ -225,6 +226,7 @@ impl Server {
         } = self;
         let written = start.others.pop();
         start.is_short = !(start_readers(rt, &parts.shared, readers)
+            && start_errands(rt, alloc, &parts.shared, start.growth.errands())
             && parts.start_scribe(rt, scribe, written)
             && start_users(rt, users, &parts.shared));
         let beside = Beside {

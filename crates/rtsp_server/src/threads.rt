@@ -269,10 +269,7 @@ impl Parts {
             + Net<Listener = net::TcpListener, Stream = net::TcpStream>
             + rt::Clock
             + Files<File = File>
-            + Copy
-            + Send
-            + Sync
-            + 'static,
+            + Sync,
     >(
         &self,
         rt: &R,
@@ -322,10 +319,7 @@ impl Parts {
             + rt::Clock
             + Files<File = File>
             + Eprint
-            + Copy
-            + Send
-            + Sync
-            + 'static,
+            + Sync,
     >(
         &self,
         rt: &R,
@@ -383,10 +377,7 @@ impl Start {
             + Net<Listener = net::TcpListener, Stream = net::TcpStream>
             + rt::Clock
             + Files<File = File>
-            + Copy
-            + Send
-            + Sync
-            + 'static,
+            + Sync,
     >(
         self,
         parts: &Parts,

@@ -65,5 +65,6 @@ pub use ports::{PortSockets, PortTable};
 pub use put::Put;
 pub use read_at::ReadAt;
 pub use reader::Reader;
+pub use renewing::Longer;
 pub use taking::NotTaken;
 pub use words::{RandomWords, SourceWords};

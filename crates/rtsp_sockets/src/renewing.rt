@@ -99,16 +99,16 @@ impl MediaOf<File> {
         false
     }
 
-    /// The media of a longer table, as far as they are wanted at its places. What is open for a place is
-    /// shared with these; files of other places are opened, and held in memory where all are and there is
-    /// room. On a fault nothing is open that wasn't.
+    /// The media of a longer table, as far as they are wanted at its places, before anything of them is read.
+    /// What is open for a place is shared with these; files of other places are opened, and are held in memory
+    /// where all are and there is room. On a fault nothing is open that wasn't.
     pub fn longer<R: Files<File = File>>(
         &self,
         rt: &R,
         alloc: Global,
         table: &Table,
         wanted: &[bool],
-    ) -> Result<Media, MediaFault> {
+    ) -> Result<Longer, MediaFault> {
         let mut media = self.emptied(alloc)?;
         let mut opened = OpenedFiles::new(alloc, self.files.len());
         for (place, presentation) in table.presentations().iter().enumerate() {
@@ -127,9 +127,40 @@ impl MediaOf<File> {
             }
         }
         let is_small = media.held_bytes().saturating_add(opened.total()) < HELD_LIMIT;
-        if self.disks.is_empty() && is_small {
-            opened.hold()?;
+        Ok(Longer {
+            is_held: self.disks.is_empty() && is_small && !opened.files.is_empty(),
+            media,
+            opened,
+        })
+    }
+}
+
+/// Media of a longer table, whose files are open.
+#[derive(Drop)]
+pub struct Longer {
+    media: Media,
+    opened: OpenedFiles<File>,
+    // Whether the new files are to be held in memory.
+    is_held: bool,
+}
+
+impl Longer {
+    /// Whether files are to be read into memory, for which a disk may take its time.
+    pub fn is_held(&self) -> bool {
+        self.is_held
+    }
+
+    /// Reads what is to be held in memory.
+    pub fn hold(&mut self) -> Result<(), MediaFault> {
+        if self.is_held {
+            self.opened.hold()?;
         }
+        Ok(())
+    }
+
+    /// The media.
+    pub fn finish(self, alloc: Global) -> Result<Media, MediaFault> {
+        let Longer { mut media, opened, .. } = self;
         media.take_in(alloc, opened)?;
         Ok(media)
     }
