@@ -21,7 +21,13 @@ pub(crate) fn share_allowed(
     }
 }
 
-/// Whether what a request is about is there for this user, as far as it is served.
+// Whether a request names a session.
+fn names_session(request: &Request) -> bool {
+    request.headers.count_of(b"Session") > 0
+}
+
+/// Whether what a request is about is there for this user, as far as it is served. What is withdrawn is
+/// there for those alone who have a session of it.
 pub(crate) fn is_there<R>(
     service: &Service<'_, R>,
     allowed: &Allowed,
@@ -32,8 +38,9 @@ pub(crate) fn is_there<R>(
     let Some(place) = presentation_asked(service.alloc, table, request)? else {
         return Ok(true);
     };
-    match table.presentation(place) {
-        Some(presentation) => Ok(allowed.lets(presentation.name().as_bytes(), user)),
-        None => Ok(true),
-    }
+    let Some(presentation) = table.presentation(place) else {
+        return Ok(true);
+    };
+    let is_offered = !table.is_withdrawn(place) || names_session(request);
+    Ok(is_offered && allowed.lets(presentation.name().as_bytes(), user))
 }

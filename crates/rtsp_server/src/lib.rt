@@ -77,3 +77,4 @@ pub use rtsp_threads::{Lane, LaneTurn, PoolEnd, run_pool, whole_of};
 pub use server::{Announce, Server, ServerEnd};
 pub use socket_lane::SocketLane;
 pub use users_reasons::users_reason;
+pub use watched_file::WatchedFile;

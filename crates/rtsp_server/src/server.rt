@@ -98,7 +98,7 @@ impl Drop for Server {
 }
 
 impl Server {
-    /// A server of this configuration, whose file has this path, which listens on this address, and keeps
+    /// A server of this configuration, whose file is this, seen before it was read, which listens on this address, and keeps
     /// and shows what is wanted of it; presentations are there for those alone who are allowed them. There
     /// are as many lanes as the configuration has workers, and half as many pacers as the machine has cores,
     /// but at least one; where the media isn't held in memory, some threads read it ahead. With a number of
@@ -110,12 +110,13 @@ impl Server {
         table: Table,
         operation: Operation,
         allowed: Option<Allowed>,
-        path: String,
+        file: WatchedFile,
         address: SocketAddr,
         connections: Option<u64>,
     ) -> Result<Server, ServerFault> {
         let numbers = table.server();
-        let file = WatchedFile::open(rt, path);
+        // Before its file is read, so that a change meanwhile is seen.
+        let users = UsersGrowth::open(rt, alloc, &operation)?;
         let Opened {
             status,
             handles,
@@ -137,7 +138,6 @@ impl Server {
             last,
         } = handles;
         let folder = folder_of(alloc, &operation)?;
-        let users = UsersGrowth::open(rt, alloc, &operation)?;
         Ok(Server {
             alloc,
             parts: Parts {

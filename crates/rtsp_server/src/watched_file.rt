@@ -25,7 +25,7 @@ fn mark_of<R: Files<File = File>>(rt: &R, path: &str) -> Option<FileMark> {
 
 /// A file, as it was taken and as it was seen last.
 #[derive(Drop)]
-pub(crate) struct WatchedFile {
+pub struct WatchedFile {
     path: String,
     taken: Option<FileMark>,
     last: Option<FileMark>,
@@ -35,7 +35,7 @@ pub(crate) struct WatchedFile {
 
 impl WatchedFile {
     /// The file at this path was taken as it is.
-    pub(crate) fn open<R: Files<File = File>>(rt: &R, path: String) -> WatchedFile {
+    pub fn open<R: Files<File = File>>(rt: &R, path: String) -> WatchedFile {
         let taken = mark_of(rt, path.as_str());
         WatchedFile {
             path,
