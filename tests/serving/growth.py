@@ -20,6 +20,8 @@ from .server import TONE, Presentation, Track, configuration, lease
 
 # A changed configuration is served within so many seconds; on a busy machine it may take more.
 TAKEN, AT_MOST = 2.0, 12.0
+# The files of what is withdrawn and watched by nobody are closed within so many seconds.
+CLOSED = 15.0
 SHORT = Presentation("short", 150, 20, (Track("c"), Track("d", 8, "PCMA")))
 THIRD = Presentation("third", 100, 20, (Track("e"),))
 TRANSPORT = ("Transport", 'RTP/AVP;unicast;dest_addr=":9"/":9"')
@@ -196,6 +198,26 @@ def a_replaced_film_is_served_anew(checks: Checks) -> None:
         for play in plays:
             play.fits(checks, f"the old one over {play.player.way.value}", TONE.tracks, TONE.units)
         checks.same("one presentation is offered", 1, server.figure("rtspd_presentations"))
+
+
+@serving_test(limit=60)
+def a_replaced_film_stays_replaced(checks: Checks) -> None:
+    """Once the old one's files are closed nothing brings it back: after one more change it is the new one, and so it is
+    where it was taken out meanwhile."""
+    server = Growing(checks, TONE)
+    content = [track._replace(name="z") for track in TONE.tracks]
+    with server:
+        files = server.descriptors_at_rest()
+        server.put_media(TONE, content=Track("z"))
+        server.offer(TONE)
+        checks.same("the old files are closed", files, server.descriptors_fall_to(files, CLOSED))
+        server.put_media(SHORT)
+        server.offer(TONE, SHORT)
+        plays_whole(checks, server, TONE, Way.TCP, *content)
+        server.offer(SHORT)
+        server.descriptors_fall_to(files, CLOSED)
+        server.offer(SHORT, TONE)
+        plays_whole(checks, server, TONE, Way.UDP, *content)
 
 
 def comes_to(server: Growing, film: Presentation, status: int) -> int:
