@@ -24,7 +24,8 @@ fn kept_for(operation: &Operation) -> u64 {
         0
     };
     let written = if operation.journal().is_some() { 3 } else { 0 };
-    1 + shown + written
+    let read = u64::from(operation.watch()) + u64::from(operation.users().is_some());
+    1 + shown + written + read
 }
 
 // The fault of a limit that gives none for a connection beside the pairs and so many others.
