@@ -3,6 +3,7 @@
 ghost use Rattle.std.specs.Prelude.{◌≡◌, ◌*◌, ◌-◌, if◌then◌else◌, IfOk, vec_len};
 ghost use Rattle.std.specs.Arc.{arc_value};
 ghost use Rattle.rtsp_sockets.specs.Media.{are_held};
+ghost use Rattle.rtsp_sockets.specs.declared.media_file.MediaFile.{MediaFile};
 
 use crate::clock::RunningClock;
 use crate::contents::Contents;
@@ -50,7 +51,7 @@ impl Reader {
 impl<F: ReadAt> MediaOf<F> {
     // Whether all files are held in memory.
     fn are_held(&self) -> bool
-        ensures { result ≡ are_held (λ file. (arc_value file).held) self.now.files.items }
+        ensures { result ≡ are_held (λ file. (arc_value {X = MediaFile F _} file).held) self.now.files.items }
     {
         self.files.iter().all(|file| match file {
             Some(file) => file.held.is_some(),
@@ -62,7 +63,7 @@ impl<F: ReadAt> MediaOf<F> {
     /// where all files are held in memory.
     pub fn readers(&self, alloc: Global, first: usize) -> Result<Vec<Reader>, AllocError>
         ensures { IfOk result (λ r. vec_len r
-            ≡ (if are_held (λ file. (arc_value file).held) self.now.files.items then 0 else READERS * (vec_len self.now.disks - first))) }
+            ≡ (if are_held (λ file. (arc_value {X = MediaFile F _} file).held) self.now.files.items then 0 else READERS * (vec_len self.now.disks - first))) }
     {
         let mut readers = Vec::new(alloc);
         if self.are_held() {

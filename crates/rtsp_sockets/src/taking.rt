@@ -3,6 +3,7 @@
 ghost use Rattle.std.specs.Prelude.{◌≡◌, ◌≤◌, ◌+◌, length, IsOk, IsSome, IfSome, IfErr, OnOk, OnErr};
 ghost use Rattle.std.specs.Arc.{arc_value};
 ghost use Rattle.rtsp_sockets.specs.Files.{StandAt};
+ghost use Rattle.rtsp_sockets.specs.declared.media_file.MediaFile.{MediaFile};
 ghost use Rattle.rtsp_sockets.specs.Media.{IsInMemory, IsUnitHeld, StandInFile};
 
 use crate::cut::{Cut, Cuts};
@@ -39,12 +40,12 @@ impl<F: ReadAt> MediaOf<F> {
         now: u64,
         out: &mut [u8],
     ) -> Result<(), NotTaken>
-        ensures ok { OnOk result (StandInFile (λ file. F.text (F.number (arc_value file).file)) self.now.files.items
+        ensures ok { OnOk result (StandInFile (λ file. F.text (F.number (arc_value {X = MediaFile F _} file).file)) self.now.files.items
             self.now.places.items presentation track unit out.new) }
         ensures err { OnErr result (out.new ≡ out.old) }
-        ensures held { IsUnitHeld (λ file. (arc_value file).held) self.now.files.items self.now.places.items
+        ensures held { IsUnitHeld (λ file. (arc_value {X = MediaFile F _} file).held) self.now.files.items self.now.places.items
             presentation track unit (length out.old) → IsOk result }
-        ensures waits { IsInMemory (λ file. (arc_value file).held) self.now.files.items self.now.places.items
+        ensures waits { IsInMemory (λ file. (arc_value {X = MediaFile F _} file).held) self.now.files.items self.now.places.items
             presentation track → IfErr result (λ e. e ≡ NotTaken.Unreadable) }
     {
         let Some(place) = self.place(presentation, track) else {
