@@ -12,6 +12,7 @@ pub mod RowLemmas
 pub mod OrderLemmas
 pub mod ShownLemmas
 pub mod ValidLemmas
+pub mod AlikeLemmas
 pub mod GrowthLemmas
 pub mod LawLemmas
 pub mod RenewalLemmas

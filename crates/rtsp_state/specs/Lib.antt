@@ -29,6 +29,7 @@ pub mod GetParameter
 pub mod SetParameter
 pub mod Aim
 pub mod StateTable
+pub mod Alike
 pub mod Growth
 pub mod Renewal
 pub mod Answer
