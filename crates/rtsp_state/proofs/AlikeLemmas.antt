@@ -139,7 +139,7 @@ asked-there table request asked e =
     let four = chain_ok (target_of table two.0 request.uri) (λ target. name_of two.0 request.headers >>= λ name. Ok (asked_with two.0 target name)) asked three.2 in
     let five = chain_ok (name_of two.0 request.headers) (λ name. Ok (asked_with two.0 four.0 name)) asked four.2 in
     let same : asked_with two.0 four.0 five.0 ≡ asked = cc in
-    subst (λ (a : Asked). IsThere table a.target) same (target-there table two.0 request.uri four.0 four.1)
+    subst (λ (a : Asked). IsThere table a.target) {x = asked_with two.0 four.0 five.0} same (target-there table two.0 request.uri four.0 four.1)
 
 asks-there : (table : TableValue) (request : Request) (parsed : ParsedValue) → screen table request ≡ Asks parsed → IsThere table parsed.target
 unfolding screen

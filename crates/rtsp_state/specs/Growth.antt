@@ -1,8 +1,8 @@
 -- What of an answer changes where the content does (RFC 7826 section 13).
-use Rattle.std.specs.Prelude.{◌≡◌, ◌⊎◌, ℕ, true, false, None, Option, Some, slice_get}
-use Rattle.rtsp_content.specs.TableValue.{TableValue}
+use Rattle.std.specs.Prelude.{◌≡◌, ◌⊎◌, ℕ, true, false, None, Option, Some, Ok, slice_get}
+use Rattle.rtsp_content.specs.TableValue.{TableValue, IsTableWithin}
 use Rattle.rtsp_content.specs.Withdrawn.{is_withdrawn}
-use Rattle.rtsp_content.specs.Offering.{is_namesake, offered_named}
+use Rattle.rtsp_content.specs.Offering.{is_namesake, meant_of, offered_named}
 use Rattle.rtsp_content.specs.Growing.{Extends}
 use Rattle.rtsp_state.specs.declared.method.Method.{Method}
 use Rattle.rtsp_state.specs.declared.method.Method.TheVariants as methods
@@ -14,8 +14,9 @@ use Rattle.rtsp_state.specs.declared.plan.Plan.TheVariants as plans
 use Rattle.rtsp_state.specs.Response.{refused}
 use Rattle.rtsp_state.specs.ParsedRequest.{ParsedValue}
 use Rattle.rtsp_state.specs.Context.{Living}
-use Rattle.rtsp_state.specs.Aim.{place_of}
-use Rattle.rtsp_state.specs.StateTable.{decide, start_of}
+use Rattle.rtsp_state.specs.Aim.{place_of, own_of, aimed}
+use Rattle.rtsp_state.specs.StateTable.{decide, session_found, start_of}
+use Rattle.rtsp_state.specs.Alike.{IsHeld, IsThere, AgreeOn}
 
 -- the target has the name of what stands at the place, or names no presentation
 abbrev pub IsOwn : TableValue → ℕ → Target → Type 0
@@ -26,7 +27,7 @@ IsOwn table own targets.Star = Unit {0}
 
 -- a request of a session for what it has is decided as before, whatever of that is withdrawn or replaced
 abbrev pub PlaysOn : Type 0
-PlaysOn = (old new : TableValue) → Extends old new → new.server ≡ old.server → (request : ParsedValue) (living : Living) (own : ℕ)
+PlaysOn = (old new : TableValue) → Extends old new → new.server.timeout ≡ old.server.timeout → (request : ParsedValue) (living : Living) (own : ℕ)
     → place_of (Some living) ≡ Some own → ¬ (request.method ≡ methods.Describe) → IsOwn old own request.target
     → (peer moment : ℕ) → decide new request (Some living) peer moment ≡ decide old request (Some living) peer moment
 
@@ -37,10 +38,23 @@ IsAt p (targets.Track base q t) = q ≡ p
 IsAt p targets.Server = ⊥
 IsAt p targets.Star = ⊥
 
--- a description of what is withdrawn, and a first track of it, isn't found, unless its name is offered again
+-- a DESCRIBE of what is withdrawn, and a SETUP that would open a session of it, is 404 (section 17.4.6), unless the name is offered again
 abbrev pub IsGone : Type 0
 IsGone = (table : TableValue) (request : ParsedValue) (view : Option Living) (p : ℕ)
     → (request.method ≡ methods.Describe) ⊎ ((request.method ≡ methods.Setup) × (view ≡ None))
-    → request.name ≡ None → IsAt p request.target → is_withdrawn table.withdrawn p ≡ true
+    → session_found request.method request.name view ≡ Ok tt → IsAt p request.target → is_withdrawn table.withdrawn p ≡ true
     → offered_named table (slice_get table.presentations p) ≡ None
     → (peer moment : ℕ) → decide table request view peer moment ≡ plans.Answer (refused (start_of request.cseq view) (Refused NotFound))
+
+-- ---- all others
+
+-- both tables mean the same by a target, for whoever has streams of a place, and have the same presentation there
+pub record MeansAlike (old new : TableValue) (own : Option ℕ) (target : Target) : Type 0 where
+  pub meant : aimed new own target ≡ aimed old own target
+  pub stands : (aim : Target) → aimed old own target ≡ Ok aim → AgreeOn old new aim
+
+-- a request is decided by the presentation that it means and by the session timeout, and by nothing else of a table
+abbrev pub DecidesByPlace : Type 0
+DecidesByPlace = (old new : TableValue) → new.server.timeout ≡ old.server.timeout → (request : ParsedValue) (view : Option Living)
+    → MeansAlike old new (own_of request.method view) request.target
+    → (peer moment : ℕ) → decide new request view peer moment ≡ decide old request view peer moment

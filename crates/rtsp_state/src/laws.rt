@@ -3,7 +3,7 @@
 ghost use Rattle.rtsp_state.specs.About.{NamesNothing};
 ghost use Rattle.rtsp_state.specs.Laws.{ReadsOnce, AnswersRefusal, ShowsAllowed, AllowedIsValid, AnswersInOrder, ShowsSession};
 ghost use Rattle.rtsp_state.specs.Renewal.{RenewsInSteps};
-ghost use Rattle.rtsp_state.specs.Growth.{PlaysOn, IsGone};
+ghost use Rattle.rtsp_state.specs.Growth.{PlaysOn, IsGone, DecidesByPlace};
 ghost use Rattle.rtsp_state.specs.Alike.{ReadsAlike, AsksAlike};
 
 /// What is handed on of a request is what it says, so that nothing of it is read again.
@@ -70,4 +70,10 @@ pub fn law_reads_alike()
 /// there.
 pub fn law_asks_alike()
     ensures { AsksAlike }
+{}
+
+/// A request is decided by the presentation that it means and by the timeout of sessions, and by nothing
+/// else of a table.
+pub fn law_decides_by_place()
+    ensures { DecidesByPlace }
 {}
