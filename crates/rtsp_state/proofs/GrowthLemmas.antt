@@ -79,7 +79,7 @@ own_is : (method : Method) (living : Living) (own : ℕ) → place_of (Some livi
 own_is methods.Describe living own e n = absurd (n refl)
 own_is method living own e n = e
 
-track-alike : (old new : TableValue) (p t own : ℕ) → AgreeAt old new own → AgreeAt old new p → track_as new p t own ≡ track_as old p t own
+pub track-alike : (old new : TableValue) (p t own : ℕ) → AgreeAt old new own → AgreeAt old new p → track_as new p t own ≡ track_as old p t own
 track-alike old new p t own a b = rw (a, b) refl
 
 chain-alike : {A : Type 0} (o : Option A) (f g : A → Result Plan Fault) → ((x : A) → f x ≡ g x) → (known o >>= f) ≡ (known o >>= g)

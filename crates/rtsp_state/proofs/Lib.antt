@@ -14,6 +14,7 @@ pub mod ShownLemmas
 pub mod ValidLemmas
 pub mod AlikeLemmas
 pub mod GrowthLemmas
+pub mod MeaningLemmas
 pub mod LawLemmas
 pub mod RenewalLemmas
 pub mod RoomLemmas

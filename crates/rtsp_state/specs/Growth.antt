@@ -58,3 +58,33 @@ abbrev pub DecidesByPlace : Type 0
 DecidesByPlace = (old new : TableValue) → new.server.timeout ≡ old.server.timeout → (request : ParsedValue) (view : Option Living)
     → MeansAlike old new (own_of request.method view) request.target
     → (peer moment : ℕ) → decide new request view peer moment ≡ decide old request view peer moment
+
+-- the place that a session has streams of stands in the table, where it has one
+abbrev pub HasOwn : TableValue → Option ℕ → Type 0
+HasOwn table None = Unit {0}
+HasOwn table (Some own) = IsHeld table own
+
+-- what the old table means by a place is the session's own, or is offered by the new one
+pub record IsKeptAt (old new : TableValue) (own : Option ℕ) (p : ℕ) : Type 0 where
+  pub meant : ℕ
+  pub is : meant_of old own p ≡ Some meant
+  pub stays : (own ≡ Some meant) ⊎ (is_withdrawn new.withdrawn meant ≡ false)
+
+-- the same of a target, where it is of a place
+abbrev pub IsKeptOn : TableValue → TableValue → Option ℕ → Target → Type 0
+IsKeptOn old new own (targets.Presentation base p) = IsKeptAt old new own p
+IsKeptOn old new own (targets.Track base p t) = IsKeptAt old new own p
+IsKeptOn old new own targets.Server = Unit {0}
+IsKeptOn old new own targets.Star = Unit {0}
+
+-- what is named stands in the old table, and what it means is there still, for whoever has streams of a place of the old table
+pub record IsKept (old new : TableValue) (own : Option ℕ) (target : Target) : Type 0 where
+  pub there : IsThere old target
+  pub own_there : HasOwn old own
+  pub kept : IsKeptOn old new own target
+
+-- a request for what is offered still, or is the session's own, is decided as before, whatever else is added, withdrawn or replaced
+abbrev pub OffersRest : Type 0
+OffersRest = (old new : TableValue) → Extends old new → IsTableWithin new → new.server.timeout ≡ old.server.timeout
+    → (request : ParsedValue) (view : Option Living) → IsKept old new (own_of request.method view) request.target
+    → (peer moment : ℕ) → decide new request view peer moment ≡ decide old request view peer moment

@@ -3,7 +3,7 @@
 ghost use Rattle.rtsp_state.specs.About.{NamesNothing};
 ghost use Rattle.rtsp_state.specs.Laws.{ReadsOnce, AnswersRefusal, ShowsAllowed, AllowedIsValid, AnswersInOrder, ShowsSession};
 ghost use Rattle.rtsp_state.specs.Renewal.{RenewsInSteps};
-ghost use Rattle.rtsp_state.specs.Growth.{PlaysOn, IsGone, DecidesByPlace};
+ghost use Rattle.rtsp_state.specs.Growth.{PlaysOn, IsGone, DecidesByPlace, OffersRest};
 ghost use Rattle.rtsp_state.specs.Alike.{ReadsAlike, AsksAlike};
 
 /// What is handed on of a request is what it says, so that nothing of it is read again.
@@ -76,4 +76,10 @@ pub fn law_asks_alike()
 /// else of a table.
 pub fn law_decides_by_place()
     ensures { DecidesByPlace }
+{}
+
+/// A request for what is offered still, or is the session's own, is decided as before, whatever else is
+/// added, withdrawn or replaced.
+pub fn law_offers_rest()
+    ensures { OffersRest }
 {}
