@@ -22,8 +22,9 @@ use Rattle.rtsp_state.specs.Response.{refused}
 use Rattle.rtsp_state.specs.Context.{Living, ContextValue, known}
 use Rattle.rtsp_state.specs.Aim.{place_of, own_of, aimed, meant, meant_track}
 use Rattle.rtsp_state.specs.StateTable.{decide, row, cell, context_of, settled, start_of, session_found}
+use Rattle.rtsp_state.specs.Renewal.{renewal}
 use Rattle.rtsp_state.specs.Alike.{AgreeAt, AgreeOn}
-use Rattle.rtsp_state.specs.Growth.{IsOwn, IsAt, PlaysOn, IsGone, MeansAlike, DecidesByPlace}
+use Rattle.rtsp_state.specs.Growth.{IsOwn, IsAt, PlaysOn, IsGone, MeansAlike, DecidesByPlace, RenewsAlike}
 use Rattle.rtsp_state.proofs.AlikeLemmas.{agree-held}
 
 row-alike : (old new : TableValue) → new.server.timeout ≡ old.server.timeout → (request : ParsedValue) (view : Option Living) (peer moment : ℕ) (method : Method) (name : Option Name) (target : Target) → AgreeOn old new target
@@ -155,3 +156,7 @@ decides-by-place old new s request view alike peer moment =
     let aims = aimed old (own_of request.method view) request.target in
     ap (λ plan. settled (start_of request.cseq view) (session_found request.method request.name view >>= λ living. plan))
     (rw alike.meant (aims-alike old new s request view peer moment request.method request.name aims alike.stands))
+
+pub renews-alike : RenewsAlike
+unfolding renewal
+renews-alike old new timed request living moment = rw (timed.timeout, timed.renewal_step) refl

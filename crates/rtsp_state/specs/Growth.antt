@@ -1,5 +1,6 @@
 -- What of an answer changes where the content does (RFC 7826 section 13).
 use Rattle.std.specs.Prelude.{◌≡◌, ◌⊎◌, ℕ, true, false, None, Option, Some, Ok, slice_get}
+use Rattle.rtsp_grammar.specs.declared.message.Request.{Request}
 use Rattle.rtsp_content.specs.TableValue.{TableValue, IsTableWithin}
 use Rattle.rtsp_content.specs.Withdrawn.{is_withdrawn}
 use Rattle.rtsp_content.specs.Offering.{is_namesake, meant_of, offered_named}
@@ -10,13 +11,16 @@ use Rattle.rtsp_state.specs.declared.status.Status.TheVariants.{NotFound}
 use Rattle.rtsp_state.specs.declared.fault.Fault.TheVariants.{Refused}
 use Rattle.rtsp_state.specs.declared.request.Target.{Target}
 use Rattle.rtsp_state.specs.declared.request.Target.TheVariants as targets
+use Rattle.rtsp_state.specs.declared.request.Screen.TheVariants.{Asks}
 use Rattle.rtsp_state.specs.declared.plan.Plan.TheVariants as plans
 use Rattle.rtsp_state.specs.Response.{refused}
 use Rattle.rtsp_state.specs.ParsedRequest.{ParsedValue}
 use Rattle.rtsp_state.specs.Context.{Living}
 use Rattle.rtsp_state.specs.Aim.{place_of, own_of, aimed}
 use Rattle.rtsp_state.specs.StateTable.{decide, session_found, start_of}
-use Rattle.rtsp_state.specs.Alike.{IsHeld, IsThere, AgreeOn}
+use Rattle.rtsp_state.specs.Screen.{screen}
+use Rattle.rtsp_state.specs.Renewal.{renewal}
+use Rattle.rtsp_state.specs.Alike.{Has, IsHeld, IsThere, AgreeOn}
 
 -- the target has the name of what stands at the place, or names no presentation
 abbrev pub IsOwn : TableValue → ℕ → Target → Type 0
@@ -88,3 +92,13 @@ abbrev pub OffersRest : Type 0
 OffersRest = (old new : TableValue) → Extends old new → IsTableWithin new → new.server.timeout ≡ old.server.timeout
     → (request : ParsedValue) (view : Option Living) → IsKept old new (own_of request.method view) request.target
     → (peer moment : ℕ) → decide new request view peer moment ≡ decide old request view peer moment
+
+-- the numbers by which sessions live are the same
+pub record AreTimesAlike (old new : TableValue) : Type 0 where
+  pub timeout : new.server.timeout ≡ old.server.timeout
+  pub renewal_step : new.server.renewal_step ≡ old.server.renewal_step
+
+-- a session is renewed by these numbers, and by nothing else of a table
+abbrev pub RenewsAlike : Type 0
+RenewsAlike = (old new : TableValue) → AreTimesAlike old new → (request : ParsedValue) (living : Living) (moment : ℕ)
+    → renewal new request living moment ≡ renewal old request living moment

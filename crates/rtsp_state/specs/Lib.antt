@@ -30,7 +30,7 @@ pub mod SetParameter
 pub mod Aim
 pub mod StateTable
 pub mod Alike
-pub mod Growth
 pub mod Renewal
+pub mod Growth
 pub mod Answer
 pub mod Laws
