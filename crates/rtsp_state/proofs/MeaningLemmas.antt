@@ -16,9 +16,9 @@ use Rattle.rtsp_state.specs.declared.request.Target.TheVariants as targets
 use Rattle.rtsp_state.specs.Context.{known}
 use Rattle.rtsp_state.specs.Aim.{aimed, meant, meant_track}
 use Rattle.rtsp_state.specs.Alike.{IsHeld, AgreeAt, AgreeOn}
-use Rattle.rtsp_state.specs.Growth.{HasOwn, IsKeptAt, IsKept, MeansAlike, OffersRest}
-use Rattle.rtsp_state.proofs.AlikeLemmas.{agree-held}
-use Rattle.rtsp_state.proofs.GrowthLemmas.{track-alike, decides-by-place}
+use Rattle.rtsp_state.specs.Growth.{HasOwn, IsKeptAt, IsKept, MeansAlike, OffersRest, AnswersAlike}
+use Rattle.rtsp_state.proofs.AlikeLemmas.{agree-held, reads-alike, asks-alike}
+use Rattle.rtsp_state.proofs.GrowthLemmas.{track-alike, decides-by-place, renews-alike}
 
 -- ---- what is offered under a name
 
@@ -193,3 +193,13 @@ means-alike old new x within own targets.Star kept = record { meant = refl; stan
 
 pub offers-rest : OffersRest
 offers-rest old new x within timed request view kept peer moment = decides-by-place old new timed request view (means-alike old new x within _ request.target kept) peer moment
+
+pub answers-alike : AnswersAlike
+answers-alike old new x within timed request view has kept = record {
+  read = reads-alike old new x request has;
+  renewed = λ parsed living moment. renews-alike old new timed parsed living moment;
+  decided = λ parsed asks peer moment.
+      let asked = asks-alike old new x request parsed asks in
+      let it = kept parsed asks in
+      offers-rest old new x within timed.timeout parsed view (record { there = asked.0; own_there = it.0; kept = it.1 }) peer moment;
+}

@@ -102,3 +102,20 @@ pub record AreTimesAlike (old new : TableValue) : Type 0 where
 abbrev pub RenewsAlike : Type 0
 RenewsAlike = (old new : TableValue) → AreTimesAlike old new → (request : ParsedValue) (living : Living) (moment : ℕ)
     → renewal new request living moment ≡ renewal old request living moment
+
+-- whatever a request asks of the old table, it means what is offered still, or the session's own
+abbrev pub KeepsAsked : TableValue → TableValue → Request → Option Living → Type 0
+KeepsAsked old new request view = (parsed : ParsedValue) → screen old request ≡ Asks parsed
+    → HasOwn old (own_of parsed.method view) × IsKeptOn old new (own_of parsed.method view) parsed.target
+
+-- both tables answer a request alike, of a session as it is: before one is looked up, when it is renewed, and when the request is decided
+pub record IsAnsweredAlike (old new : TableValue) (request : Request) (view : Option Living) : Type 0 where
+  pub read : screen new request ≡ screen old request
+  pub renewed : (parsed : ParsedValue) (living : Living) (moment : ℕ) → renewal new parsed living moment ≡ renewal old parsed living moment
+  pub decided : (parsed : ParsedValue) → screen old request ≡ Asks parsed
+      → (peer moment : ℕ) → decide new parsed view peer moment ≡ decide old parsed view peer moment
+
+-- what a request for what was there is answered stays, where that is offered still or is the session's own
+abbrev pub AnswersAlike : Type 0
+AnswersAlike = (old new : TableValue) → Extends old new → IsTableWithin new → AreTimesAlike old new → (request : Request) (view : Option Living)
+    → Has old request → KeepsAsked old new request view → IsAnsweredAlike old new request view

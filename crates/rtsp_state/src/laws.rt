@@ -3,7 +3,7 @@
 ghost use Rattle.rtsp_state.specs.About.{NamesNothing};
 ghost use Rattle.rtsp_state.specs.Laws.{ReadsOnce, AnswersRefusal, ShowsAllowed, AllowedIsValid, AnswersInOrder, ShowsSession};
 ghost use Rattle.rtsp_state.specs.Renewal.{RenewsInSteps};
-ghost use Rattle.rtsp_state.specs.Growth.{PlaysOn, IsGone, DecidesByPlace, OffersRest, RenewsAlike};
+ghost use Rattle.rtsp_state.specs.Growth.{PlaysOn, IsGone, DecidesByPlace, OffersRest, RenewsAlike, AnswersAlike};
 ghost use Rattle.rtsp_state.specs.Alike.{ReadsAlike, AsksAlike};
 
 /// What is handed on of a request is what it says, so that nothing of it is read again.
@@ -87,4 +87,10 @@ pub fn law_offers_rest()
 /// A session is renewed by the timeout and the step of renewals, and by nothing else of a table.
 pub fn law_renews_alike()
     ensures { RenewsAlike }
+{}
+
+/// What a request for what was there is answered stays, where that is offered still or is the session's
+/// own.
+pub fn law_answers_alike()
+    ensures { AnswersAlike }
 {}
