@@ -29,7 +29,8 @@ pub mod GetParameter
 pub mod SetParameter
 pub mod Aim
 pub mod StateTable
-pub mod Growth
+pub mod Alike
 pub mod Renewal
+pub mod Growth
 pub mod Answer
 pub mod Laws
