@@ -16,10 +16,7 @@ use crate::table::Table;
 use std::alloc::{AllocError, Global};
 
 // Copies of these, in their order.
-fn copies(
-    alloc: Global,
-    presentations: &Vec<Presentation>,
-) -> Result<Vec<Presentation>, AllocError>
+fn copies(alloc: Global, presentations: &Vec<Presentation>) -> Result<Vec<Presentation>, AllocError>
     ensures { IfOk result (λ v. v.items ≡ presentations.now.items) }
 {
     let mut copies = Vec::new(alloc);

@@ -160,7 +160,11 @@ impl Longer {
 
     /// The media.
     pub fn finish(self, alloc: Global) -> Result<Media, MediaFault> {
-        let Longer { mut media, opened, .. } = self;
+        let Longer {
+            mut media,
+            opened,
+            ..
+        } = self;
         media.take_in(alloc, opened)?;
         Ok(media)
     }

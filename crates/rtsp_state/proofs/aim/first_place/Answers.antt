@@ -1,7 +1,6 @@
-use Rattle.std.proofs.Common.{sym, ap, ◌∙◌, ◌≡◌, ℕ, List, Some, None, ◌∷◌, slice_get}
+use Rattle.std.proofs.Common.{sym, ap, ◌∙◌, ℕ, Some, None, slice_get}
 use Rattle.std.specs.FinMap.{entries}
 use Rattle.rtsp_record.specs.declared.holdings.Admission.{Admission}
-use Rattle.rtsp_record.specs.declared.streams.Stream.{Stream}
 use Rattle.rtsp_record.specs.Tables.{Table}
 use Rattle.rtsp_state.specs.Aim.{first_place}
 use Rattle.rtsp_state.proofs.ListLemmas.{kept_from}
