@@ -1,6 +1,5 @@
 -- What a table that goes on leaves as it is decided.
-use Rattle.std.proofs.Common.{◌≡◌, ◌∙◌, sym, refl, ap, subst, ℕ, Bool, true, false, List, ◌⊎◌, inl, inr, Option, Some, None, Result, Ok, Err, slice_get}
-use Rattle.std.specs.Prelude.{bytes_eq, if◌then◌else◌}
+use Rattle.std.proofs.Common.{◌≡◌, refl, ap, ℕ, true, ◌⊎◌, inl, inr, Option, Some, None, Result, Ok, Err, slice_get}
 use Rattle.rtsp_content.specs.PresentationValue.{PresentationValue}
 use Rattle.rtsp_content.specs.TableValue.{TableValue}
 use Rattle.rtsp_content.specs.Withdrawn.{is_withdrawn}
@@ -16,15 +15,13 @@ use Rattle.rtsp_state.specs.declared.request.Target.{Target}
 use Rattle.rtsp_state.specs.declared.request.Target.TheVariants as targets
 use Rattle.rtsp_state.specs.declared.request.Name.{Name}
 use Rattle.rtsp_state.specs.declared.plan.Plan.{Plan}
-use Rattle.rtsp_state.specs.declared.plan.Plan.TheVariants as plans
 use Rattle.rtsp_state.specs.ParsedRequest.{ParsedValue}
-use Rattle.rtsp_state.specs.Response.{refused}
-use Rattle.rtsp_state.specs.Context.{Living, ContextValue, known}
-use Rattle.rtsp_state.specs.Aim.{place_of, own_of, aimed, meant, meant_track}
+use Rattle.rtsp_state.specs.Context.{Living, known}
+use Rattle.rtsp_state.specs.Aim.{place_of, own_of, aimed, meant}
 use Rattle.rtsp_state.specs.StateTable.{decide, row, cell, context_of, settled, start_of, session_found}
 use Rattle.rtsp_state.specs.Renewal.{renewal}
 use Rattle.rtsp_state.specs.Alike.{AgreeAt, AgreeOn}
-use Rattle.rtsp_state.specs.Growth.{IsOwn, IsAt, PlaysOn, IsGone, MeansAlike, DecidesByPlace, RenewsAlike}
+use Rattle.rtsp_state.specs.Growth.{IsOwn, IsAt, PlaysOn, IsGone, DecidesByPlace, RenewsAlike}
 use Rattle.rtsp_state.proofs.AlikeLemmas.{agree-held}
 
 row-alike : (old new : TableValue) → new.server.timeout ≡ old.server.timeout → (request : ParsedValue) (view : Option Living) (peer moment : ℕ) (method : Method) (name : Option Name) (target : Target) → AgreeOn old new target
@@ -115,8 +112,8 @@ unfolding decide
 plays-on old new x s request living own is n e peer moment =
     let it = own_is request.method living own is n in
     let alike : cell (context_of new request (Some living) peer moment) request.method (Some living) request.name request.target
-        ≡ cell (context_of old request (Some living) peer moment) request.method (Some living) request.name request.target
-        = rw it (aim-alike old new x s request (Some living) own peer moment request.method request.name request.target e) in
+    ≡ cell (context_of old request (Some living) peer moment) request.method (Some living) request.name request.target
+    = rw it (aim-alike old new x s request (Some living) own peer moment request.method request.name request.target e) in
     ap (settled (start_of request.cseq (Some living))) alike
 
 -- ---- whoever comes
@@ -138,7 +135,7 @@ pub is-gone : IsGone
 unfolding decide
 is-gone table request view p comes found at gone none peer moment =
     let aims : aimed table (own_of request.method view) request.target ≡ Err (Refused NotFound)
-        = rw (none-own request.method view comes) (aimed-gone table p request.target at (gone-aim table p gone none)) in
+    = rw (none-own request.method view comes) (aimed-gone table p request.target at (gone-aim table p gone none)) in
     let lacks : cell (context_of table request view peer moment) request.method view request.name request.target ≡ Err (Refused NotFound) = rw (found, aims) refl in
     ap (settled (start_of request.cseq view)) lacks
 

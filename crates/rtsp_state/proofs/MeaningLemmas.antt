@@ -1,21 +1,20 @@
 -- What is meant alike by a table that goes on.
-use Rattle.std.proofs.Common.{◌≡◌, ◌∙◌, sym, refl, ap, subst, ℕ, zero, suc, ◌+◌, Bool, true, false, cond, bytes_eq, List, [], ◌∷◌, ◌⊎◌, inl, inr, Option, Some, None, Result, Ok, Err, slice_get, arith}
-use Rattle.std.specs.Prelude.{not, ◌&&◌, if◌then◌else◌}
-use Rattle.std.proofs.lemmas.Bool.{cases_Bool, false≢true}
+use Rattle.std.proofs.Common.{◌≡◌, ◌∙◌, sym, refl, ap, subst, ℕ, zero, suc, ◌+◌, Bool, true, false, cond, bytes_eq, List, [], ◌∷◌, ◌⊎◌, inl, inr, Option, Some, None, Ok, slice_get, arith}
+use Rattle.std.specs.Prelude.{not, ◌&&◌}
+use Rattle.std.proofs.lemmas.Bool.{false≢true}
 use Rattle.std.proofs.lemmas.Option.{same_Some}
 use Rattle.std.proofs.lemmas.Slice.Eq.{bytes_eq-Decides}
 use Rattle.rtsp_text.specs.Results.{◌>>=◌}
 use Rattle.rtsp_content.specs.PresentationValue.{PresentationValue, presentation_names}
 use Rattle.rtsp_content.specs.TableValue.{TableValue, IsTableWithin}
-use Rattle.rtsp_content.specs.Withdrawn.{is_gone, is_withdrawn, AreOfferedDistinct}
+use Rattle.rtsp_content.specs.Withdrawn.{is_gone, is_withdrawn}
 use Rattle.rtsp_content.specs.Offering.{is_offered_as, is_namesake, offered_from, offered_named, offered_like, meant_of, track_as}
 use Rattle.rtsp_content.specs.Growing.{Extends}
-use Rattle.rtsp_state.specs.declared.fault.Fault.{Fault}
 use Rattle.rtsp_state.specs.declared.request.Target.{Target}
 use Rattle.rtsp_state.specs.declared.request.Target.TheVariants as targets
 use Rattle.rtsp_state.specs.Context.{known}
-use Rattle.rtsp_state.specs.Aim.{aimed, meant, meant_track}
-use Rattle.rtsp_state.specs.Alike.{IsHeld, AgreeAt, AgreeOn}
+use Rattle.rtsp_state.specs.Aim.{meant}
+use Rattle.rtsp_state.specs.Alike.{IsHeld, AgreeOn}
 use Rattle.rtsp_state.specs.Growth.{HasOwn, IsKeptAt, IsKept, MeansAlike, OffersRest, AnswersAlike}
 use Rattle.rtsp_state.proofs.AlikeLemmas.{agree-held, reads-alike, asks-alike}
 use Rattle.rtsp_state.proofs.GrowthLemmas.{track-alike, decides-by-place, renews-alike}

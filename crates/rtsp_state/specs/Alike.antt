@@ -1,5 +1,5 @@
 -- What is read and answered alike where the content goes on (RFC 7826 sections 13 and 18.3).
-use Rattle.std.specs.Prelude.{◌≡◌, ◌≢◌, ℕ, Option, Some, Err, slice_get}
+use Rattle.std.specs.Prelude.{◌≡◌, ◌≢◌, ℕ, Some, Err, slice_get}
 use Rattle.rtsp_grammar.specs.declared.message.Request.{Request}
 use Rattle.rtsp_content.specs.PresentationValue.{PresentationValue}
 use Rattle.rtsp_content.specs.TableValue.{TableValue}

@@ -5,7 +5,6 @@ use Rattle.rtsp_content.specs.TableValue.{TableValue, IsTableWithin}
 use Rattle.rtsp_content.specs.Withdrawn.{is_withdrawn}
 use Rattle.rtsp_content.specs.Offering.{is_namesake, meant_of, offered_named}
 use Rattle.rtsp_content.specs.Growing.{Extends}
-use Rattle.rtsp_state.specs.declared.method.Method.{Method}
 use Rattle.rtsp_state.specs.declared.method.Method.TheVariants as methods
 use Rattle.rtsp_state.specs.declared.status.Status.TheVariants.{NotFound}
 use Rattle.rtsp_state.specs.declared.fault.Fault.TheVariants.{Refused}
