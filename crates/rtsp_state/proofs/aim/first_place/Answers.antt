@@ -11,7 +11,7 @@ pub returns-in-Some : goal.returns-in-Some
 returns-in-Some c =
     let at = ap (λ (a : Table Admission). slice_get (entries a) c.loop-index.index) (sym c.admissions-in-loop-index.ensures) ∙ c.at.ensures in
     let kept = kept_from (λ (e : ℕ × Admission). e.1.stream) (entries c.args.view.now.1.admissions) c.loop-index.index _ (Some c.in-Some.stream) at c.in-Some.is in
-    sym (sym (ap first_place kept) ∙ ap first_place c.loop-index.invariant)
+    sym (ap first_place kept) ∙ ap first_place c.loop-index.invariant
 
 pub loop-index-preserved : goal.loop-index-preserved
 loop-index-preserved c =
