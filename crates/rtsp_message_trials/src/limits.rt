@@ -33,6 +33,8 @@ fn fate(alloc: Global, text: &str) -> &'static str {
         Some(TableFault::Missing) => "missing",
         Some(TableFault::BadValue) => "bad value",
         Some(TableFault::Duplicate) => "duplicate",
+        Some(TableFault::Fixed) => "fixed",
+        Some(TableFault::TooMany) => "too many",
         Some(TableFault::OutOfMemory) => "out of memory",
     }
 }

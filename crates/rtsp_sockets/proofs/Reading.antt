@@ -57,11 +57,11 @@ stand_opened : {M N : Type 0} (text : N → Option (List ℕ)) (of : M → N) (f
 stand_opened text of files places presentation track unit octets place file (Some (Some m)) here is_place is_file stand =
     let same : of m ≡ file = ap (λ o. unwrap_or o (of m)) is_file in
     record {
-        place = place;
-        is_place = is_place;
-        file = m;
-        is_file = ap (opened (λ f. f)) here;
-        stand = subst (λ f. StandAt (text f) (unit * place.octets) octets) (sym same) stand
+      place = place;
+      is_place = is_place;
+      file = m;
+      is_file = ap (opened (λ f. f)) here;
+      stand = subst (λ f. StandAt (text f) (unit * place.octets) octets) (sym same) stand;
     }
 stand_opened text of files places presentation track unit octets place file (Some None) here is_place is_file stand = absurd cc
 stand_opened text of files places presentation track unit octets place file None here is_place is_file stand = absurd cc
