@@ -244,7 +244,7 @@ impl<R: Wait> Figures<'_, R> {
                 free: numbers.uplink.saturating_sub(tally.rate),
             },
             pairs: rest_of(pairs, tally.free_pairs as u64),
-            ports: rest_of(2 * pairs, tally.free_ports as u64),
+            ports: rest_of(pairs.saturating_mul(2), tally.free_ports as u64),
             entries: tally.entries as u64,
             owed: tally.owed as u64,
             room: tally.room as u64,
