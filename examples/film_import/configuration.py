@@ -9,7 +9,7 @@ import subprocess
 import sys
 import tempfile
 import tomllib
-from typing import Any, Callable, Dict, Iterator, List, NamedTuple, Sequence, Union
+from typing import Any, Callable, Dict, Iterator, List, NamedTuple, Sequence, Set, Union
 
 from command import STOPS, called, is_installed
 
@@ -165,6 +165,24 @@ class MediaFile(NamedTuple):
     name: str
 
 
+# The head of a presentation, and of any other table that isn't of one.
+PRESENTATION = re.compile(r"(?m)^[ \t]*\[\[[ \t]*presentation[ \t]*\]\]")
+OTHER = re.compile(r"(?m)^[ \t]*\[(?!\[?[ \t]*presentation\b)")
+
+
+def without(text: str, name: str) -> str:
+    """The text of a configuration without the tables of a presentation, and without the empty lines before them."""
+    heads = [*PRESENTATION.finditer(text)]
+    for head, end in zip(heads, [*(it.start() for it in heads[1:]), len(text)]):
+        other = OTHER.search(text, head.end(), end)
+        part = text[head.start() : other.start() if other else end]
+        if tomllib.loads(part)["presentation"][0].get("name") == name:
+            before = text[: head.start()].rstrip("\n")
+            behind = text[head.start() + len(part) :]
+            return before + "\n" + ("\n" if behind else "") + behind
+    return text
+
+
 class Configuration:
     """The configuration that presentations are added to."""
 
@@ -197,6 +215,11 @@ class Configuration:
         return [table["name"] for table in self.document.get("presentation", [])]
 
     @property
+    def is_watched(self) -> bool:
+        """Whether a running server takes it up where it changes."""
+        return self.document["server"].get("watch", True)
+
+    @property
     def folder(self) -> pathlib.Path:
         """Where its media is found."""
         return self.path.parent / self.document["server"].get("media", ".")
@@ -216,7 +239,29 @@ class Configuration:
 
     def add(self, made: Union[Made, MadeFilm], files: List[MediaFile]) -> None:
         """Adds a presentation at the end, and gives its media the names; all files are whole at all times."""
-        text = self.text + ("" if self.text.endswith("\n") else "\n") + made.table(self.file_named, self.users)
+        self._put(self.text + ("" if self.text.endswith("\n") else "\n") + made.table(self.file_named, self.users), files)
+
+    def remove(self, name: str) -> List[pathlib.Path]:
+        """Takes a presentation out, and tells which of its files nothing names any more."""
+        if name not in self.names:
+            raise Refused(f"{self.path} has no presentation {name}")
+        if len(self.names) == 1:
+            raise Refused(f"{name} is the only presentation of {self.path}, and there has to be one")
+        text = without(self.text, name)
+        if [it for it in self.names if it != name] != [it["name"] for it in tomllib.loads(text)["presentation"]]:
+            raise Refused(f"{self.path} isn't written as import writes it: take {name} out by hand")
+        before = self._files()
+        self._put(text, [])
+        return sorted(before - self._files())
+
+    def _files(self) -> Set[pathlib.Path]:
+        """What its tracks name."""
+        tracks = [track for table in self.document["presentation"] for track in table["track"]]
+        folder = self.folder if "media" in self.document["server"] else pathlib.Path()
+        return {folder / track["file"] for track in tracks}
+
+    def _put(self, text: str, files: List[MediaFile]) -> None:
+        """Puts a text in its place, last; all files are whole at all times."""
         number, name = tempfile.mkstemp(dir=self.path.parent, prefix=".", suffix=".toml")
         unfinished = pathlib.Path(name)
         try:

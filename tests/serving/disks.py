@@ -12,7 +12,7 @@ from checks import Failed
 # with an error's number. Where there is a number of bytes the first of them takes so many at most, and without an error
 # the others too. The milliseconds of the time of day are added to it.
 # A read is one of the media slow.raw, of what wasn't read before: the system keeps what was, and 128 KiB about it. Of the
-# media forgotten.raw it keeps nothing, nor of a file of users.
+# media forgotten.raw it keeps nothing, nor of a file of users or the configuration.
 KINDS = "write", "create", "sync", "time of day", "read", "read of what is forgotten"
 PLAN = struct.Struct("@5Lq")
 FOR_EVER = (1 << 63) - 1
@@ -54,7 +54,7 @@ static int is_named(const char *path, const char *wanted) {
 
 static int is_slow(const char *path) { return is_named(path, "slow.raw"); }
 
-static int is_forgotten(const char *path) { return is_named(path, "forgotten.raw") || is_named(path, "users"); }
+static int is_forgotten(const char *path) { return is_named(path, "forgotten.raw") || is_named(path, "users") || is_named(path, "server.toml"); }
 
 /* Whether the path of what is open is one of these. */
 static int is_one(int fd, int (*is_meant)(const char *path)) {

@@ -4,3 +4,5 @@ pub mod Joined
 pub mod StartsLemmas
 pub mod PathLemmas
 pub mod DistinctLemmas
+pub mod GrowthLemmas
+pub mod OfferingLemmas

@@ -48,6 +48,14 @@ flag_in (Some d) = as_flag d
 abbrev pub flag_at : List ℕ → Members → Read Bool
 flag_at key ms = flag_in (get_member key ms)
 
+-- the same, or else what is meant where the key is missing
+abbrev pub flag_in_or : Bool → Option Data → Read Bool
+flag_in_or default None = Ok default
+flag_in_or default (Some d) = as_flag d
+
+abbrev pub flag_at_or : List ℕ → Bool → Members → Read Bool
+flag_at_or key default ms = flag_in_or default (get_member key ms)
+
 -- a text of the form
 abbrev pub as_text : Form → Data → Read (List ℕ)
 as_text form (string text) = if has_form form text then Ok text else Err BadValue

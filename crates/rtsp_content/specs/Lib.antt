@@ -19,9 +19,12 @@ pub mod Presentation
 pub mod Paths
 pub mod Rate
 pub mod Sdp
+pub mod Withdrawn
 pub mod TableValue
 pub mod TableView
 pub mod Table
+pub mod Offering
+pub mod Growing
 pub mod JournalFilesValue
 pub mod JournalFilesView
 pub mod JournalFiles

@@ -10,3 +10,4 @@ pub record OperationValue : Type 0 where
   pub status_open : Bool
   pub drain : ℕ
   pub users : Option (List ℕ)
+  pub watch : Bool

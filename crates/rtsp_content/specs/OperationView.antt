@@ -12,4 +12,5 @@ operation_value o = record {
   status_open = o.status_open;
   drain = o.drain;
   users = option_map (λ text. string_bytes text) o.users;
+  watch = o.watch;
 }

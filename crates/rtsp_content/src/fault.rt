@@ -27,6 +27,14 @@ pub enum TableFault {
     #[error("a name is used twice")]
     Duplicate,
 
+    /// A key is another that stays as long as a server runs.
+    #[error("a key is another that stays as long as the server runs")]
+    Fixed,
+
+    /// A server has come to have as many places of presentations as it may.
+    #[error("the server has no place left for another presentation: start it anew")]
+    TooMany,
+
     /// An allocation was refused. The configuration may have a fault or none.
     #[error("out of memory")]
     OutOfMemory,

@@ -3,7 +3,7 @@
 ghost use Rattle.std.specs.Prelude.{◌≡◌, ◌<◌, ◌≤◌, length, bytes_eq, IfSome};
 ghost use Rattle.std.specs.List.{position_from};
 ghost use Rattle.rtsp_text.specs.Slices.{joined};
-ghost use Rattle.rtsp_content.specs.declared.limits.TheConstants.{MAX_PRESENTATIONS, MAX_TRACKS};
+ghost use Rattle.rtsp_content.specs.declared.limits.TheConstants.{MAX_PLACES, MAX_TRACKS};
 ghost use Rattle.rtsp_content.specs.Paths.{is_presentation_path, is_track_path, find_from};
 
 use crate::presentation::Presentation;
@@ -73,7 +73,7 @@ fn track_index(path: &[u8], presentation: &Presentation) -> Option<usize>
 
 // What a path names among presentations.
 pub(crate) fn find_among(presentations: &[Presentation], path: &[u8]) -> Found
-    requires { length presentations.now ≤ MAX_PRESENTATIONS }
+    requires { length presentations.now ≤ MAX_PLACES }
     ensures { result ≡ find_from 0 presentations.now path.now }
 {
     for (index, presentation) in presentations.iter().enumerate() {

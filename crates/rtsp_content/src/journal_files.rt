@@ -45,6 +45,14 @@ impl Model for JournalFiles {
 }
 
 impl JournalFiles {
+    /// Whether they are written alike.
+    pub(crate) fn is_same(&self, other: &JournalFiles) -> bool {
+        self.folder == other.folder
+            && self.period == other.period
+            && self.sync == other.sync
+            && self.when_full == other.when_full
+    }
+
     /// The folder that they are in. It is not made where it isn't there.
     pub fn folder(&self) -> &str
         ensures { result.now ≡ self.now.folder }

@@ -205,6 +205,16 @@ pub fn flag_at(table: &Table, key: &str) -> Result<bool, TableFault>
     }
 }
 
+/// The same where the key may be missing, which means this.
+pub fn flag_at_or(table: &Table, key: &str, default: bool) -> Result<bool, TableFault>
+    ensures { result ≡ keys.flag_at_or key.now default (table_view table.now) }
+{
+    match value_at(table, key) {
+        Some(value) => flag(value),
+        None => Ok(default),
+    }
+}
+
 fn text(alloc: Global, value: &Value, form: Form) -> Result<String, TableFault>
     ensures value { GivesBy OutOfMemory (λ s. string_bytes s) result
         (as_text form (view value.now)) }

@@ -8,14 +8,18 @@ mod balancers;
 mod example;
 mod fault;
 mod found;
+mod growing;
 mod journal_files;
 mod keys;
+mod laws;
 mod limits;
+mod meaning;
 mod media_path;
 mod operation;
 mod packing;
 mod presentation;
 mod reading;
+mod same;
 mod sdp;
 mod server;
 mod starts;
@@ -27,8 +31,9 @@ pub use example::EXAMPLE;
 pub use fault::TableFault;
 pub use found::Found;
 pub use journal_files::{JournalFiles, WhenFull};
+pub use laws::{law_extends_chain, law_keeps_places};
 pub use limits::{
-    MAX_CONNECTIONS, MAX_OCTETS, MAX_PACKETS, MAX_TRACKS, MAX_UNIT_OCTETS, SLOT_HEAD,
+    MAX_CONNECTIONS, MAX_OCTETS, MAX_PACKETS, MAX_PLACES, MAX_TRACKS, MAX_UNIT_OCTETS, SLOT_HEAD,
 };
 pub use operation::Operation;
 pub use packing::Packing;

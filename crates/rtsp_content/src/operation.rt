@@ -10,7 +10,7 @@ ghost use Rattle.rtsp_content.specs.Operation.{operation_of, operation_of_docume
 use crate::balancers::read_balancers;
 use crate::fault::TableFault;
 use crate::journal_files::{JournalFiles, read_files};
-use crate::keys::{Form, flag_at, number_at_or, optional_text_at, table_at};
+use crate::keys::{Form, flag_at, flag_at_or, number_at_or, optional_text_at, table_at};
 use crate::limits::{DEFAULT_DRAIN, MAX_DRAIN};
 use crate::media_path::media_folder;
 use std::alloc::Global;
@@ -27,6 +27,7 @@ pub struct Operation {
     status_open: bool,
     drain: u64,
     users: Option<String>,
+    watch: bool,
 }
 
 impl Model for Operation {
@@ -53,6 +54,7 @@ fn read_operation(alloc: Global, table: &Table, path: &str) -> Result<Operation,
     let drain = number_at_or(server, "drain", 1, MAX_DRAIN, DEFAULT_DRAIN)?;
     let users = optional_text_at(alloc, server, "users", Form::Folder)?;
     let users = media_folder(alloc, path, users)?;
+    let watch = flag_at_or(server, "watch", true)?;
     Ok(Operation {
         journal,
         access_log,
@@ -61,6 +63,7 @@ fn read_operation(alloc: Global, table: &Table, path: &str) -> Result<Operation,
         status_open,
         drain,
         users,
+        watch,
     })
 }
 
@@ -132,5 +135,53 @@ impl Operation {
         ensures { option_map (λ s. s.now) result ≡ self.now.users }
     {
         self.users.as_deref()
+    }
+
+    /// Whether the configuration is taken up anew where its file changes.
+    pub fn watch(&self) -> bool
+        ensures { result ≡ self.now.watch }
+    {
+        self.watch
+    }
+
+    /// The key that is another in this configuration, if one is. All of them stay as long as a server runs.
+    pub fn changed_key(&self, wanted: &Operation) -> Option<&'static str> {
+        if !are_same_files(self.journal.as_ref(), wanted.journal.as_ref()) {
+            Some("journal_files")
+        } else if wanted.access_log != self.access_log {
+            Some("access_log")
+        } else if wanted.status != self.status {
+            Some("status")
+        } else if wanted.proxy != self.proxy {
+            Some("proxy")
+        } else if wanted.status_open != self.status_open {
+            Some("status_open")
+        } else if wanted.drain != self.drain {
+            Some("drain")
+        } else if !are_same_paths(self.users.as_deref(), wanted.users.as_deref()) {
+            Some("users")
+        } else if wanted.watch != self.watch {
+            Some("watch")
+        } else {
+            None
+        }
+    }
+}
+
+// Whether both are the same path, or none.
+fn are_same_paths(one: Option<&str>, other: Option<&str>) -> bool {
+    match (one, other) {
+        (None, None) => true,
+        (Some(one), Some(other)) => one == other,
+        _ => false,
+    }
+}
+
+// Whether the journal is written to the same files.
+fn are_same_files(one: Option<&JournalFiles>, other: Option<&JournalFiles>) -> bool {
+    match (one, other) {
+        (None, None) => true,
+        (Some(one), Some(other)) => one.is_same(other),
+        _ => false,
     }
 }

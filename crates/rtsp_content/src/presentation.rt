@@ -1,6 +1,6 @@
 //! A presentation: tracks that are played together.
 
-ghost use Rattle.std.specs.Prelude.{◌≡◌, ◌≤◌, ◌*◌, true, length, option_copied, slice_get};
+ghost use Rattle.std.specs.Prelude.{◌≡◌, ◌≤◌, ◌*◌, true, length, option_copied, slice_get, IfOk};
 ghost use Rattle.rtsp_content.specs.Distinct.{AreDistinct};
 ghost use Rattle.rtsp_content.specs.TrackValue.{track_names};
 ghost use Rattle.rtsp_content.specs.Form.{is_name};
@@ -12,6 +12,7 @@ ghost use Rattle.rtsp_content.specs.Rate.{rate_of, IsRate};
 use crate::starts::Starts;
 use crate::track::Track;
 use rtsp_npt::UnitLength;
+use std::alloc::AllocError;
 use std::marker::Model;
 
 /// Tracks that are played together, in units of one length.
@@ -45,7 +46,40 @@ impl Model for Presentation {
         × (p.sdp.items ≡ sdp_of (presentation_value p)) };
 }
 
+// Copies, in their order.
+fn copies_of(tracks: &Vec<Track>) -> Result<Vec<Track>, AllocError>
+    ensures { IfOk result (λ v. v.items ≡ tracks.now.items) }
+{
+    tracks.clone()
+}
+
+// A copy.
+fn copy_of(bytes: &Vec<u8>) -> Result<Vec<u8>, AllocError>
+    ensures { IfOk result (λ v. v.items ≡ bytes.now.items) }
+{
+    bytes.clone()
+}
+
 impl Presentation {
+    // A copy.
+    pub(crate) fn copied(&self) -> Result<Presentation, AllocError>
+        ensures { IfOk result (λ p. p ≡ self.now) }
+    {
+        let name = self.name.clone()?;
+        let starts = self.starts.copied()?;
+        let tracks = copies_of(&self.tracks)?;
+        let sdp = copy_of(&self.sdp)?;
+        Ok(Presentation {
+            name,
+            units: self.units,
+            unit_ms: self.unit_ms,
+            starts,
+            gap: self.gap,
+            tracks,
+            sdp,
+        })
+    }
+
     /// The name, which is its path without the slash.
     pub fn name(&self) -> &str
         ensures value { result.now ≡ self.now.name }

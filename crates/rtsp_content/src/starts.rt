@@ -14,7 +14,7 @@ ghost use Rattle.rtsp_content.specs.StartsValue.{AreStarts, start_at, greatest_t
 use crate::fault::TableFault;
 use crate::keys::{list, number, value_at};
 use crate::limits::MAX_STARTS;
-use std::alloc::Global;
+use std::alloc::{AllocError, Global};
 use std::marker::Model;
 use toml::value::Array;
 use toml::{Table, Value};
@@ -23,7 +23,7 @@ use toml::{Table, Value};
 /// them where a presentation says none.
 #[derive(Drop)]
 pub struct Starts {
-    units: Option<Vec<u32>>,
+    pub(crate) units: Option<Vec<u32>>,
 }
 
 impl Model for Starts {
@@ -34,7 +34,27 @@ impl Model for Starts {
     ghost view = { λ s. option_map (λ v. v.items) s.units };
 }
 
+// A copy.
+fn copy_of(units: &Vec<u32>) -> Result<Vec<u32>, AllocError>
+    ensures { IfOk result (λ v. v.items ≡ units.now.items) }
+{
+    units.clone()
+}
+
 impl Starts {
+    // A copy.
+    pub(crate) fn copied(&self) -> Result<Starts, AllocError>
+        ensures { IfOk result (λ s. s ≡ self.now) }
+    {
+        match &self.units {
+            Some(units) => {
+                let units = copy_of(units)?;
+                Ok(Starts { units: Some(units) })
+            }
+            None => Ok(Starts { units: None }),
+        }
+    }
+
     // The last of them up to the unit that is asked for. There are few, and they are looked through
     // once a PLAY.
     pub(crate) fn at(&self, asked: u32) -> u32

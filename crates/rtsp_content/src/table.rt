@@ -3,10 +3,11 @@
 ghost use Rattle.std.specs.Prelude.{◌≡◌, ◌≤◌, ◌⊎◌, [], Err, length, IsUtf8, option_copied, slice_get};
 ghost use Rattle.toml.specs.Parse.{parse_document};
 ghost use Rattle.toml.specs.View.{table_view};
-ghost use Rattle.rtsp_content.specs.Distinct.{AreDistinct};
+ghost use Rattle.rtsp_content.specs.Withdrawn.{AreOfferedDistinct, is_withdrawn};
 ghost use Rattle.rtsp_content.specs.PresentationValue.{presentation_names};
 ghost use Rattle.rtsp_text.specs.Results.{Gives};
 ghost use Rattle.rtsp_content.specs.declared.fault.TableFault.TheVariants.{OutOfMemory};
+ghost use Rattle.rtsp_content.specs.declared.limits.TheConstants.{MAX_PLACES};
 ghost use Rattle.rtsp_content.specs.Paths.{find_of, Names};
 ghost use Rattle.rtsp_content.specs.Server.{IsWithinLimits};
 ghost use Rattle.rtsp_content.specs.Table.{table_of, table_of_document};
@@ -25,8 +26,11 @@ use std::marker::Model;
 /// What the server serves, and its own numbers.
 #[derive(Drop)]
 pub struct Table {
-    server: Server,
-    presentations: Vec<Presentation>,
+    pub(crate) server: Server,
+    // What stands at each place.
+    pub(crate) presentations: Vec<Presentation>,
+    // Of each place up to some whether what stands there is offered no more.
+    pub(crate) withdrawn: Vec<bool>,
 }
 
 impl Model for Table {
@@ -53,6 +57,7 @@ fn read_table(alloc: Global, table: &toml::Table, path: &str) -> Result<Table, T
     Ok(Table {
         server,
         presentations,
+        withdrawn: Vec::new(alloc),
     })
 }
 
@@ -94,14 +99,25 @@ impl Table {
         self.server
     }
 
-    /// The presentations in the order of the configuration.
+    /// The presentations in the order of their places, which is that of the configuration where none
+    /// was withdrawn. Of those that are offered no two have one name.
     pub fn presentations(&self) -> &[Presentation]
         ensures value { result.now ≡ self.now.presentations }
         ensures least { 1 ≤ length result.now }
-        ensures most { length result.now ≤ MAX_PRESENTATIONS }
-        ensures distinct { AreDistinct (presentation_names result.now) }
+        ensures most { length result.now ≤ MAX_PLACES }
+        ensures distinct { AreOfferedDistinct self.now.withdrawn (presentation_names result.now) }
     {
         self.presentations.as_slice()
+    }
+
+    /// Whether the presentation at this place is offered no more.
+    pub fn is_withdrawn(&self, place: u16) -> bool
+        ensures { result ≡ is_withdrawn self.now.withdrawn place }
+    {
+        match self.withdrawn.get(usize::from(place)) {
+            Some(gone) => *gone,
+            None => false,
+        }
     }
 
     /// The presentation with this index, counted from 0.

@@ -30,7 +30,7 @@ impl Media {
 
 /// One media stream of a presentation: a raw file of units of one size, each of one RTP packet or
 /// of several.
-#[derive(Drop)]
+#[derive(Clone, Drop)]
 pub struct Track {
     pub(crate) name: String,
     pub(crate) media: Media,

@@ -22,7 +22,7 @@ pub(crate) struct Key {
 }
 
 // `[server]`.
-static SERVER: [Key; 22] = [
+static SERVER: [Key; 23] = [
     Key {
         name: "first_port",
         rule: Rule::Even(1_024, 65_535),
@@ -154,6 +154,12 @@ static SERVER: [Key; 22] = [
         rule: Rule::Text(Class::Path, 1_024),
         presence: Presence::Optional,
         what: "1 to 1,024 bytes without controls, the path of the file of users",
+    },
+    Key {
+        name: "watch",
+        rule: Rule::Flag,
+        presence: Presence::Optional,
+        what: "the configuration is taken up anew where its file changes",
     },
 ];
 

@@ -33,6 +33,8 @@ fn fate(alloc: Global, text: &str) -> &'static str {
         Some(TableFault::Missing) => "missing",
         Some(TableFault::BadValue) => "bad value",
         Some(TableFault::Duplicate) => "duplicate",
+        Some(TableFault::Fixed) => "fixed",
+        Some(TableFault::TooMany) => "too many",
         Some(TableFault::OutOfMemory) => "out of memory",
     }
 }
@@ -194,6 +196,8 @@ timeout = 60 | access_log = true | taken
 timeout = 60 | access_log = \"yes\" | bad value
 timeout = 60 | status_open = true | taken
 timeout = 60 | status_open = 1 | bad value
+timeout = 60 | watch = false | taken
+timeout = 60 | watch = 1 | bad value
 timeout = 60 | drain = 1 | taken
 timeout = 60 | drain = 0 | bad value
 timeout = 60 | drain = 86400 | taken

@@ -14,14 +14,14 @@ type Files = (&'static str, u32, bool, WhenFull);
 
 // Where the figures are shown, whether players' addresses are shown there to all, and for how many seconds
 // plays go on where the server is drained.
-type Status = (Option<&'static str>, bool, u64);
+type Status = (Option<&'static str>, bool, u64, bool);
 
 // A configuration, what it says of the journal's files, whether there is a log, what it says of the
 // status listener, and which connections begin with a header.
 type Said = (&'static str, Option<Files>, bool, Status, &'static [u32]);
 
 // What isn't said.
-const NO_STATUS: Status = (None, false, 300);
+const NO_STATUS: Status = (None, false, 300, true);
 
 const SAID: [Said; 4] = [
     ("[server]\n", None, false, NO_STATUS, &[]),
@@ -42,10 +42,10 @@ const SAID: [Said; 4] = [
     (
         "[server]\njournal_files = \"history\"\njournal_period = 250\njournal_sync = true\n\
         journal_when_full = \"lose\"\naccess_log = true\nstatus = \"127.0.0.1:9554\"\n\
-        status_open = true\ndrain = 7\n",
+        status_open = true\ndrain = 7\nwatch = false\n",
         Some(("/etc/rtspd/history", 250, true, WhenFull::Lose)),
         true,
-        (Some("127.0.0.1:9554"), true, 7),
+        (Some("127.0.0.1:9554"), true, 7, false),
         &[],
     ),
 ];
@@ -63,11 +63,12 @@ fn are_said(files: Option<&JournalFiles>, said: Option<Files>) -> bool {
     }
 }
 
-fn shown_by(operation: &Operation) -> (Option<&str>, bool, u64) {
+fn shown_by(operation: &Operation) -> (Option<&str>, bool, u64, bool) {
     (
         operation.status(),
         operation.status_open(),
         operation.drain(),
+        operation.watch(),
     )
 }
 

@@ -1,6 +1,6 @@
 //! The section of the page on presentations. After a refusal a part of the text may be at the end.
 
-use crate::further::FilmLine;
+use crate::further::{ContentFigures, FilmLine};
 use crate::rows::grouped;
 use rtsp_text::append_all;
 use std::alloc::{AllocError, Global};
@@ -25,10 +25,38 @@ fn write_film(alloc: Global, out: &mut Vec<u8>, film: &FilmLine<'_>) -> Result<(
     out.extend_from_slice(b"\n")
 }
 
+// Which configuration is served, and when it was taken up, where it isn't that of the start.
+fn write_content(
+    alloc: Global,
+    out: &mut Vec<u8>,
+    content: &ContentFigures,
+) -> Result<(), AllocError> {
+    if content.number == 0 {
+        return Ok(());
+    }
+    let presentations = grouped(alloc, u128::from(content.presentations))?;
+    let number = grouped(alloc, u128::from(content.number))?;
+    let taken = grouped(alloc, u128::from(content.taken))?;
+    append_all(
+        out,
+        &[b"<p>", &presentations, b" are offered, by configuration "],
+    )?;
+    append_all(
+        out,
+        &[&number, b", taken up ", &taken, b" s after the start.\n"],
+    )
+}
+
 /// What is watched of each presentation, as a section of the page.
-pub fn film_section(alloc: Global, films: &[FilmLine<'_>]) -> Result<Vec<u8>, AllocError> {
+pub fn film_section(
+    alloc: Global,
+    content: &ContentFigures,
+    films: &[FilmLine<'_>],
+) -> Result<Vec<u8>, AllocError> {
     let mut text = Vec::new(alloc);
-    append_all(&mut text, &[b"<h2>Films</h2>\n<table>\n", HEADS])?;
+    text.extend_from_slice(b"<h2>Films</h2>\n")?;
+    write_content(alloc, &mut text, content)?;
+    append_all(&mut text, &[b"<table>\n", HEADS])?;
     for film in films {
         write_film(alloc, &mut text, film)?;
     }

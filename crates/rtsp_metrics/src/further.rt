@@ -26,6 +26,19 @@ pub struct WritingFigures {
     pub behind_ms: u64,
 }
 
+/// What is served now.
+#[derive(Clone, Copy, PartialEq, Eq)]
+pub struct ContentFigures {
+    /// How often the configuration was taken up since the start.
+    pub number: u64,
+    /// How many seconds after the start that was last.
+    pub taken: u64,
+    /// How many presentations are offered.
+    pub presentations: u64,
+    /// How often the configuration's file wasn't taken up.
+    pub refusals: u64,
+}
+
 /// A presentation, and what was played of it.
 #[derive(Clone, Copy)]
 pub struct FilmLine<'a> {
@@ -79,6 +92,33 @@ fn write_writing(out: &mut Vec<u8>, of: &WritingFigures) -> Result<(), AllocErro
         Some(b"seconds"),
         b"How long ago it was seen to.",
         &[Figure::Seconds(b"", of.behind_ms)],
+    )
+}
+
+fn write_content(out: &mut Vec<u8>, of: &ContentFigures) -> Result<(), AllocError> {
+    write_family(
+        out,
+        b"rtspd_content_number",
+        b"gauge",
+        None,
+        b"How often the configuration was taken up since the start.",
+        &[Figure::Count(b"", of.number)],
+    )?;
+    write_family(
+        out,
+        b"rtspd_presentations",
+        b"gauge",
+        None,
+        b"Presentations that are offered.",
+        &[Figure::Count(b"", of.presentations)],
+    )?;
+    write_family(
+        out,
+        b"rtspd_content_refusals",
+        b"counter",
+        None,
+        b"How often a changed configuration was refused.",
+        &[Figure::Count(b"_total", of.refusals)],
     )
 }
 
@@ -143,6 +183,7 @@ pub fn further_text(
     alloc: Global,
     process: Option<ProcessFigures>,
     writing: Option<WritingFigures>,
+    content: &ContentFigures,
     films: &[FilmLine<'_>],
 ) -> Result<Vec<u8>, AllocError> {
     let mut text = Vec::new(alloc);
@@ -152,6 +193,7 @@ pub fn further_text(
     if let Some(writing) = &writing {
         write_writing(&mut text, writing)?;
     }
+    write_content(&mut text, content)?;
     write_sessions(&mut text, films)?;
     write_plays(&mut text, films)?;
     write_bytes(&mut text, films)?;

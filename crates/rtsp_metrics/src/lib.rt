@@ -33,7 +33,7 @@ pub use counters::Counters;
 pub use figures::metrics_text;
 pub use film_rows::film_section;
 pub use films::{FilmFigures, Transport};
-pub use further::{FilmLine, ProcessFigures, WritingFigures, further_text};
+pub use further::{ContentFigures, FilmLine, ProcessFigures, WritingFigures, further_text};
 pub use history::{History, SAMPLE_MS, SAMPLES, Sample};
 pub use kinds::{Method, Outcome, Refusal};
 pub use page::{PAGE_HEAD, page_text};

@@ -8,13 +8,12 @@ use crate::dropped::Dropped;
 use crate::pacer_room::PacerRoom;
 use crate::told::ToldSessions;
 use rtsp_book::{Refusal, SessionView, Step};
-use rtsp_content::Table;
 use rtsp_lock::{AnyNumbers, BookLock, BookSeat, Name, Numbers};
 use rtsp_log::{Event, FrameLoss, Log, SessionName};
 use rtsp_metrics::{Audience, Counters};
 use rtsp_npt::UnitLength;
 use rtsp_record::Phase;
-use rtsp_sockets::{Decisions, Media, Outlets, PortTable, RunningClock};
+use rtsp_sockets::{Contents, Decisions, Outlets, PortTable, RunningClock};
 use std::alloc::Global;
 use std::rt::Clock;
 use std::sync::Wait;
@@ -27,10 +26,12 @@ const TURNS_A_READING: u32 = 64;
 #[derive(Drop)]
 pub struct PacerParts<'a, N: Numbers = AnyNumbers> {
     pub lock: &'a BookLock<N>,
-    pub table: &'a Table,
+    /// The bits per second that all streams together may take.
+    pub uplink: u64,
     pub ports: &'a PortTable,
     pub outlets: &'a Outlets,
-    pub media: &'a Media,
+    /// What is served.
+    pub contents: &'a Contents,
     pub bell: &'a Bell,
     /// What lanes are deciding on.
     pub decisions: &'a Decisions,
@@ -174,7 +175,7 @@ impl<R: Wait, N: Numbers> PacerDesk<'_, R, N> {
         let credit = self.parts.bell.credit();
         if credit.lock(self.rt).is_old(moment) {
             let held = self.seat.tally(self.rt, self.parts.lock).rate;
-            let uplink = self.parts.table.server().uplink;
+            let uplink = self.parts.uplink;
             credit
                 .lock(self.rt)
                 .learn(uplink.saturating_sub(held), moment);

@@ -15,7 +15,7 @@ use crate::play::{Next, PacedPlay};
 use crate::plays::PacerPlays;
 use crate::wheel::Wheel;
 use rtsp_lock::{BookSeat, Numbers};
-use rtsp_sockets::RunningClock;
+use rtsp_sockets::{Content, RunningClock, Seen};
 use std::alloc::Global;
 use std::rt::Clock;
 use std::sync::Wait;
@@ -55,7 +55,7 @@ impl<R: Wait + Clock, N: Numbers> Pacing<'_, R, N> {
     // Takes a play over, as its PLAY began it: where the session has left it, what was counted of
     // it is still to be sent. It is dropped where the session is no more, where there is no memory,
     // where the play before it sends what was counted of it, too, or where too many were left so early.
-    fn take_over(&mut self, asked: NewPlay)
+    fn take_over(&mut self, asked: NewPlay, content: &Content)
         ensures { TakesOver asked self.old.plays self.new.plays }
     {
         let NewPlay { begun, .. } = &asked;
@@ -68,7 +68,7 @@ impl<R: Wait + Clock, N: Numbers> Pacing<'_, R, N> {
         if is_left && !(is_apart && self.left_early.take(begun_at(phase))) {
             return;
         }
-        let Some((play, due)) = PacedPlay::begin(&mut self.desk, asked, &view) else {
+        let Some((play, due)) = PacedPlay::begin(&mut self.desk, asked, &view, content) else {
             return;
         };
         let Some(key) = self.plays.take(play) else {
@@ -91,7 +91,7 @@ impl<R: Wait + Clock, N: Numbers> Pacing<'_, R, N> {
     }
 
     // Takes the turns of the plays of one slot, from the one that was linked last. How many.
-    fn turn_slot(&mut self, last: usize) -> u64
+    fn turn_slot(&mut self, last: usize, content: &Content) -> u64
         ensures { (keys : List ℕ) → IsChain self.old.plays (Some last) keys → length keys < 2 ^ 64 → result ≡ length keys }
     {
         let mut next = Some(last);
@@ -99,7 +99,8 @@ impl<R: Wait + Clock, N: Numbers> Pacing<'_, R, N> {
             let Some(key) = next else {
                 return turns;
             };
-            let Some((before, then)) = self.plays.turn(self.alloc, &mut self.desk, key) else {
+            let turned = self.plays.turn(self.alloc, &mut self.desk, content, key);
+            let Some((before, then)) = turned else {
                 return turns;
             };
             next = before;
@@ -112,13 +113,13 @@ impl<R: Wait + Clock, N: Numbers> Pacing<'_, R, N> {
     }
 
     // Takes the turns that are due, of some slots at most.
-    fn turn_due(&mut self) {
+    fn turn_due(&mut self, content: &Content) {
         for _ in 0..SLOTS_AT_ONCE {
             let now = self.desk.now();
             let Some(last) = self.wheel.take(now) else {
                 return;
             };
-            self.turn_slot(last);
+            self.turn_slot(last, content);
         }
     }
 }
@@ -143,6 +144,8 @@ pub fn pace<'a, R: Wait + Clock, N: Numbers>(
 {
     let clock = RunningClock::new(rt, parts.begun);
     let bell = parts.bell;
+    let contents = parts.contents;
+    let opening = Seen::open(rt, contents);
     let mut desk = PacerDesk::new(rt, alloc, parts, clock, seat, room);
     let wheel = Wheel::new(desk.now());
     let mut pacing = Pacing {
@@ -152,12 +155,17 @@ pub fn pace<'a, R: Wait + Clock, N: Numbers>(
         plays,
         left_early: LeftEarly::new(),
     };
+    let Some(mut seen) = opening else {
+        return pacing.desk.paced;
+    };
     let mut more = PLAYS_AT_ONCE;
     for _ in rt.forever() {
         let sleep = pacing.sleep();
-        match bell.hear(rt, sleep) {
+        let heard = bell.hear(rt, sleep);
+        seen.refresh(rt, contents);
+        match heard {
             Heard::Play(asked) => {
-                pacing.take_over(asked);
+                pacing.take_over(asked, seen.content());
                 if more > 1 {
                     more -= 1;
                     continue;
@@ -167,7 +175,7 @@ pub fn pace<'a, R: Wait + Clock, N: Numbers>(
             Heard::Stop => break,
         }
         more = PLAYS_AT_ONCE;
-        pacing.turn_due();
+        pacing.turn_due(seen.content());
     }
     let Pacing {
         mut desk,

@@ -7,7 +7,7 @@ mod leaving;
 ghost use Rattle.std.specs.Prelude.{◌≡◌, ◌<◌, ◌≤◌, ◌↔◌, IsTrue, IfSome, Some, unwrap_or, if◌then◌else◌};
 ghost use Rattle.rtsp_pacing.specs.Beginning.{Begins, IsApart};
 
-use self::audience::Watched;
+use self::audience::{Watched, presentation_of};
 use crate::desk::PacerDesk;
 use crate::dropped::Dropped;
 use crate::frame_run::FrameRun;
@@ -22,6 +22,7 @@ use rtsp_content::Presentation;
 use rtsp_lock::Numbers;
 use rtsp_record::Phase;
 use rtsp_rtp::{LastTurn, Pacer, Turn, sent_before};
+use rtsp_sockets::Content;
 use std::alloc::Global;
 use std::mem;
 use std::rt::Clock;
@@ -84,17 +85,6 @@ pub(crate) enum Next {
     Never,
 }
 
-// The place of the presentation of a session's streams.
-fn presentation_of(view: &SessionView) -> Option<u16> {
-    let admissions = view.admissions();
-    for place in 0..admissions.len() {
-        if let Some(stream) = admissions.at(place).1.stream {
-            return Some(stream.presentation);
-        }
-    }
-    None
-}
-
 // Whether the last unit of a play was due a unit ago, or earlier.
 fn is_past(phase: Phase, unit_ms: u32, moment: u64) -> bool {
     match phase {
@@ -118,12 +108,13 @@ impl PacedPlay {
         desk: &mut PacerDesk<'_, R, N>,
         asked: NewPlay,
         view: &SessionView,
+        content: &Content,
     ) -> Option<(PacedPlay, u64)>
         ensures begins { IfSome result (λ begun. Begins asked begun.0) }
         ensures session { IfSome result (λ begun. begun.0.pacer.session ≡ view.now.0) }
     {
         let place = presentation_of(view)?;
-        let presentation = desk.parts.table.presentation(place)?;
+        let presentation = content.table.presentation(place)?;
         let pacer = Pacer::start(view, asked.begun.phase, presentation)?;
         let due = pacer.next_due()?;
         let play = PacedPlay {
@@ -177,13 +168,14 @@ impl PacedPlay {
         &mut self,
         alloc: Global,
         desk: &mut PacerDesk<'_, R, N>,
+        content: &Content,
     ) -> Next {
         // The moment comes before the look: what is sent was due while the session was playing.
         let moment = desk.moment();
         if moment < self.next {
             return Next::At(self.next);
         }
-        let next = self.turn_at(alloc, desk, moment);
+        let next = self.turn_at(alloc, desk, content, moment);
         if let Next::At(due) = next {
             self.next = due;
         }
@@ -237,18 +229,18 @@ impl PacedPlay {
         &mut self,
         alloc: Global,
         desk: &mut PacerDesk<'_, R, N>,
+        content: &Content,
         moment: u64,
     ) -> Next {
         let Some(phase) = desk.phase(self.session()) else {
             return Next::Never;
         };
-        let table = desk.parts.table;
-        let Some(presentation) = table.presentation(self.presentation) else {
+        let Some(presentation) = content.table.presentation(self.presentation) else {
             return Next::Never;
         };
         match self.stage {
-            Stage::Sending => self.send_on(alloc, desk, presentation, phase, moment),
-            Stage::Finished => self.report(alloc, desk, presentation, moment),
+            Stage::Sending => self.send_on(alloc, desk, content, presentation, phase, moment),
+            Stage::Finished => self.report(alloc, desk, content, presentation, moment),
             Stage::Reported => {
                 self.say_goodbye(desk, phase, moment);
                 Next::Never
@@ -261,6 +253,7 @@ impl PacedPlay {
         &mut self,
         alloc: Global,
         desk: &mut PacerDesk<'_, R, N>,
+        content: &Content,
         presentation: &Presentation,
         phase: Phase,
         moment: u64,
@@ -268,7 +261,7 @@ impl PacedPlay {
         let unit_ms = presentation.unit_ms().ms();
         self.heed_renewal(desk, moment);
         let passed = moment.saturating_sub(self.last);
-        let (turn, due) = match self.send(alloc, desk, phase, unit_ms, moment) {
+        let (turn, due) = match self.send(alloc, desk, content, phase, unit_ms, moment) {
             Sending::Waits(until) => return Next::At(until),
             Sending::Turned(turn, due) => (turn, due),
         };
@@ -277,7 +270,13 @@ impl PacedPlay {
             (Turn::SinkFailed, Some(due)) if !is_past(phase, unit_ms, moment) => {
                 Next::At(next_unit(due, unit_ms, moment))
             }
-            (Turn::AtEnd | Turn::SinkFailed, _) => self.finish(alloc, desk, presentation, moment),
+            (Turn::AtEnd | Turn::SinkFailed, _) => self.finish(
+                alloc,
+                desk,
+                content,
+                presentation,
+                moment,
+            ),
             (Turn::OtherPlay, _) => self.wait(unit_ms, passed, moment),
             (Turn::More, None) => Next::Never,
         }
@@ -328,6 +327,7 @@ impl PacedPlay {
         &mut self,
         alloc: Global,
         desk: &mut PacerDesk<'_, R, N>,
+        content: &Content,
         phase: Phase,
         unit_ms: u32,
         moment: u64,
@@ -341,7 +341,7 @@ impl PacedPlay {
         let until = self.sends_until(desk, due, unit_ms, moment);
         let mut sink = PacketSink {
             rt: desk.rt,
-            media: desk.parts.media,
+            media: &content.media,
             counters: desk.parts.counters,
             ways: &self.ways,
             presentation: usize::from(self.presentation),

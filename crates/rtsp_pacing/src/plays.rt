@@ -10,6 +10,7 @@ use crate::play::{Next, PacedPlay};
 use indexmap::IndexMap;
 use rtsp_lock::Numbers;
 use rtsp_record::Phase;
+use rtsp_sockets::Content;
 use slab::Slab;
 use std::alloc::{AllocError, Global};
 use std::rt::Clock;
@@ -79,13 +80,14 @@ impl PacerPlays {
         &mut self,
         alloc: Global,
         desk: &mut PacerDesk<'_, R, N>,
+        content: &Content,
         key: usize,
     ) -> Option<(Option<usize>, Next)>
         ensures turns { IfSome result (λ turned. Turns self.old key turned.0 self.new) }
         ensures none { IfNone result (get self.old.plays key ≡ None) }
     {
         let linked = self.plays.get_mut(key)?;
-        let next = linked.play.turn(alloc, desk);
+        let next = linked.play.turn(alloc, desk, content);
         Some((linked.before, next))
     }
 

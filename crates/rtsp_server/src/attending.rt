@@ -1,8 +1,8 @@
 //! What the first thread does while the others serve.
 
+use crate::growing::Growth;
 use crate::growing_users::UsersGrowth;
 use crate::threads::Parts;
-use rtsp_threads::CONFIGURATION_EVERY;
 use std::fs::File;
 use std::rt;
 use std::rt::Files;
@@ -10,17 +10,19 @@ use std::sync::Wait;
 use std::time::Duration;
 
 impl Parts {
-    // Makes the files that the thread which writes the journal asks for, and looks whether the file of
-    // users has changed, until the lanes are over.
+    // Makes the files that the thread which writes the journal asks for, takes a changed configuration up,
+    // and looks whether the file of users has changed, until the lanes are over.
     pub(crate) fn attend<R: Wait + rt::Clock + Files<File = File>>(
         &self,
         rt: &R,
+        growth: &mut Growth,
         mut users: Option<UsersGrowth>,
     ) {
         for _ in rt.forever() {
-            if self.attend_scribe(rt, Duration::from_millis(CONFIGURATION_EVERY)) {
+            if self.attend_scribe(rt, Duration::from_millis(growth.pause())) {
                 break;
             }
+            growth.turn(rt, &self.shared);
             if let Some(users) = &mut users {
                 users.turn(rt, &self.shared);
             }

@@ -51,7 +51,7 @@ impl From<MediaFault> for ServerFault {
     fn from(fault: MediaFault) -> ServerFault {
         match fault {
             MediaFault::WrongLength => ServerFault::WrongLength,
-            MediaFault::Unreadable => ServerFault::DeviceFailed,
+            MediaFault::Unreadable | MediaFault::NoDescriptor => ServerFault::DeviceFailed,
             MediaFault::OutOfMemory => ServerFault::OutOfMemory,
         }
     }

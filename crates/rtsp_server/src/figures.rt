@@ -6,7 +6,7 @@ use crate::operating::{end_by_operator, sessions_text, standing};
 use crate::service::Service;
 use crate::session_names::{named, viewing_of};
 use crate::shared::Shared;
-use rtsp_content::Table;
+use rtsp_content::Server;
 use rtsp_engine::Asker;
 use rtsp_lock::{BookHandle, HandOutFault, Mark, Then};
 use rtsp_log::{Access, EndCause, Event, moment};
@@ -222,7 +222,7 @@ fn rest_of(whole: u64, free: u64) -> Held {
 pub(crate) struct Figures<'a, R> {
     pub(crate) rt: &'a R,
     pub(crate) shared: &'a Shared,
-    pub(crate) table: &'a Table,
+    pub(crate) numbers: Server,
     pub(crate) handle: BookHandle,
     /// What the system says of the process, where it does.
     pub(crate) usage: Option<OwnUsage>,
@@ -235,7 +235,7 @@ impl<R: Wait> Figures<'_, R> {
     // What the book has now.
     fn book(&mut self) -> BookFigures {
         let tally = self.handle.tally(self.rt);
-        let numbers = self.table.server();
+        let numbers = self.numbers;
         let pairs = u64::from(numbers.pairs);
         BookFigures {
             sessions: tally.sessions as u64,
@@ -244,7 +244,7 @@ impl<R: Wait> Figures<'_, R> {
                 free: numbers.uplink.saturating_sub(tally.rate),
             },
             pairs: rest_of(pairs, tally.free_pairs as u64),
-            ports: rest_of(2 * pairs, tally.free_ports as u64),
+            ports: rest_of(pairs.saturating_mul(2), tally.free_ports as u64),
             entries: tally.entries as u64,
             owed: tally.owed as u64,
             room: tally.room as u64,

@@ -1,28 +1,75 @@
 //! The figures of presentations, of the process and of the journal's writing, and who plays.
 
+use crate::end_lines::film_name;
 use crate::operating::is_journal_written;
 use crate::shared::Shared;
+use rtsp_content::Table;
 use rtsp_metrics::{
     FilmFigures, FilmLine, History, PLAYERS_SHOWN, PlayerLine, ProcessFigures, Transport,
     WritingFigures, film_section, further_text, history_section, player_section,
 };
+use rtsp_sockets::Content;
 use rtsp_status::Further;
 use rtsp_threads::OwnUsage;
 use std::alloc::{AllocError, Global};
 use std::rt;
-use std::sync::Wait;
 use std::sync::atomic::Ordering;
+use std::sync::{Arc, Wait};
 
-// What was played of a presentation over a transport.
-fn played(shared: &Shared, film: u16, over: Transport) -> FilmFigures {
-    match shared.audience.film(film, over) {
-        Some(figures) => figures,
-        None => FilmFigures {
-            sessions: 0,
-            plays: 0,
-            bytes: 0,
-        },
+// Nothing of a presentation was played.
+const NONE: FilmFigures = FilmFigures {
+    sessions: 0,
+    plays: 0,
+    bytes: 0,
+};
+
+fn sum(one: FilmFigures, other: FilmFigures) -> FilmFigures {
+    FilmFigures {
+        sessions: one.sessions.saturating_add(other.sessions),
+        plays: one.plays.saturating_add(other.plays),
+        bytes: one.bytes.saturating_add(other.bytes),
     }
+}
+
+// What was played over a transport of all presentations that have had this name.
+fn played(shared: &Shared, table: &Table, name: &str, over: Transport) -> FilmFigures {
+    let mut played = NONE;
+    for (place, presentation) in table.presentations().iter().enumerate() {
+        if presentation.name() == name {
+            let place = u16::try_from(place).unwrap_or(u16::MAX);
+            played = sum(played, shared.audience.film(place, over).unwrap_or(NONE));
+        }
+    }
+    played
+}
+
+// Whether no presentation at a place before this one has its name.
+fn is_first(table: &Table, place: usize, name: &str) -> bool {
+    !table
+        .presentations()
+        .iter()
+        .take(place)
+        .any(|other| other.name() == name)
+}
+
+// What was played of each presentation.
+fn film_lines<'t>(
+    alloc: Global,
+    shared: &Shared,
+    table: &'t Table,
+) -> Result<Vec<FilmLine<'t>>, AllocError> {
+    let mut films = Vec::new(alloc);
+    for (place, presentation) in table.presentations().iter().enumerate() {
+        let name = presentation.name();
+        if is_first(table, place, name) {
+            films.push(FilmLine {
+                name: name.as_bytes(),
+                udp: played(shared, table, name, Transport::Udp),
+                tcp: played(shared, table, name, Transport::Tcp),
+            })?;
+        }
+    }
+    Ok(films)
 }
 
 fn process(shared: &Shared, usage: Option<&OwnUsage>) -> Option<ProcessFigures> {
@@ -46,10 +93,13 @@ fn writing<R: Wait + rt::Clock>(rt: &R, shared: &Shared) -> Option<WritingFigure
 /// How many bytes of RTP packets were sent, of all presentations.
 pub(crate) fn bytes_sent(shared: &Shared) -> u64 {
     let mut bytes = 0u64;
-    for film in 0..shared.end_lines.films() {
-        for over in [Transport::Udp, Transport::Tcp] {
-            bytes = bytes.saturating_add(played(shared, film, over).bytes);
-        }
+    for place in 0..u16::MAX {
+        let udp = shared.audience.film(place, Transport::Udp);
+        let tcp = shared.audience.film(place, Transport::Tcp);
+        let (Some(udp), Some(tcp)) = (udp, tcp) else {
+            break;
+        };
+        bytes = bytes.saturating_add(sum(udp, tcp).bytes);
     }
     bytes
 }
@@ -59,6 +109,7 @@ fn players<R: Wait + rt::Clock>(
     rt: &R,
     alloc: Global,
     shared: &Shared,
+    content: &Arc<Content>,
 ) -> Result<Vec<u8>, AllocError> {
     let mut players = Vec::new(alloc);
     let mut from = 0u64;
@@ -68,7 +119,7 @@ fn players<R: Wait + rt::Clock>(
         };
         players.push(PlayerLine {
             viewer,
-            film: shared.end_lines.name(viewer.viewing.film),
+            film: film_name(Some(content), viewer.viewing.film),
         })?;
         from = viewer.viewing.session.saturating_add(1);
     }
@@ -83,21 +134,18 @@ pub(crate) fn further<R: Wait + rt::Clock>(
     usage: Option<&OwnUsage>,
     history: &History,
 ) -> Result<Further, AllocError> {
-    let mut films = Vec::new(alloc);
-    for film in 0..shared.end_lines.films() {
-        films.push(FilmLine {
-            name: shared.end_lines.name(film),
-            udp: played(shared, film, Transport::Udp),
-            tcp: played(shared, film, Transport::Tcp),
-        })?;
-    }
+    let Some(content) = shared.contents.current(rt) else {
+        return Err(AllocError);
+    };
+    let films = film_lines(alloc, shared, &content.table)?;
+    let figures = shared.content_counts.read();
     let process = process(shared, usage);
     let writing = writing(rt, shared);
     let mut section = history_section(alloc, history)?;
-    section.extend_from_slice(&film_section(alloc, &films)?)?;
-    section.extend_from_slice(&players(rt, alloc, shared)?)?;
+    section.extend_from_slice(&film_section(alloc, &figures, &films)?)?;
+    section.extend_from_slice(&players(rt, alloc, shared, &content)?)?;
     Ok(Further {
-        lines: further_text(alloc, process, writing, &films)?,
+        lines: further_text(alloc, process, writing, &figures, &films)?,
         section,
     })
 }

@@ -104,7 +104,7 @@ impl<R: Wait + rt::Clock> Porter for AnswerCounter<'_, R> {
         } = self.service;
         let naming = Naming::of(self.asker.conn, &request.headers);
         let sets_up = matches!(request.method, Method::Setup);
-        if let Some(allowed) = shared.allowed.as_ref()
+        if let Some(allowed) = self.service.allowed
             && !is_there(&self.service, allowed, request, user)?
         {
             return Ok(Some(Foreign::Presentation));

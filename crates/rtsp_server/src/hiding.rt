@@ -4,9 +4,30 @@ use crate::service::Service;
 use rtsp_content::Allowed;
 use rtsp_grammar::Request;
 use rtsp_state::presentation_asked;
-use std::alloc::AllocError;
+use std::alloc::{AllocError, Global};
+use std::sync::Arc;
 
-/// Whether what a request is about is there for this user, as far as it is served.
+/// For whom presentations are there, for all contents that go on by it.
+pub(crate) fn share_allowed(
+    alloc: Global,
+    allowed: Option<Allowed>,
+) -> Result<Option<Arc<Allowed>>, AllocError> {
+    let Some(allowed) = allowed else {
+        return Ok(None);
+    };
+    match Arc::new(alloc, allowed) {
+        Ok(allowed) => Ok(Some(allowed)),
+        Err(_) => Err(AllocError),
+    }
+}
+
+// Whether a request names a session.
+fn names_session(request: &Request) -> bool {
+    request.headers.count_of(b"Session") > 0
+}
+
+/// Whether what a request is about is there for this user, as far as it is served. What is withdrawn is
+/// there for those alone who have a session of it.
 pub(crate) fn is_there<R>(
     service: &Service<'_, R>,
     allowed: &Allowed,
@@ -17,8 +38,9 @@ pub(crate) fn is_there<R>(
     let Some(place) = presentation_asked(service.alloc, table, request)? else {
         return Ok(true);
     };
-    match table.presentation(place) {
-        Some(presentation) => Ok(allowed.lets(presentation.name().as_bytes(), user)),
-        None => Ok(true),
-    }
+    let Some(presentation) = table.presentation(place) else {
+        return Ok(true);
+    };
+    let is_offered = !table.is_withdrawn(place) || names_session(request);
+    Ok(is_offered && allowed.lets(presentation.name().as_bytes(), user))
 }

@@ -14,7 +14,8 @@
 //! `recorded` whether it has to look at the journal's room. `sweeper` and `stopping` are the threads
 //! that end sessions and the server, and `figures` is what is counted and shown. `readers`,
 //! `writing_journal` and `growing_users` have the threads that a disk may hold up, which are then left
-//! behind. What they go by is in rtsp_threads, who is to be visited in rtsp_roster, and how one player is kept from
+//! behind. `growing` takes a changed configuration up, and `growth_reasons` tells why it is refused. What
+//! they go by is in rtsp_threads, who is to be visited in rtsp_roster, and how one player is kept from
 //! harming the others in rtsp_shares.
 
 #![tactic(auto)]
@@ -26,14 +27,19 @@ mod balancers;
 mod channels;
 mod client;
 mod clients;
+mod content_counts;
+mod descriptors;
 mod draining;
 mod end_lines;
 mod end_note;
+mod errands;
 mod fault;
 mod figures;
 mod foresight;
 mod further;
+mod growing;
 mod growing_users;
+mod growth_reasons;
 mod guarding;
 mod hearing;
 mod hiding;
@@ -63,11 +69,12 @@ mod watched_file;
 mod writing;
 mod writing_journal;
 
+pub use descriptors::descriptor_fault;
 pub use fault::ServerFault;
-pub use opening::descriptor_fault;
 pub use rtsp_chronicle::Doubt;
 pub use rtsp_lock::BookHandle;
 pub use rtsp_threads::{Lane, LaneTurn, PoolEnd, run_pool, whole_of};
 pub use server::{Announce, Server, ServerEnd};
 pub use socket_lane::SocketLane;
 pub use users_reasons::users_reason;
+pub use watched_file::WatchedFile;

@@ -1,38 +1,32 @@
 //! What a server opens before its threads run.
 
+use crate::descriptors::{Descriptors, refusal};
 use crate::fault::ServerFault;
+use crate::hiding::share_allowed;
 use crate::shared::Shared;
 use crate::socket_lane::SocketLane;
 use crate::threads::OnePacer;
 use crate::users::open_users;
 use mio::net::TcpListener;
-use rtsp_content::{Allowed, Operation, Table};
+use rtsp_content::{Allowed, Operation, Server, Table};
 use rtsp_lock::{BookHandle, open_book};
 use rtsp_pacing::{PacerPlays, PacerRoom};
-use rtsp_sockets::{Media, Reader};
-use rtsp_status::{PEERS, StatusServer};
-use rtsp_threads::{CONNECTIONS, connections_for, descriptor_limit, whole_of};
+use rtsp_sockets::{Content, Media, Reader};
+use rtsp_status::StatusServer;
+use rtsp_threads::whole_of;
 use std::alloc::Global;
 use std::fs::File;
 use std::net::{Net, SocketAddr, SocketAddrV4};
-use std::os::fd::AsRawFd;
 use std::random::RandomSource;
 use std::rt::Files;
 use std::sync::{Arc, Wait};
 use std::thread::Threads;
-use std::{io, net, rt, thread};
-
-// The descriptors of the standard streams.
-const STANDARD_STREAMS: u64 = 3;
-
-// The descriptors of a lane: what it waits with and is woken by, two of the listener, its random words,
-// and a connection that is turned away.
-const LANE: u64 = 6;
+use std::{net, rt, thread};
 
 // What sends the packets of plays, and reads their media ahead.
 #[derive(Drop)]
 pub(crate) struct Sending {
-    pub(crate) media: Arc<Media>,
+    pub(crate) media: Media,
     pub(crate) readers: Vec<Reader>,
     pub(crate) pacers: Vec<OnePacer>,
 }
@@ -47,12 +41,9 @@ impl Sending {
         handle: &mut BookHandle,
     ) -> Result<Sending, ServerFault> {
         let media = Media::open(rt, alloc, table)?;
-        let readers = media.readers(alloc)?;
+        let readers = media.readers(alloc, 0)?;
         let count = (cores(rt) / 2).max(1);
         let pacers = open_pacers(rt, alloc, handle, count, table.server().sessions)?;
-        let Ok(media) = Arc::new(alloc, media) else {
-            return Err(ServerFault::OutOfMemory);
-        };
         Ok(Sending {
             media,
             readers,
@@ -68,6 +59,7 @@ pub(crate) struct Listening {
     pub(crate) lanes: Vec<SocketLane>,
     pub(crate) address: SocketAddr,
     pub(crate) connections: u64,
+    pub(crate) descriptors: Descriptors,
 }
 
 // What a server has open, once it listens.
@@ -75,7 +67,8 @@ pub(crate) struct Listening {
 pub(crate) struct Opened {
     pub(crate) status: Option<StatusServer>,
     pub(crate) handles: Handles,
-    pub(crate) sending: Sending,
+    pub(crate) readers: Vec<Reader>,
+    pub(crate) pacers: Vec<OnePacer>,
     pub(crate) listening: Listening,
 }
 
@@ -85,14 +78,15 @@ impl Opened {
     pub(crate) fn open<R: Threads + Wait + Net + rt::Clock + RandomSource + Files<File = File>>(
         rt: &R,
         alloc: Global,
-        table: &Table,
+        table: Table,
         operation: &Operation,
         allowed: Option<Allowed>,
         address: SocketAddr,
         connections: Option<u64>,
     ) -> Result<Opened, ServerFault> {
+        let numbers = table.server();
         match Opened::open_all(rt, alloc, table, operation, allowed, address, connections) {
-            Err(ServerFault::DeviceFailed) => Err(refusal(table, operation)),
+            Err(ServerFault::DeviceFailed) => Err(refusal(numbers, operation)),
             opened => opened,
         }
     }
@@ -100,27 +94,36 @@ impl Opened {
     fn open_all<R: Threads + Wait + Net + rt::Clock + RandomSource + Files<File = File>>(
         rt: &R,
         alloc: Global,
-        table: &Table,
+        table: Table,
         operation: &Operation,
         allowed: Option<Allowed>,
         address: SocketAddr,
         connections: Option<u64>,
     ) -> Result<Opened, ServerFault> {
         let status = open_status(rt, alloc, operation)?;
-        let mut handle = open_journal(alloc, table, operation)?;
-        let sending = Sending::open(rt, alloc, table, &mut handle)?;
+        let mut handle = open_journal(alloc, &table, operation)?;
+        let Sending {
+            media,
+            readers,
+            pacers,
+        } = Sending::open(rt, alloc, &table, &mut handle)?;
         let opening = Opening {
-            table,
+            numbers: table.server(),
             operation,
-            allowed,
-            pacers: sending.pacers.len(),
+            pacers: pacers.len(),
         };
-        let listening = opening.listen(rt, alloc, address, connections)?;
+        let content = Content {
+            table,
+            media,
+            allowed: share_allowed(alloc, allowed)?,
+        };
+        let listening = opening.listen(rt, alloc, content, address, connections)?;
         match Handles::split(rt, alloc, handle) {
             Some(handles) => Ok(Opened {
                 status,
                 handles,
-                sending,
+                readers,
+                pacers,
                 listening,
             }),
             None => Err(ServerFault::NoThread),
@@ -156,11 +159,10 @@ impl Handles {
 }
 
 // What a server is opened for.
-#[derive(Drop)]
+#[derive(Clone, Copy)]
 pub(crate) struct Opening<'a> {
-    pub(crate) table: &'a Table,
+    pub(crate) numbers: Server,
     pub(crate) operation: &'a Operation,
-    pub(crate) allowed: Option<Allowed>,
     pub(crate) pacers: usize,
 }
 
@@ -171,11 +173,12 @@ impl Opening<'_> {
         self,
         rt: &R,
         alloc: Global,
+        content: Content,
         address: SocketAddr,
         connections: Option<u64>,
     ) -> Result<Listening, ServerFault> {
         let listener = net::TcpListener::from(TcpListener::bind(rt, address)?);
-        self.stand(rt, alloc, &listener, connections)
+        self.stand(rt, alloc, content, &listener, connections)
     }
 
     // The lanes of this listener, and what they share.
@@ -183,21 +186,26 @@ impl Opening<'_> {
         self,
         rt: &R,
         alloc: Global,
+        content: Content,
         listener: &net::TcpListener,
         connections: Option<u64>,
     ) -> Result<Listening, ServerFault> {
         let address = listener.local_addr()?;
-        let (table, operation) = (self.table, self.operation);
-        let shared = self.share(rt, alloc, listener, connections)?;
-        let workers = usize::from(table.server().workers);
+        let files = content.media.open_files();
+        let shared = self.share(rt, alloc, content, listener, connections)?;
+        let workers = usize::from(self.numbers.workers);
         let lanes = open_lanes(rt, alloc, &shared, listener, workers)?;
-        let connections = connections_of(table, operation, listener)?;
+        let descriptors = Descriptors::of(self.numbers, self.operation, listener, files)?;
+        let Some(connections) = descriptors.connections(files) else {
+            return Err(descriptors.fault(files));
+        };
         shared.gate.allow(connections);
         Ok(Listening {
             shared,
             lanes,
             address,
             connections,
+            descriptors,
         })
     }
 
@@ -206,12 +214,13 @@ impl Opening<'_> {
         self,
         rt: &R,
         alloc: Global,
+        content: Content,
         listener: &net::TcpListener,
         connections: Option<u64>,
     ) -> Result<Arc<Shared>, ServerFault> {
         let listener = TcpListener::from_std(listener.try_clone()?);
         let users = open_users(rt, alloc, self.operation)?;
-        let shared = Shared::open(rt, alloc, self, listener, connections, users)?;
+        let shared = Shared::open(rt, alloc, self, content, listener, connections, users)?;
         match Arc::new(alloc, shared) {
             Ok(shared) => Ok(shared),
             Err(_) => Err(ServerFault::OutOfMemory),
@@ -314,69 +323,4 @@ fn open_pacers<R: Wait>(
         }
     }
     Ok(pacers)
-}
-
-// The descriptors that whoever runs the server has besides: for the log, for those who look at the
-// figures and for the account of what the process has used, and for a file of the journal, the next one
-// and their folder.
-fn kept_for(operation: &Operation) -> u64 {
-    let shown = if operation.status().is_some() {
-        PEERS as u64 + 2
-    } else {
-        0
-    };
-    let written = if operation.journal().is_some() { 3 } else { 0 };
-    1 + shown + written
-}
-
-// The fault of a limit that gives none for a connection beside the pairs and so many others.
-fn few_descriptors(table: &Table, others: u64, limit: u64) -> ServerFault {
-    ServerFault::FewDescriptors {
-        ports: u64::from(table.server().pairs).saturating_mul(2),
-        others,
-        limit,
-    }
-}
-
-/// The fault of a limit of descriptors below what a server of this configuration needs at least, however
-/// much of its media it holds in memory, if it is.
-pub fn descriptor_fault(table: &Table, operation: &Operation) -> Option<ServerFault> {
-    let limit = descriptor_limit()?;
-    let numbers = table.server();
-    let others = STANDARD_STREAMS
-        .saturating_add(u64::from(numbers.workers).saturating_mul(LANE))
-        .saturating_add(kept_for(operation));
-    match connections_for(limit, others, numbers.pairs) {
-        0 => Some(few_descriptors(table, others, limit)),
-        _ => None,
-    }
-}
-
-// Why the system refuses what a server of this configuration opens: for want of descriptors, where there
-// are fewer than it needs.
-fn refusal(table: &Table, operation: &Operation) -> ServerFault {
-    descriptor_fault(table, operation).unwrap_or(ServerFault::DeviceFailed)
-}
-
-// How many connections there is room for, at least one, once all is open but what the threads open: the
-// rest of the descriptors is kept for all pairs, for a connection of each lane that is turned away, for
-// the watcher's account, and for whoever runs the server. The system gives the least number that is
-// free, so all below are in use.
-fn connections_of(
-    table: &Table,
-    operation: &Operation,
-    listener: &net::TcpListener,
-) -> Result<u64, ServerFault> {
-    let Some(limit) = descriptor_limit() else {
-        return Ok(CONNECTIONS);
-    };
-    let numbers = table.server();
-    let open = u64::try_from(listener.try_clone()?.as_raw_fd()).unwrap_or(0);
-    let kept = open
-        .saturating_add(u64::from(numbers.workers) + 1)
-        .saturating_add(kept_for(operation));
-    match connections_for(limit, kept, numbers.pairs) {
-        0 => Err(few_descriptors(table, kept, limit)),
-        connections => Ok(connections),
-    }
 }

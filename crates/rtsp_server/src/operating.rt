@@ -1,6 +1,7 @@
 //! What whoever runs the server is told of sessions and of how the server stands, and how sessions are
 //! ended by them.
 
+use crate::end_lines::film_name;
 use crate::shared::Shared;
 use rtsp_lock::BookHandle;
 use rtsp_log::EndCause;
@@ -60,6 +61,7 @@ pub(crate) fn sessions_text<R: Wait + rt::Clock>(
 ) -> Result<Vec<u8>, AllocError> {
     let now = shared.now(rt);
     let mut text = Vec::new(alloc);
+    let content = shared.contents.current(rt);
     let mut from = 0u64;
     text.extend_from_slice(b"[")?;
     for _ in rt.forever() {
@@ -70,7 +72,7 @@ pub(crate) fn sessions_text<R: Wait + rt::Clock>(
             text.extend_from_slice(b",")?;
         }
         text.extend_from_slice(b"\n")?;
-        let film = shared.end_lines.name(viewer.viewing.film);
+        let film = film_name(content.as_ref(), viewer.viewing.film);
         viewer.write_json(&mut text, film, now)?;
         let Some(next) = viewer.viewing.session.checked_add(1) else {
             break;

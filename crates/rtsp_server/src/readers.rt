@@ -1,11 +1,13 @@
 //! The threads that read media ahead: their start, and what becomes of them at the end.
 
+use crate::shared::Shared;
 use crate::threads::Parts;
 use rtsp_log::Event;
-use rtsp_sockets::{Media, Reader};
+use rtsp_sockets::{READERS, Reader, TrackPlace};
+use std::alloc::Global;
 use std::sync::{Arc, Wait};
 use std::thread::Threads;
-use std::time::{Duration, Instant};
+use std::time::Duration;
 use std::{rt, thread};
 
 // How long a server that stops waits for the reads that are under way, in milliseconds. With that a stop
@@ -16,41 +18,63 @@ const LEFT_AFTER: u64 = 250;
 // up for longer than the server lives, so it has its own share of what it needs.
 fn start_reader<R: Threads + Wait + rt::Clock + Copy + Send + 'static>(
     rt: &R,
-    media: &Arc<Media>,
+    shared: &Arc<Shared>,
     reader: Reader,
-    begun: Instant,
 ) -> bool {
-    let Ok(media) = Arc::try_clone(media) else {
+    let Ok(shared) = Arc::try_clone(shared) else {
         return false;
     };
     let own = *rt;
-    thread::spawn(rt, move || reader.run(&own, &media, begun)).is_ok()
+    thread::spawn(rt, move || {
+        reader.run(&own, &shared.contents, shared.begun)
+    })
+    .is_ok()
+}
+
+/// Starts the threads that read ahead. Whether all could be made.
+pub(crate) fn start_readers<R: Threads + Wait + rt::Clock + Copy + Send + 'static>(
+    rt: &R,
+    shared: &Arc<Shared>,
+    readers: Vec<Reader>,
+) -> bool {
+    for reader in readers {
+        if !start_reader(rt, shared, reader) {
+            return false;
+        }
+    }
+    true
+}
+
+impl Shared {
+    // Ends the threads that read ahead.
+    pub(crate) fn stop_readers<R: Wait>(&self, rt: &R) {
+        if let Some(content) = self.contents.current(rt) {
+            content.media.stop_readers(rt);
+        }
+    }
+
+    // The tracks whose files are being read.
+    fn read_now<R: Wait>(&self, rt: &R, alloc: Global) -> Vec<TrackPlace> {
+        let mut tracks = Vec::new(alloc);
+        let Some(content) = self.contents.current(rt) else {
+            return tracks;
+        };
+        for disk in 0..content.media.disk_count() {
+            for reader in 0..READERS {
+                if let Some(place) = content.media.read_by(disk, reader) {
+                    let _ = tracks.push(place);
+                }
+            }
+        }
+        tracks
+    }
 }
 
 impl Parts {
-    // Starts the threads that read ahead. Whether all could be made.
-    pub(crate) fn start_readers<R: Threads + Wait + rt::Clock + Copy + Send + 'static>(
-        &self,
-        rt: &R,
-    ) -> bool {
-        for reader in &self.readers {
-            if !start_reader(rt, &self.media, *reader, self.shared.begun) {
-                return false;
-            }
-        }
-        true
-    }
-
-    fn is_reading(&self) -> bool {
-        self.readers
-            .iter()
-            .any(|reader| self.media.read_by(*reader).is_some())
-    }
-
     // Waits a moment for the reads that are under way, and tells which are left behind.
-    pub(crate) fn leave_readers<R: Wait + rt::Clock>(&self, rt: &R) {
+    pub(crate) fn leave_readers<R: Wait + rt::Clock>(&self, rt: &R, alloc: Global) {
         for _ in 0..LEFT_AFTER {
-            if !self.is_reading() {
+            if self.shared.read_now(rt, alloc).is_empty() {
                 return;
             }
             if self.shared.lanes.leaves_disks(self.shared.now(rt)) {
@@ -58,14 +82,12 @@ impl Parts {
             }
             thread::sleep(rt, Duration::from_millis(1));
         }
-        for reader in &self.readers {
-            if let Some(place) = self.media.read_by(*reader) {
-                let event = Event::StopLeavesMedia {
-                    presentation: place.presentation,
-                    track: place.track,
-                };
-                self.shared.log.event(rt, event);
-            }
+        for place in self.shared.read_now(rt, alloc) {
+            let event = Event::StopLeavesMedia {
+                presentation: place.presentation,
+                track: place.track,
+            };
+            self.shared.log.event(rt, event);
         }
     }
 }

@@ -4,16 +4,21 @@ ghost use Rattle.std.specs.Prelude.{◌≡◌, IfOk, IfSome};
 ghost use Rattle.std.specs.FinMap.{empty};
 ghost use Rattle.rtsp_record.specs.Books.{book_of};
 
+use crate::errands::start_errands;
 use crate::fault::ServerFault;
+use crate::growing::Growth;
 use crate::growing_users::{UsersGrowth, UsersReader, start_users};
-use crate::opening::{Handles, Listening, Opened, Sending};
+use crate::opening::{Handles, Listening, Opened};
+use crate::readers::start_readers;
 use crate::threads::{Beside, Parts, Served, Start};
+use crate::watched_file::WatchedFile;
 use crate::writing_journal::folder_of;
 use rtsp_book::Kept;
 use rtsp_chronicle::Doubt;
 use rtsp_content::{Allowed, Operation, Table};
 use rtsp_lock::{BookHandle, LockBook};
 use rtsp_log::Event;
+use rtsp_sockets::Reader;
 use rtsp_status::StatusServer;
 use rtsp_threads::{OwnStatus, OwnUsage, PoolEnd, StopBell, close_book};
 use std::alloc::Global;
@@ -65,10 +70,11 @@ pub struct Server {
     alloc: Global,
     parts: Parts,
     start: Start,
+    // Those that read ahead, where that is wanted.
+    readers: Vec<Reader>,
     // The handles of the book by which the figures are shown, and by which the book is given up.
     shown: BookHandle,
     last: BookHandle,
-    operation: Operation,
     status: Option<StatusServer>,
     address: SocketAddr,
     connections: u64,
@@ -81,9 +87,9 @@ impl Drop for Server {
             alloc: _,
             parts: _parts,
             start: _start,
+            readers: _readers,
             shown: _shown,
             last: _last,
-            operation: _operation,
             status: _status,
             address: _,
             connections: _,
@@ -92,38 +98,38 @@ impl Drop for Server {
 }
 
 impl Server {
-    /// A server of this configuration, which listens on this address, and keeps and shows what is
-    /// wanted of it; presentations are there for those alone who are allowed them. There are as many lanes as the configuration has workers, and half as many pacers
-    /// as the machine has cores, but at least one; where the media isn't held in memory, some threads
-    /// read it ahead. With a number of connections it ends after so many. Where the limit of descriptors
-    /// leaves none for connections, it is `FewDescriptors`.
+    /// A server of this configuration, whose file is this, seen before it was read, which listens on this address, and keeps
+    /// and shows what is wanted of it; presentations are there for those alone who are allowed them. There
+    /// are as many lanes as the configuration has workers, and half as many pacers as the machine has cores,
+    /// but at least one; where the media isn't held in memory, some threads read it ahead. With a number of
+    /// connections it ends after so many. Where the limit of descriptors leaves none for connections, it is
+    /// `FewDescriptors`.
     pub fn open<R: Threads + Wait + Net + rt::Clock + RandomSource + Files<File = File>>(
         rt: &R,
         alloc: Global,
         table: Table,
         operation: Operation,
         allowed: Option<Allowed>,
+        file: WatchedFile,
         address: SocketAddr,
         connections: Option<u64>,
     ) -> Result<Server, ServerFault> {
+        let numbers = table.server();
         // Before its file is read, so that a change meanwhile is seen.
         let users = UsersGrowth::open(rt, alloc, &operation)?;
         let Opened {
             status,
             handles,
-            sending,
-            listening,
-        } = Opened::open(rt, alloc, &table, &operation, allowed, address, connections)?;
-        let Sending {
-            media,
             readers,
             pacers,
-        } = sending;
+            listening,
+        } = Opened::open(rt, alloc, table, &operation, allowed, address, connections)?;
         let Listening {
             shared,
             lanes,
             address,
             connections,
+            descriptors,
         } = listening;
         let Handles {
             lanes: handle,
@@ -135,9 +141,7 @@ impl Server {
         Ok(Server {
             alloc,
             parts: Parts {
-                table,
-                media,
-                readers,
+                numbers,
                 folder,
                 shared,
                 over: StopBell::new(),
@@ -147,12 +151,13 @@ impl Server {
                 others,
                 lanes,
                 pacers,
+                growth: Growth::open(alloc, file, operation, descriptors)?,
                 users,
                 is_short: false,
             },
+            readers,
             shown,
             last,
-            operation,
             status,
             address,
             connections,
@@ -177,7 +182,7 @@ impl Server {
     // Tells where there are more pairs of ports than connections that can have them.
     fn tell_of_descriptors<R: Wait + rt::Clock>(&self, rt: &R) {
         let connections = self.connections;
-        if connections < u64::from(self.parts.table.server().pairs) {
+        if connections < u64::from(self.parts.numbers.pairs) {
             let log = &self.parts.shared.log;
             log.event(rt, Event::FewConnections { connections });
         }
@@ -204,22 +209,24 @@ impl Server {
     >(self, rt: &R, announcer: A, errors: E) -> Result<ServerEnd, ServerFault>
         ensures { IfOk result (λ end. IfSome end.book (λ k. book_of k.journal ≡ empty)) }
     {
-        let scribe = self.parts.open_scribe(rt, self.alloc, &self.operation)?;
-        let users = UsersReader::open(self.alloc, &self.operation)?;
+        let operation = self.start.growth.operation();
+        let scribe = self.parts.open_scribe(rt, self.alloc, operation)?;
+        let users = UsersReader::open(self.alloc, operation)?;
         self.tell_of_descriptors(rt);
         let Self {
             alloc,
             parts,
             mut start,
+            readers,
             shown,
             last,
-            operation: _operation,
             status,
             address,
             connections: _,
         } = self;
         let written = start.others.pop();
-        start.is_short = !(parts.start_readers(rt)
+        start.is_short = !(start_readers(rt, &parts.shared, readers)
+            && start_errands(rt, alloc, &parts.shared, start.growth.errands())
             && parts.start_scribe(rt, scribe, written)
             && start_users(rt, users, &parts.shared));
         let beside = Beside {

@@ -5,7 +5,7 @@ ghost use Rattle.std.specs.Prelude.{◌≡◌, ⊤};
 use crate::lane_lines::LaneLines;
 use crate::recorded::Recorded;
 use crate::shared::Shared;
-use rtsp_content::Table;
+use rtsp_content::{Allowed, Table};
 use rtsp_lock::BookHandle;
 use rtsp_metrics::AnswerCounters;
 use rtsp_sockets::LaneDecisions;
@@ -20,6 +20,8 @@ pub(crate) struct Service<'a, R> {
     pub(crate) rt: &'a R,
     pub(crate) alloc: Global,
     pub(crate) table: &'a Table,
+    /// For whom presentations are there, where that isn't everybody.
+    pub(crate) allowed: Option<&'a Allowed>,
     pub(crate) shared: &'a Shared,
     /// Where the lane counts its answers.
     pub(crate) answers: &'a AnswerCounters,

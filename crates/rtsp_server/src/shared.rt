@@ -2,6 +2,7 @@
 
 use crate::all_lanes::AllLanes;
 use crate::balancers::Balancers;
+use crate::content_counts::ContentCounts;
 use crate::draining::Draining;
 use crate::end_lines::EndLines;
 use crate::end_note::EndNote;
@@ -11,13 +12,15 @@ use crate::stopping::StopTimes;
 use crate::unread::HELD_IN_ALL;
 use crate::users::CurrentUsers;
 use mio::net::TcpListener;
-use rtsp_content::{Allowed, Operation, Server, Table};
+use rtsp_content::{MAX_PLACES, Operation, Server, Table};
 use rtsp_lock::BookHandle;
 use rtsp_log::{BATCH_LINES, Event, HeaderCause, Log, moment};
 use rtsp_metrics::{Audience, Counters};
 use rtsp_pacing::Bells;
 use rtsp_shares::{ShareTable, Watermark};
-use rtsp_sockets::{Decisions, LENT_IN_ALL, Outlets, PortBinder, PortTable, SharedRoom};
+use rtsp_sockets::{
+    Content, Contents, Decisions, LENT_IN_ALL, Outlets, PortBinder, PortTable, SharedRoom,
+};
 use rtsp_status::Halt;
 use rtsp_threads::{
     FEW_LINES, Gate, LAST_ROOM, LOG_LINES, Refused, ScribeBell, StopBell, ask_for_room, end_place,
@@ -56,14 +59,15 @@ pub(crate) struct Shared {
     pub(crate) balancers: Balancers,
     /// Who is let through, where that isn't everybody.
     pub(crate) users: Option<CurrentUsers>,
-    /// For whom of them presentations are there, where that isn't everybody.
-    pub(crate) allowed: Option<Allowed>,
     /// Which of them each session is of.
     pub(crate) owners: Owners,
     /// What addresses have of the sessions, where each has a share of them.
     pub(crate) session_shares: Option<Mutex<ShareTable>>,
     pub(crate) outlets: Outlets,
     pub(crate) lent: Lent,
+    /// What is served, and what is told of that.
+    pub(crate) contents: Contents,
+    pub(crate) content_counts: ContentCounts,
     pub(crate) ports: PortTable,
     /// The pacers', by which they learn of plays.
     pub(crate) bells: Bells,
@@ -101,11 +105,12 @@ impl Drop for Shared {
             gate: _gate,
             balancers: _balancers,
             users: _users,
-            allowed: _allowed,
             owners: _owners,
             session_shares: _session_shares,
             outlets: _outlets,
             lent: _lent,
+            contents: _contents,
+            content_counts: _content_counts,
             ports: _ports,
             bells: _bells,
             stop_bell: _stop_bell,
@@ -161,17 +166,16 @@ impl Shared {
         rt: &R,
         alloc: Global,
         of: Opening<'_>,
+        content: Content,
         listener: TcpListener,
         connections: Option<u64>,
         users: Option<CurrentUsers>,
     ) -> io::Result<Shared> {
         let Opening {
-            table,
+            numbers,
             operation,
-            allowed,
             pacers,
         } = of;
-        let numbers = table.server();
         let begun = Instant::now(rt)?;
         let watermark = Watermark::new(alloc, usize::from(numbers.workers))?;
         let lent = Lent::open(alloc)?;
@@ -180,19 +184,25 @@ impl Shared {
         let gate = Gate::new(alloc, connections, numbers.connections_per_address)?;
         let balancers = Balancers::open(alloc, operation.proxy())?;
         let session_shares = session_shares(alloc, numbers)?;
-        let audience = Audience::open(alloc, table.presentations().len())?;
+        let presentations = content.table.presentations().len();
+        let places = if operation.watch() {
+            MAX_PLACES
+        } else {
+            presentations
+        };
+        let audience = Audience::open(alloc, places)?;
         let log = open_log(alloc, operation.access_log())?;
-        let end_lines = EndLines::open(alloc, table)?;
         Ok(Shared {
             listener,
             gate,
             balancers,
             users,
-            allowed,
             owners: Owners::new(alloc),
             session_shares,
             outlets: Outlets::new(alloc),
             lent,
+            contents: Contents::open(alloc, content)?,
+            content_counts: ContentCounts::new(presentations as u64),
             ports,
             bells,
             stop_bell: StopBell::new(),
@@ -201,7 +211,7 @@ impl Shared {
             counters: Counters::new(),
             audience,
             log,
-            end_lines,
+            end_lines: EndLines::new(alloc),
             begun,
             started: moment(rt),
             watermark: Mutex::new(watermark),

@@ -6,9 +6,9 @@ use crate::recorded::Recorded;
 use crate::service::Service;
 use crate::shared::Shared;
 use crossbeam_utils::CachePadded;
-use rtsp_content::Table;
 use rtsp_lock::BookHandle;
 use rtsp_metrics::AnswerCounters;
+use rtsp_sockets::{Content, Seen};
 use rtsp_threads::{Lane, LaneTurn, RoomLooks};
 use std::alloc::Global;
 use std::cell::Cell;
@@ -28,6 +28,8 @@ pub struct SocketLane {
     recorded: Recorded,
     looks: Cell<RoomLooks>,
     clients: Clients,
+    // What is served, as the lane sees it.
+    seen: Seen,
     // Whether it has begun.
     stands: bool,
 }
@@ -44,6 +46,9 @@ impl SocketLane {
         let answers = shared.lanes.answer_counters(rt, alloc)?;
         let shared = Arc::try_clone(shared)?;
         let clients = Clients::open(rt, alloc, &shared, number, listener)?;
+        let Some(seen) = Seen::open(rt, &shared.contents) else {
+            return Err(io::Error::from(io::ErrorKind::OutOfMemory));
+        };
         Ok(SocketLane {
             shared,
             answers,
@@ -51,8 +56,37 @@ impl SocketLane {
             recorded: Recorded::new(),
             looks: Cell::new(RoomLooks::new()),
             clients,
+            seen,
             stands: false,
         })
+    }
+}
+
+// What a turn is made with, of parts that live as long.
+fn service_of<'a, R>(
+    rt: &'a R,
+    alloc: Global,
+    content: &'a Content,
+    shared: &'a Shared,
+    answers: &'a AnswerCounters,
+    lines: &'a LaneLines,
+    recorded: &'a Recorded,
+    looks: &'a Cell<RoomLooks>,
+    lane: usize,
+    now: u64,
+) -> Service<'a, R> {
+    Service {
+        rt,
+        alloc,
+        table: &content.table,
+        allowed: content.allowed(),
+        shared,
+        answers,
+        lines,
+        recorded,
+        looks,
+        lane,
+        now,
     }
 }
 
@@ -62,7 +96,6 @@ impl Lane for SocketLane {
         rt: &R,
         alloc: Global,
         handle: &mut BookHandle,
-        table: &Table,
     ) -> LaneTurn {
         if !self.stands {
             self.stands = true;
@@ -75,23 +108,25 @@ impl Lane for SocketLane {
             recorded,
             looks,
             clients,
+            seen,
             ..
         } = self;
         let told = clients.wait(rt, &shared.lanes, lines, looks.get());
         let now = clients.begin_turn(shared.now(rt));
         clients.tools.refresh(rt, shared);
-        let service = Service {
+        seen.refresh(rt, &shared.contents);
+        let service = service_of(
             rt,
             alloc,
-            table,
-            shared: &**shared,
-            answers: &***answers,
+            seen.content(),
+            &**shared,
+            &***answers,
             lines,
             recorded,
             looks,
-            lane: clients.number,
+            clients.number,
             now,
-        };
+        );
         clients.serve(&service, handle, told)
     }
 }

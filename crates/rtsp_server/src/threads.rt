@@ -2,6 +2,7 @@
 
 use crate::fault::ServerFault;
 use crate::figures::Figures;
+use crate::growing::Growth;
 use crate::growing_users::UsersGrowth;
 use crate::server::Announce;
 use crate::shared::Shared;
@@ -9,12 +10,11 @@ use crate::socket_lane::SocketLane;
 use crate::stopping::{StopTimes, watch_signals};
 use crate::sweeper::run_sweeper;
 use rtsp_chronicle::{Doubt, JournalFolder};
-use rtsp_content::Table;
+use rtsp_content::Server;
 use rtsp_lock::BookHandle;
 use rtsp_log::{Event, LogWriter, SleepPause, StderrSink};
 use rtsp_metrics::History;
 use rtsp_pacing::{PacerParts, PacerPlays, PacerRoom, pace};
-use rtsp_sockets::{Media, Reader};
 use rtsp_status::StatusServer;
 use rtsp_threads::{OwnStatus, OwnUsage, PoolEnd, STANDING_LIMIT, StopBell, end_expired, run_pool};
 use std::alloc::Global;
@@ -29,10 +29,8 @@ use std::{net, rt, thread};
 
 // What all threads of a server are lent.
 pub(crate) struct Parts {
-    pub(crate) table: Table,
-    pub(crate) media: Arc<Media>,
-    // Those that read ahead, where that is wanted.
-    pub(crate) readers: Vec<Reader>,
+    // The numbers that it began with.
+    pub(crate) numbers: Server,
     // Where the journal's files are made, where that is wanted.
     pub(crate) folder: Option<JournalFolder>,
     pub(crate) shared: Arc<Shared>,
@@ -44,9 +42,7 @@ pub(crate) struct Parts {
 impl Drop for Parts {
     fn drop(self) {
         let Self {
-            table: _table,
-            media: _media,
-            readers: _readers,
+            numbers: _,
             folder: _folder,
             shared: _shared,
             over: _over,
@@ -62,6 +58,7 @@ pub(crate) struct Start {
     pub(crate) others: Vec<BookHandle>,
     pub(crate) lanes: Vec<SocketLane>,
     pub(crate) pacers: Vec<OnePacer>,
+    pub(crate) growth: Growth,
     // What takes a changed file of users up, where there is one.
     pub(crate) users: Option<UsersGrowth>,
     // Whether a thread that reads ahead couldn't be made.
@@ -76,6 +73,7 @@ impl Drop for Start {
             others: _others,
             lanes: _lanes,
             pacers: _pacers,
+            growth: _growth,
             users: _users,
             is_short: _,
         } = self;
@@ -116,7 +114,7 @@ pub(crate) struct OnePacer {
 fn show<R: Wait + Net + rt::Clock>(
     rt: &R,
     alloc: Global,
-    table: &Table,
+    numbers: Server,
     shared: &Shared,
     status: Option<StatusServer>,
     usage: Option<OwnUsage>,
@@ -126,7 +124,7 @@ fn show<R: Wait + Net + rt::Clock>(
         let figures = Figures {
             rt,
             shared,
-            table,
+            numbers,
             handle,
             usage,
             history: History::new(alloc),
@@ -154,9 +152,7 @@ impl Parts {
         } = pacer;
         let BookHandle { lock, seat } = handle;
         let Parts {
-            table,
-            media,
-            readers: _,
+            numbers,
             folder: _,
             shared,
             over: _,
@@ -164,10 +160,10 @@ impl Parts {
         if let Some(bell) = shared.bells.as_slice().get(number) {
             let parts = PacerParts {
                 lock: &lock,
-                table,
+                uplink: numbers.uplink,
                 ports: &shared.ports,
                 outlets: &shared.outlets,
-                media,
+                contents: &shared.contents,
                 bell,
                 decisions: &shared.decisions,
                 counters: &shared.counters,
@@ -218,7 +214,7 @@ impl Parts {
 
     // Ends the threads beside the lanes, but for that of the log and that which writes the journal.
     fn stop<R: Wait>(&self, rt: &R) {
-        self.media.stop_readers(rt);
+        self.shared.stop_readers(rt);
         self.shared.stop(rt);
     }
 
@@ -235,7 +231,7 @@ impl Parts {
         mut announcer: A,
         address: SocketAddr,
     ) -> Result<(), ServerFault> {
-        if !self.wait_for_lanes(rt, u64::from(self.table.server().workers)) {
+        if !self.wait_for_lanes(rt, u64::from(self.numbers.workers)) {
             return Ok(());
         }
         if !announcer.announce(address) {
@@ -243,7 +239,7 @@ impl Parts {
             self.shared.begin_stop(rt, StopTimes::at_the_beginning(now));
             return Err(ServerFault::DeviceFailed);
         }
-        let presentations = self.table.presentations().len() as u64;
+        let presentations = self.shared.content_counts.read().presentations;
         self.shared.log.event(rt, Event::Started { presentations });
         Ok(())
     }
@@ -253,13 +249,14 @@ impl Parts {
     fn finish<R: Wait + Net + rt::Clock + Files<File = File>>(
         &self,
         rt: &R,
+        alloc: Global,
         last: &mut BookHandle,
     ) -> Option<Doubt> {
         let mut binder = self.shared.unbinder(rt);
         end_expired(rt, last, &mut binder, u64::MAX);
         self.shared.tell_stopped(rt);
         self.stop_scribe(rt);
-        self.leave_readers(rt);
+        self.leave_readers(rt, alloc);
         self.leave_scribe(rt)
     }
 
@@ -290,10 +287,10 @@ impl Parts {
                 handle,
                 mut last,
             } = beside;
-            let (table, shared) = (&self.table, &*self.shared);
+            let (numbers, shared) = (self.numbers, &*self.shared);
             let watches = scope.spawn(move || self.watch(rt, signals)).is_ok();
             let shows = scope
-                .spawn(move || show(rt, alloc, table, shared, status, usage, handle))
+                .spawn(move || show(rt, alloc, numbers, shared, status, usage, handle))
                 .is_ok();
             if !(watches && shows) {
                 self.stop_for_want_of_threads(rt);
@@ -301,7 +298,7 @@ impl Parts {
                 return Err(ServerFault::NoThread);
             }
             let served = start.serve(self, rt, alloc, announcer, address);
-            let left = self.finish(rt, &mut last);
+            let left = self.finish(rt, alloc, &mut last);
             self.shared.log.event(rt, Event::Stopped);
             self.over.ring(rt);
             Ok(Served {
@@ -361,7 +358,7 @@ impl Parts {
     ) -> Result<PoolEnd, ServerFault> {
         let count = lanes.len() as u64;
         let BookHandle { lock, mut seat } = own;
-        let end = run_pool(rt, alloc, lanes, &lock, &mut seat, &self.table);
+        let end = run_pool(rt, alloc, lanes, &lock, &mut seat);
         self.stop(rt);
         if end.idle < count {
             Ok(end)
@@ -394,6 +391,7 @@ impl Start {
             mut others,
             lanes,
             pacers,
+            mut growth,
             users,
             is_short,
         } = self;
@@ -417,7 +415,7 @@ impl Start {
                 return Err(ServerFault::NoThread);
             };
             let told = parts.announce(rt, announcer, address);
-            parts.attend(rt, users);
+            parts.attend(rt, &mut growth, users);
             let ended = pool.join(rt);
             told?;
             ended

@@ -1,38 +1,17 @@
 //! A file at which is looked from time to time.
 
+use rtsp_sockets::FileMark;
 use rtsp_threads::CONFIGURATION_STANDS;
 use std::alloc::Global;
 use std::fs;
-use std::fs::{File, Metadata};
-use std::os::unix::fs::{FileExt, MetadataExt};
+use std::fs::File;
+use std::os::unix::fs::FileExt;
 use std::rt::Files;
 
 // The most bytes of the file, and of a read.
 const MOST: usize = 16 * 1_024 * 1_024;
 
 const PIECE: usize = 64 * 1_024;
-
-// Which file it is, and since when it has its bytes, as the system tells.
-#[derive(Clone, Copy, PartialEq, Eq)]
-struct FileMark {
-    device: u64,
-    number: u64,
-    seconds: i64,
-    nanoseconds: i64,
-    len: u64,
-}
-
-impl FileMark {
-    fn of(metadata: &Metadata) -> FileMark {
-        FileMark {
-            device: metadata.dev(),
-            number: metadata.ino(),
-            seconds: metadata.mtime(),
-            nanoseconds: metadata.mtime_nsec(),
-            len: metadata.len(),
-        }
-    }
-}
 
 // What is seen of the file: nothing where it isn't there, nor of a pipe, which would hold a read up.
 fn mark_of<R: Files<File = File>>(rt: &R, path: &str) -> Option<FileMark> {
@@ -46,7 +25,7 @@ fn mark_of<R: Files<File = File>>(rt: &R, path: &str) -> Option<FileMark> {
 
 /// A file, as it was taken and as it was seen last.
 #[derive(Drop)]
-pub(crate) struct WatchedFile {
+pub struct WatchedFile {
     path: String,
     taken: Option<FileMark>,
     last: Option<FileMark>,
@@ -56,7 +35,7 @@ pub(crate) struct WatchedFile {
 
 impl WatchedFile {
     /// The file at this path was taken as it is.
-    pub(crate) fn open<R: Files<File = File>>(rt: &R, path: String) -> WatchedFile {
+    pub fn open<R: Files<File = File>>(rt: &R, path: String) -> WatchedFile {
         let taken = mark_of(rt, path.as_str());
         WatchedFile {
             path,

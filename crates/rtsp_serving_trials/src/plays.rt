@@ -11,14 +11,13 @@ use crate::session::{PAUSE, act, begin, resume, seek};
 use crate::sockets::Connected;
 use crate::tone::{media_of, tone};
 use rtsp_book::Step;
-use rtsp_content::Table;
 use rtsp_engine::{Binder, Plays};
 use rtsp_lock::{BookLock, BookSeat, open};
 use rtsp_log::Log;
 use rtsp_metrics::{Audience, Counters};
 use rtsp_pacing::{Bells, NotedPlays, Paced, PacerParts, PacerPlays, PacerRoom, pace};
 use rtsp_record::{Phase, Whole};
-use rtsp_sockets::{Decisions, Media, Outlet, Outlets, PortBinder, PortTable};
+use rtsp_sockets::{Content, Contents, Decisions, Outlet, Outlets, PortBinder, PortTable};
 use std::alloc::{AllocError, Global};
 use std::fs::File;
 use std::io::{self, Read};
@@ -325,8 +324,7 @@ fn whole(pair: u16) -> Whole
 // What is served.
 #[derive(Clone, Copy)]
 struct Served<'a> {
-    table: &'a Table,
-    media: &'a Media,
+    contents: &'a Contents,
     stage: &'a Stage,
 }
 
@@ -342,20 +340,16 @@ fn paced<R: Threads + Wait + Clock + AllocGlobal + Sync>(
     requires pacer { IsSeatOf seats.0 lock.now }
     requires player { IsSeatOf seats.1 lock.now }
 {
-    let Served {
-        table,
-        media,
-        stage,
-    } = served;
+    let Served { contents, stage } = served;
     let counters = Counters::new();
     let audience = Audience::open(rt.alloc(), 1).ok()?;
     let log = Log::new(rt.alloc(), 1, false).ok()?;
     let parts = PacerParts {
         lock,
-        table,
+        uplink: 160_000,
         ports: &stage.ports,
         outlets: &stage.player.outlets,
-        media,
+        contents,
         bell: stage.bells.of(2)?,
         decisions: &stage.decisions,
         counters: &counters,
@@ -434,16 +428,12 @@ fn comes_so<
         + Net<Listener = TcpListener, Stream = TcpStream>
         + AllocGlobal
         + Sync,
->(rt: &R, table: &Table, media: &Media, row: &str) -> Option<bool> {
+>(rt: &R, contents: &Contents, row: &str) -> Option<bool> {
     let (word, units) = row.split_once(": ")?;
     let leaving = leaving_of(word);
     let pair = free_port(rt).ok()?;
     let stage = &Stage::open(rt, pair)?;
-    let served = Served {
-        table,
-        media,
-        stage,
-    };
+    let served = Served { contents, stage };
     let (paced, came) = sent(rt, served, pair, leaving)?;
     Some(is_just(&paced, &came, leaving, units))
 }
@@ -460,8 +450,14 @@ fn all_come<
 >(rt: &R, path: &str) -> Option<()> {
     let table = tone(rt.alloc(), path)?;
     let media = media_of(rt, &table, path)?;
+    let content = Content {
+        table,
+        media,
+        allowed: None,
+    };
+    let contents = Contents::open(rt.alloc(), content).ok()?;
     for row in PLAYS.lines() {
-        assert!(rt; comes_so(rt, &table, &media, row) == Some(true), "{row}");
+        assert!(rt; comes_so(rt, &contents, row) == Some(true), "{row}");
     }
     Some(())
 }

@@ -1,11 +1,11 @@
 -- What is read of a file's front.
-use Rattle.std.proofs.Common.{◌≡◌, ◌≤◌, ℕ, ◌+◌, ◌-◌, ◌*◌, List, Option, Some, Result, Ok, Err, ◌∙◌, ap, subst, sym, take, drop, take-take, length, arith}
+use Rattle.std.proofs.Common.{◌≡◌, ◌≤◌, ℕ, ◌+◌, ◌-◌, ◌*◌, List, Option, Some, Result, Ok, Err, refl, ◌∙◌, ap, subst, sym, take, drop, take-take, length, arith}
 use Rattle.std.specs.Prelude.{slice_range, slice_get, None, IfSome, IfNone, OnOk, unwrap_or}
 use Rattle.std.specs.Global.{Vec}
 use Rattle.std.proofs.lemmas.List.{drop-drop, drop-take}
 use Rattle.rtsp_sockets.specs.declared.media.Place.{Place}
 use Rattle.rtsp_sockets.specs.Files.{StandAt}
-use Rattle.rtsp_sockets.specs.Media.{IsPlaceOf, StandInFile}
+use Rattle.rtsp_sockets.specs.Media.{IsPlaceOf, StandInFile, opened, file_at}
 
 -- a range within the first n is a range of the whole
 front : (xs : List ℕ) (n at m : ℕ) → at + m ≤ n → slice_range (slice_range xs 0 (0 + n)) at (at + m) ≡ slice_range xs at (at + m)
@@ -50,12 +50,29 @@ read_held (Ok x) text bytes at n out held size within there =
     stand_held text bytes at out held (subst (λ k. at + k ≤ length bytes) (sym size) within) (subst (λ k. out ≡ slice_range bytes at (at + k)) (sym size) there)
 read_held (Err e) text bytes at n out held size within there = tt
 
--- where octets stand, by the place of their track
-pub found_stand : {A E M : Type 0} (text : M → Option (List ℕ)) (r : Result A E) (files : List M) (places : List (Vec Place)) (presentation track unit : ℕ) (octets : List ℕ) (place : Place) (file : M)
-    → IsPlaceOf places presentation track place → slice_get files place.file ≡ Some file → OnOk r (StandAt (text file) (unit * place.octets) octets) → OnOk r (StandInFile text files places presentation track unit octets)
-found_stand text (Ok x) files places presentation track unit octets place file is_place is_file stand =
-    record { place = place; is_place = is_place; file = file; is_file = is_file; stand = stand }
-found_stand text (Err e) files places presentation track unit octets place file is_place is_file stand = tt
+-- where octets stand, by the place of their track and what is open there
+stand_opened : {M N : Type 0} (text : N → Option (List ℕ)) (of : M → N) (files : List (Option M)) (places : List (Vec Place)) (presentation track unit : ℕ) (octets : List ℕ) (place : Place) (file : N) (o : Option (Option M))
+    → slice_get files place.file ≡ o → IsPlaceOf places presentation track place → opened of o ≡ Some file → StandAt (text file) (unit * place.octets) octets
+    → StandInFile (λ m. text (of m)) files places presentation track unit octets
+stand_opened text of files places presentation track unit octets place file (Some (Some m)) here is_place is_file stand =
+    let same : of m ≡ file = ap (λ o. unwrap_or o (of m)) is_file in
+    record {
+      place = place;
+      is_place = is_place;
+      file = m;
+      is_file = ap (opened (λ f. f)) here;
+      stand = subst (λ f. StandAt (text f) (unit * place.octets) octets) (sym same) stand;
+    }
+stand_opened text of files places presentation track unit octets place file (Some None) here is_place is_file stand = absurd cc
+stand_opened text of files places presentation track unit octets place file None here is_place is_file stand = absurd cc
+
+-- the same of a read that may have failed
+pub found_stand : {A E M N : Type 0} (text : N → Option (List ℕ)) (of : M → N) (r : Result A E) (files : List (Option M)) (places : List (Vec Place)) (presentation track unit : ℕ) (octets : List ℕ) (place : Place) (file : N)
+    → IsPlaceOf places presentation track place → Some file ≡ file_at of files place.file → OnOk r (StandAt (text file) (unit * place.octets) octets)
+    → OnOk r (StandInFile (λ m. text (of m)) files places presentation track unit octets)
+found_stand text of (Ok x) files places presentation track unit octets place file is_place is_file stand =
+    stand_opened text of files places presentation track unit octets place file (slice_get files place.file) refl is_place (sym is_file) stand
+found_stand text of (Err e) files places presentation track unit octets place file is_place is_file stand = tt
 
 pub found_place : (places : List (Vec Place)) (presentation track : ℕ) (tracks : Vec Place) (r : Option Place) → slice_get places presentation ≡ Some tracks → slice_get tracks.items track ≡ r → IfSome r (IsPlaceOf places presentation track)
 found_place places presentation track tracks (Some place) here there = record { tracks = tracks; of_presentation = here; of_track = there }

@@ -10,3 +10,4 @@ pub mod Media
 pub mod Asking
 pub mod Wishes
 pub mod Taken
+pub mod Contents

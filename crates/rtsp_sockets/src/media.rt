@@ -1,19 +1,22 @@
 //! The files of the tracks.
 
-ghost use Rattle.std.specs.Prelude.{◌≡◌, ◌<◌, ◌*◌, ◌/◌, max, IfSome, IfNone, option_copied, slice_get};
+ghost use Rattle.std.specs.Prelude.{◌≡◌, ◌<◌, ◌*◌, ◌/◌, max, IfSome, IfNone, option_copied, option_map, slice_get};
+ghost use Rattle.std.specs.Arc.{arc_value};
 ghost use Rattle.rtsp_content.specs.PackingLimits.{unit_len};
 ghost use Rattle.rtsp_sockets.specs.declared.media.Place.{Place};
-ghost use Rattle.rtsp_sockets.specs.Media.{IsPlaceOf};
+ghost use Rattle.rtsp_sockets.specs.Media.{IsPlaceOf, file_at};
 
 use crate::cut::{CUT_MS, cut_len};
 use crate::disk::Disk;
 use crate::media_file::MediaFile;
+use crate::opened_files::OpenedFiles;
 use crate::read_at::ReadAt;
 use crate::shelf::Shelf;
 use rtsp_content::{Presentation, Table, Track};
 use std::alloc::{AllocError, Global};
 use std::fs::File;
 use std::rt::Files;
+use std::sync::Arc;
 use thiserror::Error;
 
 /// Files that have fewer bytes than this together are held in memory: 256 MiB. Otherwise they are read
@@ -33,6 +36,9 @@ pub enum MediaFault {
     /// A file can't be read, or it has no such unit any more.
     #[error("a track's file can't be read")]
     Unreadable,
+    /// There is no descriptor for a file.
+    #[error("there is no descriptor for a track's file")]
+    NoDescriptor,
     #[error("out of memory")]
     OutOfMemory,
 }
@@ -53,7 +59,7 @@ pub(crate) struct Place {
 
 impl Place {
     // The place of a track whose units have so many milliseconds each.
-    fn of(file: usize, track: &Track, unit_ms: u32) -> Place
+    pub(crate) fn of(file: usize, track: &Track, unit_ms: u32) -> Place
         requires { 0 < unit_ms }
         ensures file { result.file ≡ file }
         ensures octets { result.octets ≡ unit_len track.now.packing track.now.octets }
@@ -68,7 +74,7 @@ impl Place {
     }
 }
 
-/// A track, by the place of its presentation in the configuration and its own place there.
+/// A track, by the place of its presentation in the table and its own place there.
 #[derive(Clone, Copy, Debug, PartialEq, Eq)]
 pub struct TrackPlace {
     pub presentation: u16,
@@ -78,16 +84,23 @@ pub struct TrackPlace {
 /// The media of all tracks. Tracks that name one file share it.
 #[derive(Drop)]
 pub struct MediaOf<F: ReadAt> {
-    pub(crate) files: Vec<MediaFile<F>>,
-    // The places of the tracks of each presentation, in the order of the configuration.
-    places: Vec<Vec<Place>>,
+    // What is unchanged is shared with the media before these. A file keeps its index as long as the server
+    // runs, and is closed once no track is in it.
+    pub(crate) files: Vec<Option<Arc<MediaFile<F>>>>,
+    // The places of the tracks of each presentation, in the order of the table: none of one that nobody has.
+    pub(crate) places: Vec<Vec<Place>>,
     // The disks that files are on which aren't held in memory, and what was read ahead of these.
-    pub(crate) disks: Vec<Disk>,
-    pub(crate) shelf: Shelf<F>,
+    pub(crate) disks: Vec<Arc<Disk>>,
+    pub(crate) shelf: Arc<Shelf<F>>,
 }
 
 /// The media of files of the system.
 pub type Media = MediaOf<File>;
+
+// A value that threads share.
+pub(crate) fn shared<T: Drop>(alloc: Global, value: T) -> Result<Arc<T>, MediaFault> {
+    Arc::new(alloc, value).map_err(|_| MediaFault::OutOfMemory)
+}
 
 // For how many bytes what is kept has room, where the uplink has so many bits per second.
 fn kept_limit(uplink: u64) -> u64
@@ -97,7 +110,7 @@ fn kept_limit(uplink: u64) -> u64
 }
 
 // How many bytes the file of a track has.
-fn len_of(presentation: &Presentation, track: &Track) -> u64
+pub(crate) fn len_of(presentation: &Presentation, track: &Track) -> u64
     ensures { result ≡ presentation.now.units * unit_len track.now.packing track.now.octets }
 {
     u64::from(presentation.units()) * u64::from(track.unit_len())
@@ -115,43 +128,21 @@ impl MediaOf<File> {
             files: Vec::new(alloc),
             places: Vec::new(alloc),
             disks: Vec::new(alloc),
-            shelf: Shelf::open(alloc, kept_limit(table.server().uplink))?,
+            shelf: shared(
+                alloc,
+                Shelf::open(alloc, kept_limit(table.server().uplink))?,
+            )?,
         };
-        let mut paths = Vec::new(alloc);
+        let mut opening = OpenedFiles::new(alloc, 0);
         for presentation in table.presentations() {
-            let mut places = Vec::new(alloc);
-            for track in presentation.tracks() {
-                let file = media.file_of(rt, &mut paths, presentation, track)?;
-                let place = Place::of(file, track, presentation.unit_ms().ms());
-                places.push(place).map_err(AllocError::from)?;
-            }
+            let places = opening.places_of(rt, presentation)?;
             media.places.push(places).map_err(AllocError::from)?;
         }
-        media.hold_if_small(alloc)?;
-        Ok(media)
-    }
-
-    // The index of a track's file in `files`. The file is opened here, unless a track before named it.
-    fn file_of<'t, R: Files<File = File>>(
-        &mut self,
-        rt: &R,
-        paths: &mut Vec<&'t str>,
-        presentation: &Presentation,
-        track: &'t Track,
-    ) -> Result<usize, MediaFault> {
-        let len = len_of(presentation, track);
-        let path = track.file();
-        if let Some(place) = paths.iter().position(|other| *other == path) {
-            return match self.files.get(place) {
-                Some(file) if file.len == len => Ok(place),
-                _ => Err(MediaFault::WrongLength),
-            };
+        if opening.total() < HELD_LIMIT {
+            opening.hold()?;
         }
-        let place = self.files.len();
-        let file = MediaFile::open(rt, path, len)?;
-        self.files.push(file).map_err(AllocError::from)?;
-        paths.push(path).map_err(AllocError::from)?;
-        Ok(place)
+        media.take_in(alloc, opening)?;
+        Ok(media)
     }
 }
 
@@ -163,23 +154,29 @@ fn place_of(places: &[Place], track: usize) -> Option<Place>
 }
 
 impl<F: ReadAt> MediaOf<F> {
-    // Holds all files in memory where they are small. Else they are to be read ahead.
-    fn hold_if_small(&mut self, alloc: Global) -> Result<(), MediaFault> {
-        let mut total = 0u64;
-        for file in &self.files {
-            total = total.saturating_add(file.len);
-        }
-        if total < HELD_LIMIT {
-            for file in &mut self.files {
-                file.hold(alloc)?;
+    // Takes files in that were opened, behind those that there are. Those that aren't held in memory are to
+    // be read ahead.
+    pub(crate) fn take_in(
+        &mut self,
+        alloc: Global,
+        opened: OpenedFiles<F>,
+    ) -> Result<(), MediaFault> {
+        for file in opened.files {
+            if file.held.is_none() {
+                self.add_disk(alloc, file.mark.device)?;
             }
-            return Ok(());
+            self.files
+                .push(Some(shared(alloc, file)?))
+                .map_err(AllocError::from)?;
         }
-        for file in &self.files {
-            if !self.disks.iter().any(|disk| disk.is(file.device)) {
-                let disk = Disk::new(alloc, file.device)?;
-                self.disks.push(disk).map_err(AllocError::from)?;
-            }
+        Ok(())
+    }
+
+    // Files of this disk are to be read ahead.
+    fn add_disk(&mut self, alloc: Global, device: u64) -> Result<(), MediaFault> {
+        if !self.disks.iter().any(|disk| disk.is(device)) {
+            let disk = shared(alloc, Disk::new(alloc, device)?)?;
+            self.disks.push(disk).map_err(AllocError::from)?;
         }
         Ok(())
     }
@@ -202,10 +199,14 @@ impl<F: ReadAt> MediaOf<F> {
     }
 
     pub(crate) fn file(&self, place: usize) -> Option<&MediaFile<F>>
-        ensures { option_copied result ≡ slice_get self.now.files.items place }
+        ensures { option_map (λ f. f.now) result ≡ file_at arc_value self.now.files.items place }
     {
-        self.files.get(place)
+        match self.files.get(place)? {
+            Some(file) => Some(&**file),
+            None => None,
+        }
     }
+
     // The first track whose units are in a file.
     pub(crate) fn track_of(&self, file: usize) -> Option<TrackPlace> {
         for (presentation, places) in self.places.iter().enumerate() {

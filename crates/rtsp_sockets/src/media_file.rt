@@ -8,9 +8,34 @@ use crate::media::MediaFault;
 use crate::read_at::ReadAt;
 use crate::unit::copy_unit;
 use std::alloc::Global;
-use std::fs::File;
+use std::fs::{File, Metadata};
+use std::io;
 use std::os::unix::fs::MetadataExt;
 use std::rt::Files;
+
+/// Which file it is, and since when it has its bytes, as the system tells.
+#[derive(Clone, Copy, PartialEq, Eq)]
+pub struct FileMark {
+    // The number of the disk that it is on.
+    pub(crate) device: u64,
+    number: u64,
+    seconds: i64,
+    nanoseconds: i64,
+    len: u64,
+}
+
+impl FileMark {
+    /// That of the file of which the system tells this.
+    pub fn of(metadata: &Metadata) -> FileMark {
+        FileMark {
+            device: metadata.dev(),
+            number: metadata.ino(),
+            seconds: metadata.mtime(),
+            nanoseconds: metadata.mtime_nsec(),
+            len: metadata.len(),
+        }
+    }
+}
 
 // The file of a track.
 #[derive(Drop)]
@@ -19,9 +44,16 @@ pub(crate) struct MediaFile<F: ReadAt> {
     pub(crate) len: u64,
     // All of it, where it is held in memory.
     pub(crate) held: Option<Vec<u8>>,
-    // The number of the disk that it is on, as the system has it.
-    pub(crate) device: u64,
+    pub(crate) mark: FileMark,
     ghost whole: { (bytes : Vec ℕ) → held ≡ Some bytes → StandAt (F.text (F.number file)) 0 bytes.items },
+}
+
+// What it means that a file can't be opened.
+fn fault_of(error: io::Error) -> MediaFault {
+    match error.raw_os_error() {
+        Some(libc::EMFILE) => MediaFault::NoDescriptor,
+        _ => MediaFault::Unreadable,
+    }
 }
 
 impl MediaFile<File> {
@@ -33,7 +65,7 @@ impl MediaFile<File> {
     ) -> Result<MediaFile<File>, MediaFault>
         ensures { IfOk result (λ f. f.len ≡ len) }
     {
-        let file = File::open(rt, path).map_err(|_| MediaFault::Unreadable)?;
+        let file = File::open(rt, path).map_err(fault_of)?;
         let metadata = file.metadata().map_err(|_| MediaFault::Unreadable)?;
         if metadata.len() != len {
             return Err(MediaFault::WrongLength);
@@ -42,7 +74,7 @@ impl MediaFile<File> {
             file,
             len,
             held: None,
-            device: metadata.dev(),
+            mark: FileMark::of(&metadata),
         })
     }
 }

@@ -9,7 +9,7 @@ use std::os::fd::AsRawFd;
 use std::os::unix::fs::FileExt;
 
 /// A file that is read at a place.
-pub trait ReadAt {
+pub trait ReadAt: Drop {
     /// The number by which it is open, which no other file has meanwhile.
     ghost number: { Self → ℕ };
 

@@ -1,7 +1,9 @@
 //! How a pacer gets the octets of a unit, which never waits for a disk.
 
 ghost use Rattle.std.specs.Prelude.{◌≡◌, ◌≤◌, ◌+◌, length, IsOk, IsSome, IfSome, IfErr, OnOk, OnErr};
+ghost use Rattle.std.specs.Arc.{arc_value};
 ghost use Rattle.rtsp_sockets.specs.Files.{StandAt};
+ghost use Rattle.rtsp_sockets.specs.declared.media_file.MediaFile.{MediaFile};
 ghost use Rattle.rtsp_sockets.specs.Media.{IsInMemory, IsUnitHeld, StandInFile};
 
 use crate::cut::{Cut, Cuts};
@@ -38,10 +40,13 @@ impl<F: ReadAt> MediaOf<F> {
         now: u64,
         out: &mut [u8],
     ) -> Result<(), NotTaken>
-        ensures ok { OnOk result (StandInFile (λ file. F.text (F.number file.file)) self.now.files.items self.now.places.items presentation track unit out.new) }
+        ensures ok { OnOk result (StandInFile (λ file. F.text (F.number (arc_value {X = MediaFile F _} file).file)) self.now.files.items
+            self.now.places.items presentation track unit out.new) }
         ensures err { OnErr result (out.new ≡ out.old) }
-        ensures held { IsUnitHeld (λ file. file.held) self.now.files.items self.now.places.items presentation track unit (length out.old) → IsOk result }
-        ensures waits { IsInMemory (λ file. file.held) self.now.files.items self.now.places.items presentation track → IfErr result (λ e. e ≡ NotTaken.Unreadable) }
+        ensures held { IsUnitHeld (λ file. (arc_value {X = MediaFile F _} file).held) self.now.files.items self.now.places.items
+            presentation track unit (length out.old) → IsOk result }
+        ensures waits { IsInMemory (λ file. (arc_value {X = MediaFile F _} file).held) self.now.files.items self.now.places.items
+            presentation track → IfErr result (λ e. e ≡ NotTaken.Unreadable) }
     {
         let Some(place) = self.place(presentation, track) else {
             return Err(NotTaken::Unreadable);
@@ -136,7 +141,7 @@ impl<F: ReadAt> MediaOf<F> {
         if cut.len == 0 || !self.shelf.ask(rt, cut, now) {
             return;
         }
-        let disk = self.disks.iter().find(|disk| disk.is(file.device));
+        let disk = self.disks.iter().find(|disk| disk.is(file.mark.device));
         if !disk.is_some_and(|disk| disk.ask(rt, cut)) {
             self.shelf.forget(rt, cut);
         }

@@ -12,6 +12,9 @@ pub mod RowLemmas
 pub mod OrderLemmas
 pub mod ShownLemmas
 pub mod ValidLemmas
+pub mod AlikeLemmas
+pub mod GrowthLemmas
+pub mod MeaningLemmas
 pub mod LawLemmas
 pub mod RenewalLemmas
 pub mod RoomLemmas

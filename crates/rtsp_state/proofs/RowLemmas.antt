@@ -34,6 +34,7 @@ use Rattle.rtsp_state.specs.Pause.{pause, pause_presentation}
 use Rattle.rtsp_state.specs.Teardown.{teardown, teardown_presentation, teardown_track, has_one}
 use Rattle.rtsp_state.specs.GetParameter.{get_parameter, get_parameter_body, get_parameters, parameters_in, is_position}
 use Rattle.rtsp_state.specs.SetParameter.{set_parameter}
+use Rattle.rtsp_state.specs.Aim.{own_of, aimed}
 use Rattle.rtsp_state.specs.StateTable.{in_session, row, session_found, cell}
 use Rattle.rtsp_state.specs.Laws.{AreFrom, ends, session_in, SetsUpIn}
 use Rattle.rtsp_state.proofs.RuleLemmas.{Rules, Whatever, follow, either}
@@ -193,7 +194,8 @@ sound_row context methods.SetParameter view name target = sound_set_parameter co
 pub sound_cell : (context : ContextValue) (method : Method) (view : Option Living) (name : Option Name) (target : Target) → SoundRow context view (cell context method view name target)
 sound_cell context method view name target =
     follow (Sound context.start view context.table.server.timeout) (session_found method name view) _
-    λ living. sound_row context method view name target
+    λ living. follow (Sound context.start view context.table.server.timeout) (aimed context.table (own_of method view) target) _
+    λ aim. sound_row context method view name aim
 
 -- ---- refusals
 

@@ -43,6 +43,8 @@ use Rattle.rtsp_state.specs.Screen.{screen, screened}
 use Rattle.rtsp_state.specs.Describe.{describe}
 use Rattle.rtsp_state.specs.GetParameter.{parameter_of, parameters_in, first_line, is_position, get_parameter_body, get_parameters}
 use Rattle.rtsp_state.specs.SetParameter.{set_parameter}
+use Rattle.rtsp_content.specs.Offering.{meant_of, track_as}
+use Rattle.rtsp_state.specs.Aim.{own_of, meant, meant_track, aimed}
 use Rattle.rtsp_state.specs.StateTable.{session_found, row, cell, settled, context_of, start_of, decide}
 use Rattle.rtsp_state.specs.Words.{text_of}
 use Rattle.rtsp_state.specs.Lines.{public_line, allow_line}
@@ -237,10 +239,19 @@ present_valid m (Some (names.Id i)) None = refl
 present_valid m (Some (names.Startup n)) None = must_faults Not455 (not (needs_session m)) statuses.SessionNotFound refl
 present_valid m None None = must_faults Not455 (not (needs_session m)) statuses.SessionNotFound refl
 
+aimed_valid : (table : TableValue) (own : Option ℕ) (target : Target) → Faults Not455 (aimed table own target)
+aimed_valid table own (targets.Presentation base p) = faults_chain Not455 (meant table own p) _ (known_faults Not455 (meant_of table own p) refl) (λ q. tt)
+aimed_valid table own (targets.Track base p t) =
+    faults_chain Not455 (meant table own p) _ (known_faults Not455 (meant_of table own p) refl)
+    λ q. faults_chain Not455 (meant_track table p t q) _ (known_faults Not455 (track_as table p t q) refl) (λ u. tt)
+aimed_valid table own targets.Server = tt
+aimed_valid table own targets.Star = tt
+
 cell_valid : (context : ContextValue) (m : Method) (view : Option Living) (name : Option Name) (target : Target) → IsTrue (is_allowed m) → Rules IsValidAnswer Not455 (cell context m view name target)
 cell_valid context m view name target allowed =
     chain IsValidAnswer Not455 (session_found m name view) _ (present_valid m name view)
-    λ living. row_valid context m view name target allowed
+    λ living. chain IsValidAnswer Not455 (aimed context.table (own_of m view) target) _ (aimed_valid context.table (own_of m view) target)
+    λ aim. row_valid context m view name aim allowed
 
 -- ---- what is decided
 

@@ -27,7 +27,10 @@ pub mod Pause
 pub mod Teardown
 pub mod GetParameter
 pub mod SetParameter
+pub mod Aim
 pub mod StateTable
+pub mod Alike
 pub mod Renewal
+pub mod Growth
 pub mod Answer
 pub mod Laws

@@ -26,6 +26,7 @@ use Rattle.rtsp_state.specs.Pause.{pause}
 use Rattle.rtsp_state.specs.Teardown.{teardown}
 use Rattle.rtsp_state.specs.GetParameter.{get_parameter}
 use Rattle.rtsp_state.specs.SetParameter.{set_parameter}
+use Rattle.rtsp_state.specs.Aim.{own_of, aimed}
 
 -- 6. the session that is named by its id lives; an unbound startup number names none
 abbrev pub session_found : Method → Option Name → Option Living → Result (Unit {0}) Fault
@@ -55,10 +56,12 @@ row context methods.Pause view name target = do
 row context methods.GetParameter view name target = get_parameter context view target
 row context methods.SetParameter view name target = set_parameter context
 
+-- 8, first: what is named has to be offered, or to be the session's own
 abbrev pub cell : ContextValue → Method → Option Living → Option Name → Target → Result Plan Fault
 cell context method view name target = do
   living ← session_found method name view
-  row context method view name target
+  aim ← aimed context.table (own_of method view) target
+  row context method view name aim
 
 abbrev pub shown_id : Option Living → Option ℕ
 shown_id None = None

@@ -3,6 +3,8 @@
 ghost use Rattle.rtsp_state.specs.About.{NamesNothing};
 ghost use Rattle.rtsp_state.specs.Laws.{ReadsOnce, AnswersRefusal, ShowsAllowed, AllowedIsValid, AnswersInOrder, ShowsSession};
 ghost use Rattle.rtsp_state.specs.Renewal.{RenewsInSteps};
+ghost use Rattle.rtsp_state.specs.Growth.{PlaysOn, IsGone, DecidesByPlace, OffersRest, RenewsAlike, AnswersAlike};
+ghost use Rattle.rtsp_state.specs.Alike.{ReadsAlike, AsksAlike};
 
 /// What is handed on of a request is what it says, so that nothing of it is read again.
 pub fn law_reads_once()
@@ -46,4 +48,49 @@ pub fn law_answers_in_order()
 /// if the session is alive after the request, or was opened by it.
 pub fn law_shows_session()
     ensures { ShowsSession }
+{}
+
+/// A request of a session for what it has is decided as before, whatever of that was withdrawn or replaced
+/// meanwhile.
+pub fn law_plays_on()
+    ensures { PlaysOn }
+{}
+
+/// A description of what is withdrawn, and a first track of it, isn't found, unless its name is offered again.
+pub fn law_is_gone()
+    ensures { IsGone }
+{}
+
+/// A request for what a table has is read alike by one that goes on from it.
+pub fn law_reads_alike()
+    ensures { ReadsAlike }
+{}
+
+/// What is handed on of a request names what stands in the table, and a table that goes on has the same
+/// there.
+pub fn law_asks_alike()
+    ensures { AsksAlike }
+{}
+
+/// A request is decided by the presentation that it means and by the timeout of sessions, and by nothing
+/// else of a table.
+pub fn law_decides_by_place()
+    ensures { DecidesByPlace }
+{}
+
+/// A request for what is offered still, or is the session's own, is decided as before, whatever else is
+/// added, withdrawn or replaced.
+pub fn law_offers_rest()
+    ensures { OffersRest }
+{}
+
+/// A session is renewed by the timeout and the step of renewals, and by nothing else of a table.
+pub fn law_renews_alike()
+    ensures { RenewsAlike }
+{}
+
+/// What a request for what was there is answered stays, where that is offered still or is the session's
+/// own.
+pub fn law_answers_alike()
+    ensures { AnswersAlike }
 {}

@@ -4,6 +4,7 @@
 #![tactic(auto)]
 
 mod about;
+mod aim;
 mod context;
 mod describe;
 mod end_of_stream;
@@ -46,8 +47,10 @@ pub use about::{nowhere, presentation_asked};
 pub use end_of_stream::notify;
 pub use fault::Fault;
 pub use laws::{
-    law_allowed_is_valid, law_answers_in_order, law_answers_refusal, law_names_nothing,
-    law_reads_once, law_renews_in_steps, law_shows_allowed, law_shows_session,
+    law_allowed_is_valid, law_answers_alike, law_answers_in_order, law_answers_refusal,
+    law_asks_alike, law_decides_by_place, law_is_gone, law_names_nothing, law_offers_rest,
+    law_plays_on, law_reads_alike, law_reads_once, law_renews_alike, law_renews_in_steps,
+    law_shows_allowed, law_shows_session,
 };
 pub use media_base::MediaBase;
 pub use media_uri::MediaUri;

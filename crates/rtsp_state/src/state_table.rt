@@ -6,6 +6,7 @@ ghost use Rattle.rtsp_state.specs.Conduct.{IsConducted};
 ghost use Rattle.rtsp_state.specs.Context.{context_value};
 ghost use Rattle.rtsp_state.specs.StateTable.{session_found, row, cell, shown_id, decide};
 
+use crate::aim::{aimed, own_of};
 use crate::context::Context;
 use crate::describe::describe;
 use crate::fault::{Fault, must};
@@ -77,13 +78,14 @@ fn cell(
     method: Method,
     view: Option<&SessionView>,
     name: Option<Name>,
-    target: &Target<'_>,
+    target: Target<'_>,
 ) -> Result<Plan, Fault>
-    ensures value { Gives result (cell (context_value context.now) method (option_map (λ v. v.now) view.entry) name target.now) }
+    ensures value { Gives result (cell (context_value context.now) method (option_map (λ v. v.now) view.entry) name target.entry) }
     ensures conducted { IfOk result IsConducted }
 {
     session_found(method, name, view)?;
-    row(alloc, context, method, view, name, target)
+    let target = aimed(context.table, own_of(method, view), target)?;
+    row(alloc, context, method, view, name, &target)
 }
 
 /// The id of a living session.
@@ -131,7 +133,7 @@ pub fn decide(
         name,
         ..
     } = request;
-    match cell(alloc, &context, method, view, name, &target) {
+    match cell(alloc, &context, method, view, name, target) {
         Ok(plan) => Ok(plan),
         Err(Fault::OutOfMemory) => Err(AllocError),
         Err(fault) => Ok(Plan::Answer(Reply::refused(start, fault))),

@@ -100,7 +100,7 @@ pub const HELD_TOLD_AFTER: u64 = 2_000;
 pub const LONG_FILE: usize = 400_000;
 
 /// The time between two looks at the configuration's file.
-pub const CONFIGURATION_EVERY: u64 = 500;
+pub const CONFIGURATION_EVERY: u64 = 250;
 
 /// A changed configuration is taken up once its file has stood for so long as it is.
 pub const CONFIGURATION_STANDS: u64 = 1_000;

@@ -3,7 +3,6 @@
 ghost use Rattle.std.specs.Arc.{arc_value};
 ghost use Rattle.rtsp_lock.specs.Calls.{IsSeatOf, SameSeat};
 
-use rtsp_content::Table;
 use rtsp_lock::{BookHandle, BookLock, BookSeat, DrawnNumbers};
 use std::alloc::Global;
 use std::net::{Net, TcpListener, TcpStream};
@@ -30,7 +29,6 @@ pub trait Lane: Drop {
         rt: &R,
         alloc: Global,
         handle: &mut BookHandle,
-        table: &Table,
     ) -> LaneTurn;
 }
 
@@ -47,13 +45,12 @@ pub struct PoolEnd {
 fn run_lane<R: Wait + Net<Listener = TcpListener, Stream = TcpStream> + Clock, L: Lane>(
     rt: &R,
     alloc: Global,
-    table: &Table,
     mut handle: BookHandle,
     mut lane: L,
 ) -> u64 {
     let mut served = 0u64;
     for _ in rt.forever() {
-        let turn = lane.turn(rt, alloc, &mut handle, table);
+        let turn = lane.turn(rt, alloc, &mut handle);
         served = served.saturating_add(turn.ended);
         if turn.is_over {
             break;
@@ -66,7 +63,7 @@ fn run_lane<R: Wait + Net<Listener = TcpListener, Stream = TcpStream> + Clock, L
 fn run_lanes<
     R: Threads + Wait + Net<Listener = TcpListener, Stream = TcpStream> + Clock + Sync,
     L: Lane + Send,
->(rt: &R, alloc: Global, table: &Table, mut own: BookHandle, lanes: Vec<L>) -> PoolEnd {
+>(rt: &R, alloc: Global, mut own: BookHandle, lanes: Vec<L>) -> PoolEnd {
     let Ok(mut handles) = Vec::with_capacity(alloc, lanes.len()) else {
         return none_served(&lanes);
     };
@@ -77,7 +74,7 @@ fn run_lanes<
                 idle = idle.saturating_add(1);
                 continue;
             };
-            match scope.spawn(move || run_lane(rt, alloc, table, theirs, lane)) {
+            match scope.spawn(move || run_lane(rt, alloc, theirs, lane)) {
                 Ok(handle) => {
                     let _ = handles.push(handle);
                 }
@@ -111,7 +108,6 @@ pub fn run_pool<
     lanes: Vec<L>,
     lock: &Arc<BookLock<DrawnNumbers>>,
     seat: &mut BookSeat,
-    table: &Table,
 ) -> PoolEnd
     requires own { IsSeatOf seat.old (arc_value lock.now) }
     ensures same { SameSeat seat.old seat.new }
@@ -120,7 +116,7 @@ pub fn run_pool<
         return none_served(&lanes);
     };
     match seat.split(rt, lock) {
-        Ok(own) => run_lanes(rt, alloc, table, BookHandle::new(shared, own), lanes),
+        Ok(own) => run_lanes(rt, alloc, BookHandle::new(shared, own), lanes),
         Err(_) => none_served(&lanes),
     }
 }

@@ -61,6 +61,7 @@ impl<R: Clock> Binder for WaitingBinder<'_, R> {
 // A lane of one connection, on which one SETUP comes.
 #[derive(Drop)]
 struct OneSetup {
+    table: Arc<Table>,
     // Its pair is bound once this is true.
     until: Arc<AtomicBool>,
     // It is set once the SETUP was answered with 200.
@@ -97,13 +98,8 @@ fn is_set_up<R: Wait, B: Binder>(
 }
 
 impl OneSetup {
-    fn serve<R: Wait + Clock>(
-        &self,
-        rt: &R,
-        alloc: Global,
-        handle: &mut BookHandle,
-        table: &Table,
-    ) -> Option<()> {
+    fn serve<R: Wait + Clock>(&self, rt: &R, alloc: Global, handle: &mut BookHandle) -> Option<()> {
+        let table = &*self.table;
         let mut own = handle.split(rt)?;
         let conn = own.draw(rt)?;
         let mut binder = WaitingBinder {
@@ -133,10 +129,9 @@ impl Lane for OneSetup {
         rt: &R,
         alloc: Global,
         handle: &mut BookHandle,
-        table: &Table,
     ) -> LaneTurn {
         LaneTurn {
-            ended: if self.serve(rt, alloc, handle, table).is_some() {
+            ended: if self.serve(rt, alloc, handle).is_some() {
                 1
             } else {
                 0
@@ -155,15 +150,18 @@ fn flag(alloc: Global, is_set: bool) -> Option<Arc<AtomicBool>> {
 fn lanes(
     alloc: Global,
     is_waiting_first: bool,
+    table: &Arc<Table>,
     one: &Arc<AtomicBool>,
     two: &Arc<AtomicBool>,
 ) -> Option<Vec<OneSetup>> {
     let waiting = OneSetup {
+        table: Arc::try_clone(table).ok()?,
         until: Arc::try_clone(two).ok()?,
         answered: Arc::try_clone(one).ok()?,
         ids: 0,
     };
     let other = OneSetup {
+        table: Arc::try_clone(table).ok()?,
         until: flag(alloc, true)?,
         answered: Arc::try_clone(two).ok()?,
         ids: 1,
@@ -182,12 +180,12 @@ fn serves_both<R: Threads + Wait + Net<Listener = TcpListener, Stream = TcpStrea
     alloc: Global,
     is_waiting_first: bool,
 ) -> Option<bool> {
-    let table = tone(alloc)?;
+    let table = Arc::new(alloc, tone(alloc)?).ok()?;
     let (lock, mut seat) = open_for::<DrawnNumbers>(alloc, &whole_of(&table)).ok()?;
     let lock = Arc::new(alloc, lock).ok()?;
     let (one, two) = (flag(alloc, false)?, flag(alloc, false)?);
-    let lanes = lanes(alloc, is_waiting_first, &one, &two)?;
-    let end = run_pool(rt, alloc, lanes, &lock, &mut seat, &table);
+    let lanes = lanes(alloc, is_waiting_first, &table, &one, &two)?;
+    let end = run_pool(rt, alloc, lanes, &lock, &mut seat);
     let are_answered = one.load(Ordering::SeqCst) && two.load(Ordering::SeqCst);
     Some(are_answered && end == PoolEnd { served: 2, idle: 0 })
 }

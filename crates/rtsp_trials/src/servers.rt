@@ -3,7 +3,7 @@
 use crate::world::count_of;
 use rtsp_book::BookRep;
 use rtsp_content::{Operation, Table};
-use rtsp_server::{Announce, PoolEnd, Server, ServerEnd};
+use rtsp_server::{Announce, PoolEnd, Server, ServerEnd, WatchedFile};
 use std::io::{Read, Write};
 use std::net::{Ipv4Addr, Net, SocketAddr, SocketAddrV4, TcpStream};
 use std::test::Fail;
@@ -104,7 +104,8 @@ fn has_served_one(end: &ServerEnd) -> bool {
 fn a_server_answers_three_requests(rt: HostRuntime) -> Result<(), Fail> {
     let (table, operation) = configured(&rt)?;
     let any = SocketAddr::V4(SocketAddrV4::new(Ipv4Addr::LOCALHOST, 0));
-    let server = Server::open(&rt, rt.alloc(), table, operation, None, any, Some(1))?;
+    let file = WatchedFile::open(&rt, String::new(rt.alloc()));
+    let server = Server::open(&rt, rt.alloc(), table, operation, None, file, any, Some(1))?;
     let address = server.address();
     let errors = rt.stderr();
     let (ended, said) = thread::join(

@@ -1,3 +1,4 @@
 pub mod Behind
 pub mod Desks
 pub mod Lent
+pub mod GrowthLemmas

@@ -1,3 +1,4 @@
 pub mod Watching
 pub mod Understanding
 pub mod Ending
+pub mod Growth

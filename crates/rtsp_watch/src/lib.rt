@@ -5,11 +5,13 @@
 //! `ending` tells which session a request has ended.
 //!
 //! The definitions of `specs/`: Watching (how items are answered by one who is watched), Understanding
-//! (items at a desk, by the players), Ending (which session a step has ended).
+//! (items at a desk, by the players), Ending (which session a step has ended), Growth (what a connection
+//! is answered over content that goes on between its visits; the laws say it of all visits together).
 
 #![tactic(auto)]
 
 mod ending;
+mod laws;
 mod lending;
 mod reading;
 mod understanding;
@@ -17,6 +19,7 @@ mod watching;
 mod witness;
 
 pub use ending::Recorder;
+pub use laws::{law_then_chains, law_visits_then};
 pub use lending::push_lent;
 pub use understanding::push_understood;
 pub use watching::{push_repaired_watched, push_watched};

@@ -3,7 +3,7 @@
 use crate::running::{read_allowed, read_operation, read_table};
 use rtsp_command_line::Exit;
 use rtsp_engine::{ByteOut, CountedWriter};
-use rtsp_server::{Announce, Doubt, Server, ServerEnd, ServerFault};
+use rtsp_server::{Announce, Doubt, Server, ServerEnd, ServerFault, WatchedFile};
 use std::alloc::Global;
 use std::fs::File;
 use std::io::{Eprint, Write};
@@ -123,6 +123,10 @@ where
 {
     let address = address_of(listen)?;
     let _held = hold_standard_streams(rt, rt.alloc())?;
+    let Ok(path) = String::from_str(rt.alloc(), config) else {
+        return Err(Exit::OutOfMemory);
+    };
+    let file = WatchedFile::open(rt, path);
     let table = read_table(rt, Some(config))?;
     let operation = read_operation(rt, config)?;
     let allowed = read_allowed(rt, config)?;
@@ -132,6 +136,7 @@ where
         table,
         operation,
         allowed,
+        file,
         address,
         connections,
     );

@@ -73,3 +73,14 @@ impl PacedPlay {
         }
     }
 }
+
+// The place of the presentation of a session's streams.
+pub(super) fn presentation_of(view: &SessionView) -> Option<u16> {
+    let admissions = view.admissions();
+    for place in 0..admissions.len() {
+        if let Some(stream) = admissions.at(place).1.stream {
+            return Some(stream.presentation);
+        }
+    }
+    None
+}

@@ -9,7 +9,7 @@ use rtsp_content::{Players, Presentation};
 use rtsp_grammar::write_request;
 use rtsp_lock::Numbers;
 use rtsp_record::Phase;
-use rtsp_sockets::Message;
+use rtsp_sockets::{Content, Message};
 use rtsp_state::notify;
 use std::alloc::{AllocError, Global};
 use std::sync::Wait;
@@ -28,6 +28,7 @@ impl PacedPlay {
         &mut self,
         alloc: Global,
         desk: &mut PacerDesk<'_, R, N>,
+        content: &Content,
         presentation: &Presentation,
         moment: u64,
     ) -> Next {
@@ -35,7 +36,7 @@ impl PacedPlay {
         match desk.finish(self.session(), unit_ms, moment) {
             Ok(()) => {
                 self.stage = Stage::Finished;
-                self.report(alloc, desk, presentation, moment)
+                self.report(alloc, desk, content, presentation, moment)
             }
             Err(Refusal::NoSession | Refusal::WrongState) => Next::Never,
             Err(_) => Next::At(moment.saturating_add(u64::from(unit_ms.ms()))),
@@ -48,6 +49,7 @@ impl PacedPlay {
         &mut self,
         alloc: Global,
         desk: &mut PacerDesk<'_, R, N>,
+        content: &Content,
         presentation: &Presentation,
         moment: u64,
     ) -> Next {
@@ -58,7 +60,7 @@ impl PacedPlay {
             Ok(()) => {
                 desk.paced.reported = desk.paced.reported.saturating_add(1);
                 self.stage = Stage::Reported;
-                match desk.parts.table.server().players {
+                match content.table.server().players {
                     Players::Strict => Next::Never,
                     Players::Gstreamer => Next::At(moment.saturating_add(GOODBYE_AFTER)),
                 }

@@ -1,8 +1,9 @@
-use Rattle.std.proofs.Common.{◌≡◌, ◌+◌, ◌*◌, vec_len}
+use Rattle.std.proofs.Common.{◌≡◌, ◌+◌, ◌-◌, ◌*◌, vec_len}
+use Rattle.std.specs.Prelude.{min}
 use Rattle.rtsp_sockets.proofs.media.MediaOf.readers.Given as goal
 
-abbrev pub invariant-loop-disk : goal.invariant-loop-disk
-invariant-loop-disk g l = vec_len l.readers ≡ 4 * l.disk
+abbrev pub invariant-loop-index : goal.invariant-loop-index
+invariant-loop-index g l = vec_len l.readers ≡ 4 * (min l.index l.index-end - l.first)
 
 abbrev pub invariant-loop-place : goal.invariant-loop-place
-invariant-loop-place g l = vec_len l.readers ≡ 4 * l.disk + l.place
+invariant-loop-place g l = vec_len l.readers ≡ 4 * (min l.index l.index-end - l.first) + l.place

@@ -1,0 +1,75 @@
+//! What a request is about, of several presentations that have had one name: for whoever has streams of
+//! one that one, for all others the one that is offered.
+
+ghost use Rattle.std.specs.Prelude.{◌≡◌, option_map};
+ghost use Rattle.rtsp_state.specs.Aim.{first_place, own_of, meant, meant_track, aimed};
+ghost use Rattle.rtsp_state.specs.Context.{streams_of};
+
+use crate::fault::Fault;
+use crate::method::Method;
+use crate::request::Target;
+use crate::status::Status;
+use rtsp_book::SessionView;
+use rtsp_content::Table;
+
+// The place of the presentation that a session has streams of.
+fn first_place(view: &SessionView) -> Option<u16>
+    ensures { result ≡ first_place (streams_of view.now.1) }
+{
+    for index in 0..view.admissions().len() {
+        let (_, held) = view.admissions().at(index);
+        if let Some(stream) = held.stream {
+            return Some(stream.presentation);
+        }
+    }
+    None
+}
+
+/// The place by which a request of the session is understood. A description is of what is offered, whoever
+/// asks for it.
+pub fn own_of(method: Method, view: Option<&SessionView>) -> Option<u16>
+    ensures { result ≡ own_of method (option_map (λ v. v.now) view.entry) }
+{
+    if matches!(method, Method::Describe) {
+        return None;
+    }
+    first_place(view?)
+}
+
+// What is meant has to be there.
+fn meant(table: &Table, own: Option<u16>, place: u16) -> Result<u16, Fault>
+    ensures { result ≡ meant table.now own place }
+{
+    match table.meant(own, place) {
+        Some(meant) => Ok(meant),
+        None => Err(Fault::Refused(Status::NotFound)),
+    }
+}
+
+// So has its track.
+fn meant_track(table: &Table, place: u16, track: u16, meant: u16) -> Result<u16, Fault>
+    ensures { result ≡ meant_track table.now place track meant }
+{
+    match table.track_as(place, track, meant) {
+        Some(track) => Ok(track),
+        None => Err(Fault::Refused(Status::NotFound)),
+    }
+}
+
+/// The target, with the places that are meant.
+pub fn aimed<'a>(table: &Table, own: Option<u16>, target: Target<'a>) -> Result<Target<'a>, Fault>
+    ensures { result ≡ aimed table.now own target.entry }
+{
+    match target {
+        Target::Presentation(base, place) => {
+            let meant = meant(table, own, place)?;
+            Ok(Target::Presentation(base, meant))
+        }
+        Target::Track(base, place, track) => {
+            let meant = meant(table, own, place)?;
+            let track = meant_track(table, place, track, meant)?;
+            Ok(Target::Track(base, meant, track))
+        }
+        other => Ok(other),
+    }
+}
