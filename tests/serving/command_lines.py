@@ -187,8 +187,8 @@ def places_looked_at_beforehand(checks: Checks) -> None:
         note = b"note: few.toml: the limit of open files leaves none for a connection\n"
         checks.same("few descriptors", (FAILED, note + STARTS_NOT), (status, out))
         # 3 standard streams, 6 of each lane, and one of the log; 8 pairs, and one connection.
-        wanted = b"rtspd: 33 descriptors are wanted at least, 16 for pairs of ports, "
-        wanted += b"16 for files, lanes and listeners, and 1 for a connection; the limit is 32\n"
+        wanted = b"rtspd: 34 descriptors are wanted at least, 16 for pairs of ports, "
+        wanted += b"17 for files, lanes and listeners, and 1 for a connection; the limit is 32\n"
         checks.same("few descriptors: the line", wanted, errors)
         came = said(here, "serve", "--config", "few.toml", "--listen", f"{HERE}:{port}", descriptors=32)
         checks.same("few descriptors: serve", (FAILED, b""), came[:2])

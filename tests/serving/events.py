@@ -212,7 +212,7 @@ def a_missing_descriptor_is_told(checks: Checks) -> None:
 @serving_test(limit=40)
 def a_missing_thread_is_told(checks: Checks) -> None:
     """A lane that gets no thread, where another serves; and a sweeper, without which the server ends."""
-    threads = max(len(os.sched_getaffinity(0)) // 2, 1) + 5
+    threads = max(len(os.sched_getaffinity(0)) // 2, 1) + 6
     for refused, serves in (threads + 2, True), (threads - 1, False):
         server = Telling(checks, workers=2)
         server.faults = Faults(server.path)

@@ -45,9 +45,9 @@ def without_threads(checks: Checks, first: int, last: int, **more: object) -> Tu
 
 @serving_test(limit=60)
 def every_thread_refused_in_turn(checks: Checks) -> None:
-    """Without a pacer, the sweeper, the watcher, those of the log, of the figures and of the pool, or all lanes the program
+    """Without a pacer, the sweeper, the watcher, those of the log, the figures, the pool and errands, or all lanes the program
     ends, and never says that it listens; it serves where only some lane has no thread."""
-    others = max(len(os.sched_getaffinity(0)) // 2, 1) + 5
+    others = max(len(os.sched_getaffinity(0)) // 2, 1) + 6
     why = b"rtspd: files and address are right; a thread, a descriptor or the output failed\n"
     ends, serves = (False, False, 4, b"rtspd: read or write failed\n" + why), (True, True, 0, b"")
     for number in range(1, others + LANES + 1):
@@ -58,8 +58,9 @@ def every_thread_refused_in_turn(checks: Checks) -> None:
             checks.that(f"{where}: it was asked for", asked >= number, asked)
     whole = without_threads(checks, others + LANES + 1, FOR_EVER)
     checks.same("threads that are made, and how it serves with all", (others + LANES, serves), whole)
-    _, came = without_threads(checks, 1, 1, journal_files='"."')
-    checks.same("without that which writes the journal", ends, came)
+    for number, which in (1, "which writes the journal"), (2, "which begins behind it"):
+        _, came = without_threads(checks, number, number, journal_files='"."')
+        checks.same(f"without that {which}", ends, came)
 
 
 def is_sent_if_answered(checks: Checks, server: Server, faults: Faults, number: int) -> bool:

@@ -225,9 +225,10 @@ impl Server {
             connections: _,
         } = self;
         let written = start.others.pop();
-        start.is_short = !(start_readers(rt, &parts.shared, readers)
+        // The scribe's first, since a stop waits for it where it was asked for.
+        start.is_short = !(parts.start_scribe(rt, scribe, written)
+            && start_readers(rt, &parts.shared, readers)
             && start_errands(rt, alloc, &parts.shared, start.growth.errands())
-            && parts.start_scribe(rt, scribe, written)
             && start_users(rt, users, &parts.shared));
         let beside = Beside {
             signals: OwnStatus::open(rt).ok(),
