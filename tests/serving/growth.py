@@ -139,7 +139,7 @@ def living(server: Growing, player: Player, talk: Connection) -> List[int]:
     return statuses
 
 
-@serving_test(limit=60)
+@serving_test(limit=90)
 def a_withdrawn_film_plays_on(checks: Checks) -> None:
     """For those who have it: they play, pause, seek, set a further track up and tear down; whoever comes finds nothing."""
     server = Growing(checks, TONE, SHORT)
@@ -172,7 +172,7 @@ def a_withdrawn_film_plays_on(checks: Checks) -> None:
         plays_whole(checks, server, TONE, Way.TCP)
 
 
-@serving_test(limit=60)
+@serving_test(limit=90)
 def a_replaced_film_is_served_anew(checks: Checks) -> None:
     """Whoever comes gets the new one, by other files or by other keys; who has the old one gets its octets to the end."""
     server = Growing(checks, TONE)
@@ -200,7 +200,7 @@ def a_replaced_film_is_served_anew(checks: Checks) -> None:
         checks.same("one presentation is offered", 1, server.figure("rtspd_presentations"))
 
 
-@serving_test(limit=60)
+@serving_test(limit=120)
 def a_replaced_film_stays_replaced(checks: Checks) -> None:
     """Once the old one's files are closed nothing brings it back: after one more change it is the new one, and so it is
     where it was taken out meanwhile."""
@@ -361,7 +361,7 @@ def a_configuration_that_changes_for_minutes(checks: Checks) -> None:
     changes(checks, 290, 12)
 
 
-@serving_test(limit=120, is_long=True)
+@serving_test(limit=240, is_long=True)
 def many_changes_leave_nothing(checks: Checks) -> None:
     """A film that comes and goes takes no more descriptors and no more memory, however often it does."""
     server = Growing(checks, TONE)
