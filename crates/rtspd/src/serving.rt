@@ -10,13 +10,18 @@ use std::io::{Eprint, Write};
 use std::net::{Ipv4Addr, Net, SocketAddr, SocketAddrV4, TcpListener, TcpStream};
 use std::os::fd::{AsRawFd, RawFd};
 use std::random::RandomSource;
-use std::rt;
 use std::rt::Files;
 use std::sync::Wait;
 use std::thread::Threads;
+use std::time::Duration;
+use std::{rt, thread};
 
 // The greatest number of a standard stream.
 const STANDARD_ERROR: RawFd = 2;
+
+// For so long, in milliseconds, threads that nobody joins may still have the listener once a server has failed.
+// Why it did is looked for after that.
+const SETTLES: u64 = 200;
 
 // The port that is listened on where no address is named, on 127.0.0.1.
 const PORT: u16 = 8_554;
@@ -150,6 +155,9 @@ where
     };
     match server.run(rt, announcer, errors) {
         Ok(end) => end_of(end),
-        Err(fault) => Err(fault_exit(fault)),
+        Err(fault) => {
+            thread::sleep(rt, Duration::from_millis(SETTLES));
+            Err(fault_exit(fault))
+        }
     }
 }
