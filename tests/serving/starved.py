@@ -43,7 +43,7 @@ def without_threads(checks: Checks, first: int, last: int, **more: object) -> Tu
     return faults.asked("thread"), (b"listening" in said, is_served, running.returncode, LOGGED.sub(b"", complaint))
 
 
-@serving_test(limit=60)
+@serving_test(limit=120)
 def every_thread_refused_in_turn(checks: Checks) -> None:
     """Without a pacer, the sweeper, the watcher, those of the log, the figures, the pool and errands, or all lanes the program
     ends, and never says that it listens; it serves where only some lane has no thread."""
