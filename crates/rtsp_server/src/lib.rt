@@ -13,8 +13,8 @@
 //! a lane, `service` and `tools` are what it answers with, `lane_lines` what it holds of the log, and
 //! `recorded` whether it has to look at the journal's room. `sweeper` and `stopping` are the threads
 //! that end sessions and the server, and `figures` is what is counted and shown. `readers`,
-//! `writing_journal` and `growing_users` have the threads that a disk may hold up, which are then left
-//! behind. `growing` takes a changed configuration up, and `growth_reasons` tells why it is refused. What
+//! `writing_journal`, `growing_users` and `errands` have the threads that a disk may hold up, which are
+//! then left behind. `growing` takes a changed configuration up, and `growth_reasons` tells why it is refused. What
 //! they go by is in rtsp_threads, who is to be visited in rtsp_roster, and how one player is kept from
 //! harming the others in rtsp_shares.
 
