@@ -281,7 +281,7 @@ def a_bad_configuration_changes_nothing(checks: Checks) -> None:
         refused(checks, server, "a file that is too short", both + "\n", rb"c\.raw: it has 23840 bytes, .*")
         server.put_media(SHORT)
         refused(checks, server, "another uplink", server.text_of(film, SHORT, uplink=10**7), rb":4: server\.uplink is another.*")
-        refused(checks, server, "access_log", server.text_of(film, SHORT, access_log="true"), rb"server\.access_log is another.*")
+        refused(checks, server, "another number of threads", server.text_of(film, SHORT, workers=3), rb"server\.workers is another.*")
         refused(checks, server, "a name twice", server.text_of(film, film), rb"name.*")
         many = [THIRD._replace(name=f"third-{number}") for number in range(257)]
         refused(checks, server, "too many", server.text_of(film, *many), rb"has 258 tables.*")

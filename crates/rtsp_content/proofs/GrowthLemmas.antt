@@ -32,8 +32,6 @@ extends-chain one two three x y = record {
     sessions = y.server.sessions ∙ x.server.sessions;
     journal = y.server.journal ∙ x.server.journal;
     workers = y.server.workers ∙ x.server.workers;
-    sessions_per_address = y.server.sessions_per_address ∙ x.server.sessions_per_address;
-    connections_per_address = y.server.connections_per_address ∙ x.server.connections_per_address;
   };
   presentations = front-chain one.presentations two.presentations three.presentations x.presentations y.presentations;
 }

@@ -13,8 +13,6 @@ pub record IsFixed (old new : Server) : Type 0 where
   pub sessions : new.sessions ≡ old.sessions
   pub journal : new.journal ≡ old.journal
   pub workers : new.workers ≡ old.workers
-  pub sessions_per_address : new.sessions_per_address ≡ old.sessions_per_address
-  pub connections_per_address : new.connections_per_address ≡ old.connections_per_address
 
 -- some stand behind the first
 abbrev pub IsFront : List PresentationValue → List PresentationValue → Type 0

@@ -130,10 +130,6 @@ fn changed_key(old: &Server, new: &Server) -> Option<&'static str>
         Some("journal")
     } else if new.workers != old.workers {
         Some("workers")
-    } else if new.sessions_per_address != old.sessions_per_address {
-        Some("sessions_per_address")
-    } else if new.connections_per_address != old.connections_per_address {
-        Some("connections_per_address")
     } else {
         None
     }

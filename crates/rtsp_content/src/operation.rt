@@ -144,20 +144,14 @@ impl Operation {
         self.watch
     }
 
-    /// The key that is another in this configuration, if one is. All of them stay as long as a server runs.
+    /// The key of those that stay as long as a server runs which is another in this configuration, if one is.
     pub fn changed_key(&self, wanted: &Operation) -> Option<&'static str> {
         if !are_same_files(self.journal.as_ref(), wanted.journal.as_ref()) {
             Some("journal_files")
-        } else if wanted.access_log != self.access_log {
-            Some("access_log")
         } else if wanted.status != self.status {
             Some("status")
         } else if wanted.proxy != self.proxy {
             Some("proxy")
-        } else if wanted.status_open != self.status_open {
-            Some("status_open")
-        } else if wanted.drain != self.drain {
-            Some("drain")
         } else if !are_same_paths(self.users.as_deref(), wanted.users.as_deref()) {
             Some("users")
         } else if wanted.watch != self.watch {

@@ -109,23 +109,31 @@ impl Explainer<'_> {
             return Ok(0);
         };
         for (number, item) in tracks.iter().enumerate() {
+            let before = tracks.get(..number).unwrap_or(&[]);
             let place = Place::Track(index.saturating_add(1), number.saturating_add(1));
-            let Some(track) = item.as_table() else {
-                self.no_table(place, item)?;
-                continue;
-            };
-            self.keys(
-                track,
-                track_keys(),
-                place,
-                tracks.get(..number).unwrap_or(&[]),
-            )?;
-            self.unknown(track, track_keys(), "", place)?;
-            if let Some(server) = server {
-                explain_rate(self, server, table, track, place)?;
-            }
+            self.track(server, table, item, place, before)?;
         }
         Ok(tracks.len())
+    }
+
+    // One of the tracks of a presentation, of which those before it stand in its list.
+    fn track(
+        &mut self,
+        server: Option<&Table>,
+        presentation: &Table,
+        item: &Value,
+        place: Place,
+        before: &[Value],
+    ) -> Result<(), AllocError> {
+        let Some(track) = item.as_table() else {
+            return self.no_table(place, item);
+        };
+        self.keys(track, track_keys(), place, before)?;
+        self.unknown(track, track_keys(), "", place)?;
+        match server {
+            Some(server) => explain_rate(self, server, presentation, track, place),
+            None => Ok(()),
+        }
     }
 
     fn no_table(&mut self, place: Place, item: &Value) -> Result<(), AllocError> {
@@ -144,25 +152,41 @@ impl Explainer<'_> {
         before: &[Value],
     ) -> Result<(), AllocError> {
         for key in keys {
-            let Some(value) = table.get(key.name) else {
-                if key.presence == Presence::Required {
-                    let wanted = key.rule.wanted(self.alloc, key.what)?;
-                    let why = format!(in self.alloc; "it has to be {wanted}")?;
-                    self.missing(place, key.name, why.as_str())?;
-                }
-                continue;
-            };
-            if !is_read(table, key.name) {
-                let why = "isn't read, since there is no packets";
-                self.note(place, key.name, why)?;
-                continue;
-            }
-            match key.rule.fault(self.alloc, value, key.what)? {
-                Some(why) => self.fault(place, key.name, why.as_str())?,
-                None => self.together(table, key.name, place, before)?,
+            match table.get(key.name) {
+                Some(value) => self.key(table, key, value, place, before)?,
+                None => self.absent(key, place)?,
             }
         }
         Ok(())
+    }
+
+    // A key that isn't there.
+    fn absent(&mut self, key: &Key, place: Place) -> Result<(), AllocError> {
+        if key.presence != Presence::Required {
+            return Ok(());
+        }
+        let wanted = key.rule.wanted(self.alloc, key.what)?;
+        let why = format!(in self.alloc; "it has to be {wanted}")?;
+        self.missing(place, key.name, why.as_str())
+    }
+
+    // A key that is there.
+    fn key(
+        &mut self,
+        table: &Table,
+        key: &Key,
+        value: &Value,
+        place: Place,
+        before: &[Value],
+    ) -> Result<(), AllocError> {
+        if !is_read(table, key.name) {
+            let why = "isn't read, since there is no packets";
+            return self.note(place, key.name, why);
+        }
+        match key.rule.fault(self.alloc, value, key.what)? {
+            Some(why) => self.fault(place, key.name, why.as_str()),
+            None => self.together(table, key.name, place, before),
+        }
     }
 
     // The tables of a list, of which there are 1 to `most`.

@@ -37,18 +37,16 @@ impl<'a> Explainer<'a> {
     // Where a key stands, or the head of its table where it isn't there: the path, the line if it is
     // known, the key.
     fn at(&self, place: Place, key: &str, is_there: bool) -> Result<String, AllocError> {
-        let line = line_of(self.text, place, if is_there { key } else { "" });
-        let mut at = String::from_str(self.alloc, self.path)?;
-        at.push(':')?;
-        if let Some(line) = line {
-            at.push_str(format!(in self.alloc; "{line}:")?.as_str())?;
+        let (alloc, path) = (self.alloc, self.path);
+        let point = if key.is_empty() || place == Place::Document {
+            ""
+        } else {
+            "."
+        };
+        match line_of(self.text, place, if is_there { key } else { "" }) {
+            Some(line) => format!(in alloc; "{path}:{line}: {place}{point}{key}"),
+            None => format!(in alloc; "{path}: {place}{point}{key}"),
         }
-        at.push_str(format!(in self.alloc; " {place}")?.as_str())?;
-        if !key.is_empty() && place != Place::Document {
-            at.push('.')?;
-        }
-        at.push_str(key)?;
-        Ok(at)
     }
 
     /// A fault of a key that is there.

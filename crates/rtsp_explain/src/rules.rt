@@ -81,14 +81,8 @@ impl Rule {
             Rule::Flag => format!(in alloc; "true or false: {what}"),
             Rule::OneOf(..) | Rule::Text(..) | Rule::Any => String::from_str(alloc, what),
             Rule::Addresses(most) => format!(in alloc; "1 to {most} IPv4 addresses ({what})"),
-            Rule::Names(most) => {
-                let most = grouped(alloc, i64::try_from(most).unwrap_or(i64::MAX))?;
-                format!(in alloc; "0 to {most} names ({what})")
-            }
-            Rule::Starts(most) => {
-                let most = grouped(alloc, i64::try_from(most).unwrap_or(i64::MAX))?;
-                format!(in alloc; "1 to {most} ascending numbers, the first 0 ({what})")
-            }
+            Rule::Names(most) => up_to(alloc, "0", most, "names", what),
+            Rule::Starts(most) => up_to(alloc, "1", most, "ascending numbers, the first 0", what),
         }
     }
 
@@ -100,80 +94,145 @@ impl Rule {
         what: &str,
     ) -> Result<Option<String>, AllocError> {
         let wanted = self.wanted(alloc, what)?;
+        let wanted = wanted.as_str();
         match self {
-            Rule::Number(least, most) | Rule::Even(least, most) => {
-                let Some(number) = value.as_integer() else {
-                    return of_kind(alloc, value, "a number: ", wanted.as_str());
-                };
-                if number < least || most < number {
-                    let number = grouped(alloc, number)?;
-                    let why = format!(in alloc; "is {number}; it has to be {wanted}")?;
-                    return Ok(Some(why));
-                }
-                if let Rule::Even(..) = self
-                    && number % 2 != 0
-                {
-                    let why = format!(in alloc; "is {number}; it has to be even")?;
-                    return Ok(Some(why));
-                }
-                Ok(None)
-            }
-            Rule::Flag => match value.as_bool() {
-                Some(_) => Ok(None),
-                None => of_kind(alloc, value, "", wanted.as_str()),
-            },
-            Rule::OneOf(..) | Rule::Text(..) | Rule::Any => {
-                let Some(text) = value.as_str() else {
-                    return of_kind(alloc, value, "a text: ", wanted.as_str());
-                };
-                self.text_fault(alloc, text, wanted.as_str())
-            }
-            Rule::Addresses(most) => {
-                let Some(items) = value.as_array() else {
-                    return of_kind(alloc, value, "", wanted.as_str());
-                };
-                addresses_fault(alloc, items.as_slice(), most, wanted.as_str())
-            }
-            Rule::Names(most) => {
-                let Some(items) = value.as_array() else {
-                    return of_kind(alloc, value, "", wanted.as_str());
-                };
-                names_fault(alloc, items.as_slice(), most, wanted.as_str())
-            }
-            Rule::Starts(most) => {
-                let Some(items) = value.as_array() else {
-                    return of_kind(alloc, value, "", wanted.as_str());
-                };
-                starts_fault(alloc, items.as_slice(), most, wanted.as_str())
+            Rule::Number(least, most) => number_fault(alloc, value, least, most, wanted),
+            Rule::Even(least, most) => even_fault(alloc, value, least, most, wanted),
+            Rule::Flag => flag_fault(alloc, value, wanted),
+            Rule::OneOf(one, other) => one_of_fault(alloc, value, one, other, wanted),
+            Rule::Text(class, most) => text_fault(alloc, value, class, most, wanted),
+            Rule::Any => any_fault(alloc, value, wanted),
+            Rule::Addresses(_) | Rule::Names(_) | Rule::Starts(_) => {
+                self.list_fault(alloc, value, wanted)
             }
         }
     }
 
-    // Why a text is refused, if it is.
-    fn text_fault(
+    // Why a list is refused, if it is.
+    fn list_fault(
         self,
         alloc: Global,
-        text: &str,
+        value: &Value,
         wanted: &str,
     ) -> Result<Option<String>, AllocError> {
-        let is_right = match self {
-            Rule::OneOf(one, other) => text == one || text == other,
-            Rule::Text(class, most) => {
-                if most < text.len() {
-                    let count = grouped(alloc, i64::try_from(text.len()).unwrap_or(i64::MAX))?;
-                    let why = format!(in alloc; "has {count} bytes; it has to be {wanted}")?;
-                    return Ok(Some(why));
-                }
-                !text.is_empty() && text.as_bytes().iter().all(|byte| class.has(*byte))
-            }
-            _ => true,
+        let Some(items) = value.as_array() else {
+            return of_kind(alloc, value, "", wanted);
         };
-        if is_right {
-            return Ok(None);
+        let items = items.as_slice();
+        match self {
+            Rule::Addresses(most) => addresses_fault(alloc, items, most, wanted),
+            Rule::Names(most) => names_fault(alloc, items, most, wanted),
+            Rule::Starts(most) => starts_fault(alloc, items, most, wanted),
+            _ => Ok(None),
         }
-        let why = format!(in alloc; "is {text:?}; it has to be {wanted}")?;
-        Ok(Some(why))
     }
+}
+
+// Why a number is refused, if it is.
+fn number_fault(
+    alloc: Global,
+    value: &Value,
+    least: i64,
+    most: i64,
+    wanted: &str,
+) -> Result<Option<String>, AllocError> {
+    let Some(number) = value.as_integer() else {
+        return of_kind(alloc, value, "a number: ", wanted);
+    };
+    if least <= number && number <= most {
+        return Ok(None);
+    }
+    let number = grouped(alloc, number)?;
+    let why = format!(in alloc; "is {number}; it has to be {wanted}")?;
+    Ok(Some(why))
+}
+
+// Why a number that has to be even is refused, if it is.
+fn even_fault(
+    alloc: Global,
+    value: &Value,
+    least: i64,
+    most: i64,
+    wanted: &str,
+) -> Result<Option<String>, AllocError> {
+    match value.as_integer() {
+        Some(number) if least <= number && number <= most && number % 2 != 0 => {
+            let why = format!(in alloc; "is {number}; it has to be even")?;
+            Ok(Some(why))
+        }
+        _ => number_fault(alloc, value, least, most, wanted),
+    }
+}
+
+// Why it is neither true nor false, if it isn't.
+fn flag_fault(alloc: Global, value: &Value, wanted: &str) -> Result<Option<String>, AllocError> {
+    match value.as_bool() {
+        Some(_) => Ok(None),
+        None => of_kind(alloc, value, "", wanted),
+    }
+}
+
+// Why it is no text, if it isn't.
+fn any_fault(alloc: Global, value: &Value, wanted: &str) -> Result<Option<String>, AllocError> {
+    match value.as_str() {
+        Some(_) => Ok(None),
+        None => of_kind(alloc, value, "a text: ", wanted),
+    }
+}
+
+// Why it is neither of two words, if it isn't.
+fn one_of_fault(
+    alloc: Global,
+    value: &Value,
+    one: &str,
+    other: &str,
+    wanted: &str,
+) -> Result<Option<String>, AllocError> {
+    match value.as_str() {
+        Some(text) if text == one || text == other => Ok(None),
+        Some(text) => other_text(alloc, text, wanted),
+        None => of_kind(alloc, value, "a text: ", wanted),
+    }
+}
+
+// Why a text is refused, if it is.
+fn text_fault(
+    alloc: Global,
+    value: &Value,
+    class: Class,
+    most: usize,
+    wanted: &str,
+) -> Result<Option<String>, AllocError> {
+    let Some(text) = value.as_str() else {
+        return of_kind(alloc, value, "a text: ", wanted);
+    };
+    if most < text.len() {
+        let count = grouped(alloc, i64::try_from(text.len()).unwrap_or(i64::MAX))?;
+        let why = format!(in alloc; "has {count} bytes; it has to be {wanted}")?;
+        return Ok(Some(why));
+    }
+    if !text.is_empty() && text.as_bytes().iter().all(|byte| class.has(*byte)) {
+        return Ok(None);
+    }
+    other_text(alloc, text, wanted)
+}
+
+// The fault of another text than is wanted.
+fn other_text(alloc: Global, text: &str, wanted: &str) -> Result<Option<String>, AllocError> {
+    let why = format!(in alloc; "is {text:?}; it has to be {wanted}")?;
+    Ok(Some(why))
+}
+
+// How many of what a list has to have, and what it is for.
+fn up_to(
+    alloc: Global,
+    least: &str,
+    most: usize,
+    items: &str,
+    what: &str,
+) -> Result<String, AllocError> {
+    let most = grouped(alloc, i64::try_from(most).unwrap_or(i64::MAX))?;
+    format!(in alloc; "{least} to {most} {items} ({what})")
 }
 
 // The fault of a value of another kind than is wanted.

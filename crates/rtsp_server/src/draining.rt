@@ -15,7 +15,8 @@ const NEVER: u64 = u64::MAX;
 /// after so many seconds, it ends.
 #[derive(Drop)]
 pub(crate) struct Draining {
-    seconds: u64,
+    // How many by the configuration.
+    seconds: AtomicU64,
     // Up to when sessions are waited for, in milliseconds since the server began.
     until: AtomicU64,
 }
@@ -24,9 +25,14 @@ impl Draining {
     /// Nobody has asked for it.
     pub(crate) fn new(seconds: u64) -> Draining {
         Draining {
-            seconds,
+            seconds: AtomicU64::new(seconds),
             until: AtomicU64::new(NEVER),
         }
+    }
+
+    /// It is for so many seconds, where it is asked for from now on.
+    pub(crate) fn allow(&self, seconds: u64) {
+        self.seconds.store(seconds, Ordering::SeqCst);
     }
 
     /// Whether it was asked for.
@@ -41,18 +47,24 @@ impl Draining {
         }
     }
 
-    // It is asked for at this moment. Whether it wasn't before.
-    fn begin(&self, now: u64) -> bool {
-        let until = now.saturating_add(self.seconds.saturating_mul(1_000));
-        self.until.fetch_min(until, Ordering::SeqCst) == NEVER
+    // It is asked for at this moment. For how many seconds it is, unless it was before.
+    fn begin(&self, now: u64) -> Option<u64> {
+        let seconds = self.seconds.load(Ordering::SeqCst);
+        let until = now.saturating_add(seconds.saturating_mul(1_000));
+        match self
+            .until
+            .compare_exchange(NEVER, until, Ordering::SeqCst, Ordering::SeqCst)
+        {
+            Ok(_) => Some(seconds),
+            Err(_) => None,
+        }
     }
 }
 
 impl Shared {
     /// No more connections are let in from now on. Asked for again, it goes on as it was.
     pub(crate) fn begin_drain<R: Wait + rt::Clock>(&self, rt: &R) {
-        if self.draining.begin(self.now(rt)) {
-            let seconds = self.draining.seconds;
+        if let Some(seconds) = self.draining.begin(self.now(rt)) {
             self.log.event(rt, Event::Draining { seconds });
         }
     }

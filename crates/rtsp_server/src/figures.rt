@@ -55,9 +55,9 @@ pub(crate) struct AnswerCounter<'a, R> {
     pub(crate) service: Service<'a, R>,
     pub(crate) asker: Asker,
     heard: &'a Cell<Channels>,
-    // The moment of the log's lines, in milliseconds since 1970: the clock is read once for the
-    // requests of a piece, which are answered within some milliseconds.
-    moment: u64,
+    // The moment of the log's lines, in milliseconds since 1970, where requests have any: the clock is read
+    // once for the requests of a piece, which are answered within some milliseconds.
+    moment: Option<u64>,
     // How many SETUPs may have opened a session.
     setups: Cell<u64>,
     is_unavailable: Cell<bool>,
@@ -69,10 +69,10 @@ impl<'a, R: rt::Clock> AnswerCounter<'a, R> {
         asker: Asker,
         heard: &'a Cell<Channels>,
     ) -> AnswerCounter<'a, R> {
-        let moment = if service.shared.log.logs_access() {
-            moment(service.rt)
+        let moment = if service.shared.logs_access() {
+            Some(moment(service.rt))
         } else {
-            0
+            None
         };
         AnswerCounter {
             service: *service,
@@ -155,7 +155,7 @@ impl<R: Wait + rt::Clock> AnswerCounter<'_, R> {
         if told.status == OUT_OF_MEMORY {
             log.event(rt, Event::OutOfMemory);
         }
-        if log.logs_access() {
+        if let Some(moment) = self.moment {
             let access = Access {
                 peer: self.asker.peer,
                 conn: self.asker.conn,
@@ -164,7 +164,7 @@ impl<R: Wait + rt::Clock> AnswerCounter<'_, R> {
                 status: told.status,
                 session: named(rt, &shared.audience, told),
             };
-            lines.add(rt, log, self.moment, access);
+            lines.add(rt, log, moment, access);
         }
         if let Some(life) = told.ended {
             shared.tell_ended(rt, life.session, EndCause::Teardown);
@@ -297,6 +297,10 @@ impl<R: Wait + Net + rt::Clock> Source for Figures<'_, R> {
 
     fn sessions(&self, alloc: Global) -> Result<Vec<u8>, AllocError> {
         sessions_text(self.rt, alloc, self.shared)
+    }
+
+    fn is_open(&self) -> bool {
+        self.shared.is_status_open()
     }
 
     fn drain(&mut self) {

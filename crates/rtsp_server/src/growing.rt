@@ -2,6 +2,7 @@
 
 use crate::descriptors::Descriptors;
 use crate::errands::{Errand, Outcome};
+use crate::following::FollowedKeys;
 use crate::growth_reasons::reason;
 use crate::hiding::share_allowed;
 use crate::shared::Shared;
@@ -73,14 +74,22 @@ struct Replaced {
     content: Arc<Content>,
 }
 
+// What of a changed configuration is no content.
+#[derive(Clone, Copy)]
+struct Beside {
+    // How many presentations it offers.
+    offered: u64,
+    keys: FollowedKeys,
+}
+
 // What a changed configuration wants, but for its media.
 #[derive(Drop)]
 struct Wanted {
     old: Arc<Content>,
     table: Table,
     allowed: Option<Arc<Allowed>>,
-    // How many presentations it offers. Nothing where files are closed alone.
-    offered: Option<u64>,
+    // Nothing where files are closed alone.
+    beside: Option<Beside>,
 }
 
 // A content that is served once all threads that it needs run.
@@ -90,7 +99,7 @@ struct Ready {
     content: Arc<Content>,
     // For how many connections it leaves descriptors.
     connections: u64,
-    offered: Option<u64>,
+    beside: Option<Beside>,
 }
 
 // How far a change is.
@@ -279,7 +288,10 @@ impl Growth {
             old,
             table,
             allowed,
-            offered: Some(wanted.presentations().len() as u64),
+            beside: Some(Beside {
+                offered: wanted.presentations().len() as u64,
+                keys: FollowedKeys::of(wanted.server(), &operation),
+            }),
         })
     }
 
@@ -332,7 +344,7 @@ impl Growth {
             old,
             table,
             allowed,
-            offered,
+            beside,
         } = wanted;
         let media = media.finish(self.alloc)?;
         let connections = match self.descriptors.connections(media.open_files()) {
@@ -349,7 +361,7 @@ impl Growth {
             old,
             content: shared_content(self.alloc, content)?,
             connections,
-            offered,
+            beside,
         };
         if readers.is_empty() {
             return Ok(self.switch(rt, shared, ready, now));
@@ -370,7 +382,7 @@ impl Growth {
             old,
             content,
             connections,
-            offered,
+            beside,
         } = ready;
         let places = content.table.presentations().len() as u64;
         shared.gate.allow(connections);
@@ -381,13 +393,12 @@ impl Growth {
             at: now,
             content: old,
         });
-        if let Some(presentations) = offered {
-            let number = shared
-                .content_counts
-                .take(now / 1_000, presentations, places);
+        if let Some(Beside { offered, keys }) = beside {
+            shared.follow(rt, keys);
+            let number = shared.content_counts.take(now / 1_000, offered, places);
             let event = Event::Taken {
                 number,
-                presentations,
+                presentations: offered,
             };
             shared.log.event(rt, event);
             self.text = Vec::new(self.alloc);
@@ -433,7 +444,7 @@ impl Growth {
             old,
             table,
             allowed,
-            offered: None,
+            beside: None,
         };
         self.assemble(rt, shared, wanted, media, now)
     }

@@ -36,6 +36,7 @@ mod end_note;
 mod errands;
 mod fault;
 mod figures;
+mod following;
 mod foresight;
 mod further;
 mod growing;

@@ -261,8 +261,7 @@ fn open_status<R: Net + rt::Clock + RandomSource>(
     match text.parse::<SocketAddrV4>() {
         Ok(address) => {
             let address = SocketAddr::V4(address);
-            let is_open = operation.status_open();
-            Ok(Some(StatusServer::open(rt, alloc, address, is_open)?))
+            Ok(Some(StatusServer::open(rt, alloc, address)?))
         }
         Err(_) => Err(ServerFault::DeviceFailed),
     }

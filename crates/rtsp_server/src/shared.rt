@@ -7,6 +7,7 @@ use crate::draining::Draining;
 use crate::end_lines::EndLines;
 use crate::end_note::EndNote;
 use crate::errands::Errands;
+use crate::following::Switches;
 use crate::opening::Opening;
 use crate::owners::Owners;
 use crate::stopping::StopTimes;
@@ -25,7 +26,7 @@ use rtsp_sockets::{
 use rtsp_status::Halt;
 use rtsp_threads::{
     FEW_LINES, Gate, LAST_ROOM, LOG_LINES, Refused, ScribeBell, StopBell, ask_for_room, end_place,
-    make_room,
+    make_room, open_shares,
 };
 use std::alloc::{AllocError, Global};
 use std::net::Ipv4Addr;
@@ -62,7 +63,7 @@ pub(crate) struct Shared {
     pub(crate) users: Option<CurrentUsers>,
     /// Which of them each session is of.
     pub(crate) owners: Owners,
-    /// What addresses have of the sessions, where each has a share of them.
+    /// What addresses have of the sessions, where each has a share of them, or may come to have one.
     pub(crate) session_shares: Option<Mutex<ShareTable>>,
     pub(crate) outlets: Outlets,
     pub(crate) lent: Lent,
@@ -86,6 +87,7 @@ pub(crate) struct Shared {
     pub(crate) audience: Audience,
     /// What is told to whoever runs the server.
     pub(crate) log: Log,
+    pub(crate) switches: Switches,
     pub(crate) end_lines: EndLines,
     /// From when on moments are counted, and when that was, in milliseconds since 1970.
     pub(crate) begun: Instant,
@@ -123,6 +125,7 @@ impl Drop for Shared {
             counters: _counters,
             audience: _audience,
             log: _log,
+            switches: _switches,
             end_lines: _end_lines,
             begun: _,
             started: _,
@@ -136,25 +139,26 @@ impl Drop for Shared {
     }
 }
 
-// What addresses have of the sessions, where each has at most so many. There is room for all that live
-// and for one more of each lane, and for as many whose end nobody has told yet.
-fn session_shares(alloc: Global, numbers: Server) -> Result<Option<Mutex<ShareTable>>, AllocError> {
-    let Some(share) = numbers.sessions_per_address else {
-        return Ok(None);
-    };
+// What addresses have of the sessions, where each has at most so many, or may come to. There is room for all
+// that live and for one more of each lane, and for as many whose end nobody has told yet.
+fn session_shares(
+    alloc: Global,
+    numbers: Server,
+    operation: &Operation,
+) -> Result<Option<Mutex<ShareTable>>, AllocError> {
     let most = 2 * usize::from(numbers.sessions) + usize::from(numbers.workers);
-    let shares = ShareTable::new(alloc, usize::from(share), most)?;
-    Ok(Some(Mutex::new(shares)))
+    open_shares(alloc, numbers.sessions_per_address, operation.watch(), most)
 }
 
-// The log, in which lines of requests wait in batches.
-fn open_log(alloc: Global, logs_access: bool) -> Result<Log, AllocError> {
-    let room = if logs_access {
+// The log, in which lines of requests wait in batches, where there are such or may come to be.
+fn open_log(alloc: Global, operation: &Operation) -> Result<Log, AllocError> {
+    let may_log_access = operation.access_log() || operation.watch();
+    let room = if may_log_access {
         LOG_LINES / BATCH_LINES
     } else {
         FEW_LINES
     };
-    Log::new(alloc, room, logs_access)
+    Log::new(alloc, room, may_log_access)
 }
 
 // The bell of the thread that writes the journal to files, where one does.
@@ -185,9 +189,10 @@ impl Shared {
         let lent = Lent::open(alloc)?;
         let ports = PortTable::open(alloc, numbers.first_port, numbers.pairs)?;
         let bells = Bells::new(alloc, pacers, numbers.sessions)?;
-        let gate = Gate::new(alloc, connections, numbers.connections_per_address)?;
+        let share = numbers.connections_per_address;
+        let gate = Gate::new(alloc, connections, share, operation.watch())?;
         let balancers = Balancers::open(alloc, operation.proxy())?;
-        let session_shares = session_shares(alloc, numbers)?;
+        let session_shares = session_shares(alloc, numbers, operation)?;
         let presentations = content.table.presentations().len();
         let places = if operation.watch() {
             MAX_PLACES
@@ -195,7 +200,7 @@ impl Shared {
             presentations
         };
         let audience = Audience::open(alloc, places)?;
-        let log = open_log(alloc, operation.access_log())?;
+        let log = open_log(alloc, operation)?;
         Ok(Shared {
             listener,
             gate,
@@ -216,6 +221,7 @@ impl Shared {
             counters: Counters::new(),
             audience,
             log,
+            switches: Switches::new(operation),
             end_lines: EndLines::new(alloc),
             begun,
             started: moment(rt),

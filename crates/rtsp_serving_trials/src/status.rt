@@ -41,6 +41,10 @@ impl Source for SomeFigures {
         Ok(text)
     }
 
+    fn is_open(&self) -> bool {
+        false
+    }
+
     fn drain(&mut self) {}
 
     fn end(&mut self, session: SessionMeant) -> bool {
@@ -123,7 +127,7 @@ fn first_wrong<R: Net<Stream = TcpStream> + AllocGlobal>(
 #[test]
 fn each_request_has_its_answer(rt: HostRuntime) -> Result<(), Fail> {
     let any = SocketAddr::V4(SocketAddrV4::new(Ipv4Addr::LOCALHOST, 0));
-    let mut server = StatusServer::open(&rt, rt.alloc(), any, false)?;
+    let mut server = StatusServer::open(&rt, rt.alloc(), any)?;
     let address = server.address()?;
     let halt = Halt::new();
     let (_, wrong) = thread::join(

@@ -12,7 +12,7 @@ use rtsp_sockets::{PortBinder, PortTable};
 use rtsp_threads::{
     FileRequests, Gate, LaneShares, OwnStatus, Refused, RoomLooks, RoomWait, Scribe, ScribeBell,
     StopAsked, StopBell, ask_for_room, close_book, descriptor_limit, end_expired, end_next_expired,
-    end_place, give_back_ended, make_room, take_leave,
+    end_place, give_back_ended, make_room, open_shares, set_share, take_leave,
 };
 use std::alloc::{AllocError, Global};
 use std::fs::{self, File};
@@ -47,6 +47,16 @@ fn passes<R: Wait>(rt: &R, gate: &Gate, step: &str) -> bool {
             true
         }
         "named" => gate.name(rt, address) == Ok(()),
+        // So many are let in of each address from now on, or any number.
+        "of each" => {
+            let share = if peer == "?" {
+                None
+            } else {
+                u16::try_from(address).ok()
+            };
+            gate.set_share(rt, share);
+            true
+        }
         "unplaced" => gate.name(rt, address) == Err(Refused::Share),
         _ => name_of(gate.enter(rt, place)) == wanted,
     }
@@ -83,7 +93,7 @@ fn lets_five_in<R: Wait>(rt: &R, gate: &Gate) -> bool {
 
 #[test]
 fn a_gate_lets_so_many_in(rt: HostRuntime) -> Result<(), AllocError> {
-    let gate = Gate::new(rt.alloc(), Some(5), Some(2))?;
+    let gate = Gate::new(rt.alloc(), Some(5), Some(2), false)?;
     gate.allow(3);
     assert!(rt; lets_five_in(&rt, &gate));
     Ok(())
@@ -95,10 +105,23 @@ const NAMED: &str =
 
 #[test]
 fn a_gate_names_whom_it_let_in(rt: HostRuntime) -> Result<(), AllocError> {
-    let gate = Gate::new(rt.alloc(), None, Some(2))?;
+    let gate = Gate::new(rt.alloc(), None, Some(2), false)?;
     gate.allow(3);
     assert!(rt; ends_shut(&rt, &gate, NAMED) == Some(false));
     assert!(rt; gate.open_now() == 3);
+    Ok(())
+}
+
+// Who is inside stays where its address comes to have more than its share, and is counted where it had none.
+const CHANGED: &str =
+    "7 enters, 7 enters, 7 enters, 2 of each, 7 share, 8 enters, 8 enters, 8 share, 7 leaves, \
+    7 share, 7 leaves, 7 enters, 7 share, 3 of each, 7 enters, 7 share, ? of each, 7 enters, 7 enters";
+
+#[test]
+fn a_gate_whose_share_changes(rt: HostRuntime) -> Result<(), AllocError> {
+    let gate = Gate::new(rt.alloc(), None, None, true)?;
+    assert!(rt; ends_shut(&rt, &gate, CHANGED) == Some(false));
+    assert!(rt; gate.open_now() == 7);
     Ok(())
 }
 
@@ -183,6 +206,31 @@ fn left_of_three<R: Wait + AllocGlobal>(rt: &R) -> Option<usize> {
 #[test]
 fn what_has_ended_is_given_back(rt: HostRuntime) {
     assert!(rt; left_of_three(&rt) == Some(1));
+}
+
+// Whether an address has what it opened while there was no share, once there is one, and what ended then is
+// given back only from then on.
+fn is_counted_from_before<R: Wait + AllocGlobal>(rt: &R) -> Option<bool> {
+    let mut lane = empty_book(rt.alloc())?;
+    let none = open_shares(rt.alloc(), None, false, 8).ok()?;
+    let places = open_shares(rt.alloc(), None, true, 8).ok()??;
+    for session in [1_000, 1_001] {
+        let mut places = places.lock(rt);
+        let _ = places.take(7);
+        places.keep(7, session);
+    }
+    give_back_ended(rt, &places, &mut lane);
+    let kept = places.lock(rt).len();
+    set_share(rt, &places, Some(1));
+    let is_in_use = places.lock(rt).take(7) == Err(NoPlace::Share);
+    give_back_ended(rt, &places, &mut lane);
+    let left = places.lock(rt).len();
+    Some(none.is_none() && is_in_use && [kept, left] == [2, 0])
+}
+
+#[test]
+fn a_share_that_comes_counts_what_was_there(rt: HostRuntime) {
+    assert!(rt; is_counted_from_before(&rt) == Some(true));
 }
 
 // Whether nobody ends in a book in which nobody lives, and it is given up.

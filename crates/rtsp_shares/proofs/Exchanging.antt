@@ -26,21 +26,22 @@ pub replaced_one : {X : Type 0} (xs : List X) (at : ℕ) (x y : X) → slice_get
 replaced_one xs at x y is test =
     omega (arith, sum_by-set (one test) xs at y x (slice_get_within xs at x is), ap (one test) (get_or_from_slice_get xs at x x is))
 
--- one more of some of whom there is one less than there may be
-one_more : (count : ℕ → ℕ) (share address : ℕ) → ((q : ℕ) → count q ≤ share) → count address < share → (q : ℕ) → count q + cond (address == q) 1 0 ≤ share
-one_more count share address all less q = by (address == q) (λ e. e)
+-- one more of some of whom there is one less than there might be
+one_more : (count : ℕ → ℕ) (widest address : ℕ) → ((q : ℕ) → count q ≤ widest) → count address < widest → (q : ℕ) → count q + cond (address == q) 1 0 ≤ widest
+one_more count widest address all less q = by (address == q) (λ e. e)
   where
-    by : (b : Bool) → (b ≡ true → (address == q) ≡ true) → count q + cond b 1 0 ≤ share
+    by : (b : Bool) → (b ≡ true → (address == q) ≡ true) → count q + cond b 1 0 ≤ widest
     by true is = omega (arith, less, ap count (eqb-true address q (is refl)))
     by false is = omega (arith, all q)
 
 -- a place more, of an address whose share isn't spent
 pub places_more : (s : Places) (address : ℕ) → ArePlacesWithin s → places_of address s.taken < s.share → length s.taken < s.most → ArePlacesWithin (record s { taken = s.taken ++ held address ∷ [] })
 places_more s address within less room = record {
-  share = λ q. omega (arith, sum_by_push (one (λ place. place.address == q)) s.taken (held address), one_more (λ p. places_of p s.taken) s.share address within.share less q);
+  share = λ q. omega (arith, sum_by_push (one (λ place. place.address == q)) s.taken (held address), one_more (λ p. places_of p s.taken) s.widest address within.share (omega (arith, less, within.widest)) q);
+  widest = within.widest;
   most = omega (arith, length_push s.taken (held address));
 }
 
 -- no more of each
 pub places_less : (s : Places) (new : List Place) → ArePlacesWithin s → ((q : ℕ) → places_of q new ≤ places_of q s.taken) → length new ≤ length s.taken → ArePlacesWithin (record s { taken = new })
-places_less s new within fewer shorter = record { share = λ q. omega (arith, within.share q, fewer q); most = omega (arith, within.most) }
+places_less s new within fewer shorter = record { share = λ q. omega (arith, within.share q, fewer q); widest = within.widest; most = omega (arith, within.most) }

@@ -1,6 +1,6 @@
 -- How many are inside, of each address and in all.
 use Rattle.std.specs.Prelude.{◌≡◌, ⊤, ◌⊎◌, ℕ, min, ◌+◌, ◌-◌, ◌^◌, ◌≤◌, ◌<◌, List, [], ◌∷◌, ◌++◌, length, Option, Some, None, IfSome}
-use Rattle.rtsp_shares.specs.Places.{Places, held, places_of, HasHeld, SameLimits, Exchanges}
+use Rattle.rtsp_shares.specs.Places.{Places, held, places_of, HasHeld, SameLimits, Exchanges, with_share}
 use Rattle.rtsp_shares.specs.declared.headcount.Inside.{Inside}
 use Rattle.rtsp_shares.specs.declared.headcount.Inside.TheVariants.{All, Each}
 use Rattle.rtsp_shares.specs.declared.headcount.Headcount.{Headcount}
@@ -15,7 +15,7 @@ inside_of (Each places) = length places.taken
 -- nobody, where addresses have a share or none
 abbrev pub nobody : Option ℕ → ℕ → Inside
 nobody None most = All 0
-nobody (Some share) most = Each (record { share = share; most = most; taken = [] })
+nobody (Some share) most = Each (record { share = share; widest = share; most = most; taken = [] })
 
 abbrev pub opened : Option ℕ → Option ℕ → ℕ → Headcount
 opened left share most = record { inside = nobody share most; unnamed = 0; left = left }
@@ -63,6 +63,11 @@ pub record OneLess (address : ℕ) (old new : Places) : Type 0 where
 abbrev pub Leaves : ℕ → Inside → Inside → Type 0
 Leaves address (All count) new = new ≡ All (count - 1)
 Leaves address (Each places) new = (after : Places) × (new ≡ Each after) × OneLess address places after
+
+-- an address may have so many inside from now on, where those of each are counted
+abbrev pub of_share : ℕ → Inside → Inside
+of_share share (All count) = All count
+of_share share (Each places) = Each (with_share share places)
 
 -- an address has its share inside, or the places of all are taken
 abbrev pub HasNoPlace : ℕ → Inside → Type 0

@@ -1,12 +1,13 @@
 -- The places that addresses have taken, and how they change.
-use Rattle.std.specs.Prelude.{◌≡◌, ℕ, ◌+◌, ◌≤◌, ◌<◌, ◌==◌, Bool, List, length, count_by, Some, None, slice_get}
+use Rattle.std.specs.Prelude.{◌≡◌, ℕ, ◌+◌, ◌≤◌, ◌<◌, ◌==◌, Bool, List, length, count_by, max, Some, None, slice_get}
 use Rattle.rtsp_shares.specs.declared.place.Place.{Place}
 use Rattle.rtsp_shares.specs.declared.no_place.NoPlace.{NoPlace}
 use Rattle.rtsp_shares.specs.declared.no_place.NoPlace.TheVariants.{Share, Full}
 
--- the places that are taken, how many of one address there may be, and of all
+-- the places that are taken, how many of one address there may be by now, the most that there might be so far, and how many of all there may be
 pub record Places : Type 0 where
   pub share : ℕ
+  pub widest : ℕ
   pub most : ℕ
   pub taken : List Place
 
@@ -23,9 +24,10 @@ pub record HasHeld (address : ℕ) (places : List Place) : Type 0 where
   pub at : ℕ
   pub there : slice_get places at ≡ Some (held address)
 
--- no address has more than its share, and all together no more than there may be
+-- no address has more than the greatest share so far, which is its share where that never changed, and all together no more than there may be
 pub record ArePlacesWithin (places : Places) : Type 0 where
-  pub share : (address : ℕ) → places_of address places.taken ≤ places.share
+  pub share : (address : ℕ) → places_of address places.taken ≤ places.widest
+  pub widest : places.share ≤ places.widest
   pub most : length places.taken ≤ places.most
 
 -- an address may take one more
@@ -41,7 +43,12 @@ Lacks address places Full = (places_of address places.taken < places.share) × (
 -- how many there may be stays
 pub record SameLimits (old new : Places) : Type 0 where
   pub share : new.share ≡ old.share
+  pub widest : new.widest ≡ old.widest
   pub most : new.most ≡ old.most
+
+-- of one address there may be so many from now on; what is taken stays, also where that is more
+abbrev pub with_share : ℕ → Places → Places
+with_share share places = record places { share = share; widest = max share places.widest }
 
 -- some are gone and others have come: whatever is counted, there are as many more of it as came, and as many less as are gone
 abbrev pub Exchanges : {X : Type 0} → List X → List X → List X → List X → Type 0

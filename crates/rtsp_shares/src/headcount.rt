@@ -1,7 +1,7 @@
 //! How many are inside, of each address and in all.
 
 ghost use Rattle.std.specs.Prelude.{◌≡◌, ◌≢◌, ◌↔◌, ◌-◌, ◌<◌, ℕ, Some, IsTrue, OnOk, OnErr, IfErr, IfOk, IfSome, IfNone};
-ghost use Rattle.rtsp_shares.specs.Heads.{inside_of, everybody, opened, Enters, EntersUnnamed, IsNamed, OneMore, Leaves, IsRefusedFor, IsUnplacedIn};
+ghost use Rattle.rtsp_shares.specs.Heads.{inside_of, everybody, opened, of_share, Enters, EntersUnnamed, IsNamed, OneMore, Leaves, IsRefusedFor, IsUnplacedIn};
 
 use crate::table::ShareTable;
 use std::alloc::{AllocError, Global};
@@ -86,6 +86,16 @@ impl Headcount {
             unnamed: 0,
             left,
         })
+    }
+
+    /// Where addresses have a share, one may have so many inside from now on. Who is inside stays.
+    pub fn set_share(&mut self, share: usize)
+        ensures share { self.new.inside ≡ of_share share self.old.inside }
+        ensures stays { (self.new.left ≡ self.old.left) × (self.new.unnamed ≡ self.old.unnamed) }
+    {
+        if let Inside::Each(places) = &mut self.inside {
+            places.set_share(share);
+        }
     }
 
     /// How many are inside.

@@ -1,9 +1,9 @@
 //! The places that addresses have taken.
 
-ghost use Rattle.std.specs.Prelude.{◌≡◌, ◌++◌, ◌∷◌, ◌<◌, ◌↔◌, [], length, IsTrue, IfOk, IfErr, OnOk, OnErr, IfSome, IfNone, slice_get, Some, None};
+ghost use Rattle.std.specs.Prelude.{◌≡◌, ◌++◌, ◌∷◌, ◌<◌, ◌≤◌, ◌↔◌, [], length, IsTrue, IfOk, IfErr, OnOk, OnErr, IfSome, IfNone, slice_get, Some, None};
 ghost use Rattle.std.specs.Bool.{OnTrue, OnFalse};
 ghost use Rattle.rtsp_shares.specs.declared.place.Place.{Place};
-ghost use Rattle.rtsp_shares.specs.Places.{places_of, held, HasHeld, HasRoom, Lacks, SameLimits, Exchanges};
+ghost use Rattle.rtsp_shares.specs.Places.{places_of, held, HasHeld, HasRoom, Lacks, SameLimits, Exchanges, with_share};
 ghost use Rattle.rtsp_shares.specs.Keeping.{kept, HasKept, IsKeptAt, GivesBackKept, Stands, IsOf, NoneKept, IsLastBelow, IsFound, IsSearch};
 
 use crate::kept_place::{EndedPlace, KeptPlace};
@@ -13,11 +13,13 @@ use crate::search::{LOOKS, Search};
 use std::alloc::{AllocError, Global};
 use std::marker::Model;
 
-/// The places that addresses have taken, each at most its share. All memory is taken at the
-/// beginning.
+/// The places that addresses have taken. An address takes one where it has fewer than its share, as that is
+/// then. All memory is taken at the beginning.
 #[derive(Drop)]
 pub struct ShareTable {
     share: usize,
+    // The greatest share so far.
+    widest: usize,
     most: usize,
     taken: Vec<Place>,
     // Where the next search begins.
@@ -31,9 +33,10 @@ impl Model for ShareTable {
 
     ghost Value = { Places };
 
-    ghost view = { λ s. record { share = s.share; most = s.most; taken = s.taken.items } };
+    ghost view = { λ s. record { share = s.share; widest = s.widest; most = s.most; taken = s.taken.items } };
 
-    ghost invariant = { λ s. ArePlacesWithin (record { share = s.share; most = s.most; taken = s.taken.items }) × (vec_capacity s.taken ≡ s.most) };
+    ghost invariant = { λ s. ArePlacesWithin (record { share = s.share; widest = s.widest; most = s.most; taken = s.taken.items })
+        × (vec_capacity s.taken ≡ s.most) };
 }
 
 // How many of these places are of an address.
@@ -124,10 +127,11 @@ fn stands(places: &[Place], kept: KeptPlace) -> bool
 impl ShareTable {
     /// No place is taken, of at most so many of one address, and so many in all.
     pub fn new(alloc: Global, share: usize, most: usize) -> Result<ShareTable, AllocError>
-        ensures { IfOk result (λ s. s ≡ record { share = share; most = most; taken = [] }) }
+        ensures { IfOk result (λ s. s ≡ record { share = share; widest = share; most = most; taken = [] }) }
     {
         Ok(ShareTable {
             share,
+            widest: share,
             most,
             taken: Vec::with_capacity(alloc, most)?,
             next: 0,
@@ -141,12 +145,34 @@ impl ShareTable {
         self.taken.len()
     }
 
+    /// How many places one address may have by now.
+    pub fn share(&self) -> usize
+        ensures { result ≡ self.now.share }
+    {
+        self.share
+    }
+
+    /// One address may have so many places from now on. What is taken stays taken, also where that is more.
+    pub fn set_share(&mut self, share: usize)
+        ensures { self.new ≡ with_share share self.old }
+    {
+        self.share = share;
+        self.widest = self.widest.max(share);
+    }
+
+    // Whether an address has its share. Its places aren't counted where all together are fewer.
+    fn has_share(&self, address: u32) -> bool
+        ensures { IsTrue result ↔ (self.now.share ≤ places_of address self.now.taken) }
+    {
+        self.share <= self.taken.len() && self.share <= places_of(&self.taken, address)
+    }
+
     // Why an address gets no place, if it gets none.
     fn lacks(&self, address: u32) -> Option<NoPlace>
         ensures lacks { IfSome result (Lacks address self.now) }
         ensures room { IfNone result (HasRoom address self.now) }
     {
-        if places_of(&self.taken, address) >= self.share {
+        if self.has_share(address) {
             Some(NoPlace::Share)
         } else if self.taken.len() >= self.most {
             Some(NoPlace::Full)
@@ -159,6 +185,7 @@ impl ShareTable {
     /// as its share are in use, or else where all that there are for addresses are. Each place that is
     /// taken has to be given back, or kept for what it was taken for.
     pub fn take(&mut self, address: u32) -> Result<(), NoPlace>
+        ensures room { OnOk result (HasRoom address self.old) }
         ensures taken { OnOk result (self.new ≡ record self.old { taken = self.old.taken ++ held address ∷ [] }) }
         ensures refused { OnErr result (self.new ≡ self.old) }
         ensures in_use { IfErr result (Lacks address self.old) }

@@ -1,5 +1,5 @@
 -- What a request is about, of several presentations that have had one name (RFC 7826 section 13).
-use Rattle.std.specs.Prelude.{ℕ, List, [], ◌∷◌, Option, Some, None, Result, Ok}
+use Rattle.std.specs.Prelude.{◌≡◌, ℕ, List, [], ◌∷◌, Option, Some, None, Result, Ok, Err}
 use Rattle.rtsp_record.specs.declared.streams.Stream.{Stream}
 use Rattle.rtsp_content.specs.TableValue.{TableValue}
 use Rattle.rtsp_content.specs.Offering.{meant_of, track_as}
@@ -42,3 +42,22 @@ aimed table own (targets.Track base p t) = do
   Ok (targets.Track base q u)
 aimed table own targets.Server = Ok targets.Server
 aimed table own targets.Star = Ok targets.Star
+
+-- the target, with another place of its presentation
+abbrev pub at_place : Target → ℕ → Target
+at_place (targets.Presentation base p) q = targets.Presentation base q
+at_place (targets.Track base p t) q = targets.Track base q t
+at_place targets.Server q = targets.Server
+at_place targets.Star q = targets.Star
+
+-- the target, with another place of its track
+abbrev pub at_track : Target → ℕ → Target
+at_track (targets.Track base p t) u = targets.Track base p u
+at_track (targets.Presentation base p) u = targets.Presentation base p
+at_track targets.Server u = targets.Server
+at_track targets.Star u = targets.Star
+
+-- what a target is aimed at in its place, or why it isn't
+abbrev pub Aims : TableValue → Option ℕ → Result (Unit {0}) Fault → Target → Target → Type 0
+Aims table own (Ok done) old new = aimed table own old ≡ Ok new
+Aims table own (Err fault) old new = aimed table own old ≡ Err fault

@@ -2,7 +2,7 @@
 //! one that one, for all others the one that is offered.
 
 ghost use Rattle.std.specs.Prelude.{◌≡◌, option_map};
-ghost use Rattle.rtsp_state.specs.Aim.{first_place, own_of, meant, meant_track, aimed};
+ghost use Rattle.rtsp_state.specs.Aim.{first_place, own_of, meant, meant_track, at_place, at_track, Aims};
 ghost use Rattle.rtsp_state.specs.Context.{streams_of};
 
 use crate::fault::Fault;
@@ -56,20 +56,43 @@ fn meant_track(table: &Table, place: u16, track: u16, meant: u16) -> Result<u16,
     }
 }
 
-/// The target, with the places that are meant.
-pub fn aimed<'a>(table: &Table, own: Option<u16>, target: Target<'a>) -> Result<Target<'a>, Fault>
-    ensures { result ≡ aimed table.now own target.entry }
+// Names another place of a presentation.
+fn set_place(target: &mut Target<'_>, meant: u16)
+    ensures { target.new ≡ at_place target.old meant }
 {
     match target {
-        Target::Presentation(base, place) => {
-            let meant = meant(table, own, place)?;
-            Ok(Target::Presentation(base, meant))
+        Target::Presentation(_, place) => *place = meant,
+        Target::Track(_, place, _) => *place = meant,
+        Target::Server | Target::Star => {}
+    }
+}
+
+// Names another place of a track.
+fn set_track(target: &mut Target<'_>, meant: u16)
+    ensures { target.new ≡ at_track target.old meant }
+{
+    if let Target::Track(_, _, track) = target {
+        *track = meant;
+    }
+}
+
+/// Aims a target at the places that are meant. It stays where it is, since it is dear to move.
+pub fn aim(table: &Table, own: Option<u16>, target: &mut Target<'_>) -> Result<(), Fault>
+    ensures { Aims table.now own result target.old target.new }
+{
+    match &*target {
+        Target::Presentation(_, place) => {
+            let meant = meant(table, own, *place)?;
+            set_place(target, meant);
+            Ok(())
         }
-        Target::Track(base, place, track) => {
-            let meant = meant(table, own, place)?;
-            let track = meant_track(table, place, track, meant)?;
-            Ok(Target::Track(base, meant, track))
+        Target::Track(_, place, track) => {
+            let meant = meant(table, own, *place)?;
+            let track = meant_track(table, *place, *track, meant)?;
+            set_track(target, track);
+            set_place(target, meant);
+            Ok(())
         }
-        other => Ok(other),
+        Target::Server | Target::Star => Ok(()),
     }
 }

@@ -90,7 +90,9 @@ fn takes_star(method: Method) -> bool
     matches!(method, Method::GetParameter | Method::SetParameter)
 }
 
-// What the path of a plain URI names.
+// What the path of a plain URI names. Inlined, as what else reads a URI, so that a target is made where it is
+// wanted, though there are two who ask.
+#[inline(always)]
 fn plain_media<'a>(table: &Table, text: &'a [u8], path: &[u8]) -> Result<Target<'a>, Fault>
     ensures { Gives result (target_at (with_slash text.now) (find_of table.now path.now)) }
 {
@@ -106,6 +108,7 @@ fn plain_media<'a>(table: &Table, text: &'a [u8], path: &[u8]) -> Result<Target<
 }
 
 // What the path of any other URI names.
+#[inline(always)]
 fn parsed_media<'a>(alloc: Global, table: &Table, text: &[u8]) -> Result<Target<'a>, Fault>
     ensures { Gives result (media_of table.now (uri_of text.now)) }
 {

@@ -6,7 +6,7 @@ ghost use Rattle.rtsp_state.specs.Conduct.{IsConducted};
 ghost use Rattle.rtsp_state.specs.Context.{context_value};
 ghost use Rattle.rtsp_state.specs.StateTable.{session_found, row, cell, shown_id, decide};
 
-use crate::aim::{aimed, own_of};
+use crate::aim::{aim, own_of};
 use crate::context::Context;
 use crate::describe::describe;
 use crate::fault::{Fault, must};
@@ -78,14 +78,14 @@ fn cell(
     method: Method,
     view: Option<&SessionView>,
     name: Option<Name>,
-    target: Target<'_>,
+    target: &mut Target<'_>,
 ) -> Result<Plan, Fault>
-    ensures value { Gives result (cell (context_value context.now) method (option_map (λ v. v.now) view.entry) name target.entry) }
+    ensures value { Gives result (cell (context_value context.now) method (option_map (λ v. v.now) view.entry) name target.old) }
     ensures conducted { IfOk result IsConducted }
 {
     session_found(method, name, view)?;
-    let target = aimed(context.table, own_of(method, view), target)?;
-    row(alloc, context, method, view, name, &target)
+    aim(context.table, own_of(method, view), target)?;
+    row(alloc, context, method, view, name, target)
 }
 
 /// The id of a living session.
@@ -129,11 +129,11 @@ pub fn decide(
     };
     let ParsedRequest {
         method,
-        target,
+        mut target,
         name,
         ..
     } = request;
-    match cell(alloc, &context, method, view, name, target) {
+    match cell(alloc, &context, method, view, name, &mut target) {
         Ok(plan) => Ok(plan),
         Err(Fault::OutOfMemory) => Err(AllocError),
         Err(fault) => Ok(Plan::Answer(Reply::refused(start, fault))),

@@ -40,6 +40,9 @@ pub trait Source: Drop {
     /// Who watches what, as JSON.
     fn sessions(&self, alloc: Global) -> Result<Vec<u8>, AllocError>;
 
+    /// Whether players' addresses are shown to all by now, and not to this machine alone.
+    fn is_open(&self) -> bool;
+
     /// No more connections are to be let in, and the server ends once nothing plays any more.
     fn drain(&mut self);
 
@@ -58,7 +61,6 @@ pub struct StatusServer {
     watch: Watch,
     peers: Slab<Peer>,
     begun: Instant,
-    is_open: bool,
 }
 
 // Written out, so that whoever lets go of it makes one call, and not one for each of its parts.
@@ -71,7 +73,6 @@ impl Drop for StatusServer {
             watch: _watch,
             peers: _peers,
             begun: _begun,
-            is_open: _,
         } = self;
     }
 }
@@ -94,13 +95,11 @@ fn config() -> Config {
 }
 
 impl StatusServer {
-    /// Listens at an address. Players' addresses are shown to all where `is_open`, else to this machine
-    /// alone. An error where the address is taken, or where there is no descriptor.
+    /// Listens at an address. An error where the address is taken, or where there is no descriptor.
     pub fn open<R: Net + Clock + RandomSource>(
         rt: &R,
         alloc: Global,
         address: SocketAddr,
-        is_open: bool,
     ) -> io::Result<StatusServer> {
         let keys = RandomState::new(rt)?;
         let begun = Instant::now(rt)?;
@@ -112,7 +111,6 @@ impl StatusServer {
             watch,
             peers: Slab::new(alloc),
             begun,
-            is_open,
         })
     }
 
@@ -241,7 +239,7 @@ impl StatusServer {
 
     /// Serves until it is told to end. Each turn shows what `source` has then.
     pub fn run<R: Wait + Clock, S: Source>(&mut self, rt: &R, source: S, halt: &Halt) {
-        let mut service = StatusService::new(self.alloc, source, self.is_open);
+        let mut service = StatusService::new(self.alloc, source);
         for _ in rt.forever() {
             self.watch.wait(Duration::from_millis(LOOK));
             if halt.is_halted() {

@@ -170,18 +170,19 @@ fn fill(response: &mut Response, asked: Asked, shown: &Shown) -> Result<(), Allo
 
 impl<S: Source> StatusService<S> {
     /// Shows nothing yet.
-    pub fn new(alloc: Global, source: S, is_open: bool) -> StatusService<S> {
+    pub fn new(alloc: Global, source: S) -> StatusService<S> {
         StatusService {
             alloc,
             shown: Shown::nothing(alloc),
             source,
             nearness: Nearness::Elsewhere,
-            is_open,
+            is_open: false,
         }
     }
 
-    /// Shows what there is now, where there is memory for it.
+    /// Shows what there is now, where there is memory for it, and to whom it is shown by now.
     pub fn look(&mut self) {
+        self.is_open = self.source.is_open();
         let snapshot = self.source.snapshot();
         let standing = self.source.standing();
         if let Ok(further) = self.source.further(self.alloc)

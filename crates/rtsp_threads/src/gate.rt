@@ -1,6 +1,7 @@
 //! How many connections there are, and how many there may be.
 
 use crate::limits::CONNECTIONS;
+use crate::share_numbers::{counted_share, share_of};
 use rtsp_shares::{Headcount, Refused};
 use std::alloc::{AllocError, Global};
 use std::sync::atomic::{AtomicBool, AtomicU64, Ordering};
@@ -19,12 +20,14 @@ pub struct Gate {
 
 impl Gate {
     /// A gate through which so many connections go, or any number of them, and of each address so
-    /// many at once, or any number.
-    pub fn new(alloc: Global, limit: Option<u64>, share: Option<u16>) -> Result<Gate, AllocError> {
-        let share = match share {
-            Some(share) => Some(usize::from(share)),
-            None => None,
-        };
+    /// many at once, or any number. Those of each are counted where they have a share, or `may_change`.
+    pub fn new(
+        alloc: Global,
+        limit: Option<u64>,
+        share: Option<u16>,
+        may_change: bool,
+    ) -> Result<Gate, AllocError> {
+        let share = counted_share(share, may_change);
         let heads = Headcount::new(alloc, limit, share, CONNECTIONS as usize)?;
         Ok(Gate {
             heads: Mutex::new(heads),
@@ -37,6 +40,12 @@ impl Gate {
     /// At most so many connections are open at once from now on.
     pub fn allow(&self, most: u64) {
         self.most.store(most, Ordering::SeqCst);
+    }
+
+    /// Of each address so many are let in from now on, or any number, where those of each are counted. Those
+    /// that are open stay, also where they are more.
+    pub fn set_share<R: Wait>(&self, rt: &R, share: Option<u16>) {
+        self.heads.lock(rt).set_share(share_of(share));
     }
 
     /// Lets a connection from this address in, where it may be served, or one of a player who isn't

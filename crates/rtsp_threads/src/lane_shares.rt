@@ -4,10 +4,37 @@ ghost use Rattle.std.specs.Prelude.{◌≡◌, None};
 ghost use Rattle.rtsp_lock.specs.Calls.{seat_view};
 ghost use Rattle.rtsp_threads.specs.Looks.{TellsOf};
 
+use crate::share_numbers::{ANY, counted_share, share_of};
 use rtsp_engine::{ShareSpent, Shares};
 use rtsp_lock::BookHandle;
 use rtsp_shares::{EndedPlace, KeptPlace, Living, NoPlace, Search, ShareTable};
+use std::alloc::{AllocError, Global};
 use std::sync::{Mutex, Wait};
+
+/// What addresses have of the sessions, of which so many places are counted in all. Nothing where no address
+/// has a share, unless that `may_change`.
+pub fn open_shares(
+    alloc: Global,
+    share: Option<u16>,
+    may_change: bool,
+    most: usize,
+) -> Result<Option<Mutex<ShareTable>>, AllocError> {
+    match counted_share(share, may_change) {
+        Some(share) => Ok(Some(Mutex::new(ShareTable::new(alloc, share, most)?))),
+        None => Ok(None),
+    }
+}
+
+/// An address may open so many sessions from now on, or any number. Those that live stay, also where they are
+/// more.
+pub fn set_share<R: Wait>(rt: &R, places: &Mutex<ShareTable>, share: Option<u16>) {
+    places.lock(rt).set_share(share_of(share));
+}
+
+// Whether addresses have a share by now.
+fn is_shared<R: Wait>(rt: &R, places: &Mutex<ShareTable>) -> bool {
+    places.lock(rt).share() != ANY
+}
 
 // Whether a session lives, by a look at the book.
 fn lives<R: Wait>(rt: &R, handle: &mut BookHandle, session: u64) -> bool
@@ -124,8 +151,12 @@ pub fn end_place<R: Wait>(rt: &R, places: &Mutex<ShareTable>, session: u64) {
 }
 
 /// Gives back all places that are kept for sessions which don't live any more, as a handle of the book
-/// sees them. The table is let go of before each look, so nobody waits for more than one place's.
+/// sees them. The table is let go of before each look, so nobody waits for more than one place's. Where
+/// addresses have no share by now nobody wants them: who needs one gives it back.
 pub fn give_back_ended<R: Wait>(rt: &R, places: &Mutex<ShareTable>, handle: &mut BookHandle) {
+    if !is_shared(rt, places) {
+        return;
+    }
     let mut below = usize::MAX;
     for _ in rt.forever() {
         let Some(kept) = kept_below(rt, places, below) else {

@@ -28,6 +28,7 @@ mod room_looks;
 mod room_wait;
 mod scribe;
 mod scribe_bell;
+mod share_numbers;
 mod signals;
 mod stop_bell;
 mod timed_reader;
@@ -39,7 +40,7 @@ pub use ending::end_session;
 pub use file_requests::FileRequests;
 pub use gate::Gate;
 pub use holdings::whole_of;
-pub use lane_shares::{LaneShares, end_place, give_back_ended};
+pub use lane_shares::{LaneShares, end_place, give_back_ended, open_shares, set_share};
 pub use leaving::{close_book, end_expired, end_next_expired, take_leave};
 pub use limits::{
     ACCEPT_RETRY, ACCEPTS, ANSWERS, CONFIGURATION_EVERY, CONFIGURATION_STANDS, CONNECTIONS,

@@ -9,7 +9,7 @@ invariant_of-self c =
     let old = c.self.inside.taken.items in
     let new = c.swap_remove.new.self.items in
     let lt : c.args.at < length old = omega (arith, c.requires, ap (λ v. length v.taken) c.self.view_is) in (
-      places_less (record { share = c.self.inside.share; most = c.self.inside.most; taken = old }) new c.self.invariant.0 (λ q. omega (arith, gone_at old new c.args.at c.swap_remove.result c.swap_remove.ensures.items lt (λ place. place.address == q))) (omega (arith, c.swap_remove.ensures.len)),
+      places_less (record { share = c.self.inside.share; widest = c.self.inside.widest; most = c.self.inside.most; taken = old }) new c.self.invariant.0 (λ q. omega (arith, gone_at old new c.args.at c.swap_remove.result c.swap_remove.ensures.items lt (λ place. place.address == q))) (omega (arith, c.swap_remove.ensures.len)),
       c.swap_remove.ensures.capacity ∙ c.self.invariant.1,
     )
 

@@ -14,7 +14,7 @@ invariant_of-self c =
     let gone = get_or old c.args.at c.args.place in
     let is = slice_get-get_or old c.args.at c.args.place lt in
     let same = c.requires.same gone (ap (λ l. slice_get l c.args.at) (sym now) ∙ is) in (
-      places_less (record { share = c.self.inside.share; most = c.self.inside.most; taken = old }) (set old c.args.at c.args.place) c.self.invariant.0 (λ q. omega (arith, replaced_one old c.args.at gone c.args.place is (λ place. place.address == q), ap {B = ℕ} (λ p. cond (p == q) 1 0) same)) (omega (arith, length-set old c.args.at c.args.place)),
+      places_less (record { share = c.self.inside.share; widest = c.self.inside.widest; most = c.self.inside.most; taken = old }) (set old c.args.at c.args.place) c.self.invariant.0 (λ q. omega (arith, replaced_one old c.args.at gone c.args.place is (λ place. place.address == q), ap {B = ℕ} (λ p. cond (p == q) 1 0) same)) (omega (arith, length-set old c.args.at c.args.place)),
       c.self.invariant.1,
     )
 

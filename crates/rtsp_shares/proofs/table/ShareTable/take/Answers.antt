@@ -5,7 +5,7 @@ use Rattle.rtsp_shares.proofs.table.ShareTable.take.Goals as goal
 
 pub invariant_of-self : goal.invariant_of-self
 invariant_of-self c =
-    let old : Places = record { share = c.self.inside.share; most = c.self.inside.most; taken = c.self.inside.taken.items } in
+    let old : Places = record { share = c.self.inside.share; widest = c.self.inside.widest; most = c.self.inside.most; taken = c.self.inside.taken.items } in
     let room = c.in_default.ensures.room in
     let now = c.self.view_is in
     let less : places_of c.args.address old.taken < old.share = omega (arith, room.share, ap (λ v. places_of c.args.address v.taken) now, ap (λ v. v.share) now) in
