@@ -1,5 +1,7 @@
 //! What is remembered of media whose files are closed, so that what comes back as it was is known again.
 
+ghost use Rattle.std.specs.Prelude.{◌≡◌, true};
+
 use crate::media::Media;
 use crate::media_file::{FileState, MediaFile};
 use crate::read_at::ReadAt;
@@ -18,7 +20,9 @@ pub(crate) struct ClosedFile {
 
 impl ClosedFile {
     /// Whether it is this one that is open again, as it was.
-    pub(crate) fn is<F: ReadAt>(&self, file: &MediaFile<F>) -> bool {
+    pub(crate) fn is<F: ReadAt>(&self, file: &MediaFile<F>) -> bool
+        ensures { result ≡ true → file.now.state ≡ self.now.state }
+    {
         file.state == self.state
     }
 

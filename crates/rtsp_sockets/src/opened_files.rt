@@ -1,5 +1,7 @@
 //! Files that are opened for presentations which are new, or come back.
 
+ghost use Rattle.std.specs.Prelude.{◌≡◌, IfOk, IfNone, IfSome, OnOk};
+
 use crate::closed::ClosedFile;
 use crate::media::{Media, MediaFault, Place, len_of};
 use crate::media_file::MediaFile;
@@ -62,7 +64,11 @@ impl<F: ReadAt> OpenedFiles<F> {
 
 impl OpenedFile<File> {
     // Its index, for a track whose file has so many bytes, and was closed before, where it was.
-    fn index_for(&self, len: u64, closed: Option<ClosedFile>) -> Result<usize, MediaFault> {
+    fn index_for(&self, len: u64, closed: Option<ClosedFile>) -> Result<usize, MediaFault>
+        ensures index { IfOk result (λ index. index ≡ self.now.index) }
+        ensures len { OnOk result (self.now.file.len ≡ len) }
+        ensures state { OnOk result (IfSome closed (λ c. self.now.file.state ≡ c.state)) }
+    {
         if self.file.len != len {
             return Err(MediaFault::WrongLength);
         }
@@ -121,7 +127,10 @@ impl OpenedFiles<File> {
         path: &str,
         len: u64,
         closed: Option<ClosedFile>,
-    ) -> Result<usize, MediaFault> {
+    ) -> Result<usize, MediaFault>
+        ensures kept { IfSome closed (λ c. IfOk result (λ index. index ≡ c.index)) }
+        ensures fresh { IfNone closed (IfOk result (λ index. index ≡ self.old.next)) }
+    {
         let opened = OpenedFile {
             index: match closed {
                 Some(closed) => closed.index,
