@@ -332,7 +332,7 @@ def a_film_too_large_for_memory_is_added(checks: Checks) -> None:
 def changes(checks: Checks, seconds: float, count: int, many: int = 0) -> None:
     """The configuration's file changes each second beside plays, of which many are of one film that stays; once it stands it
     is taken up."""
-    stays = Presentation("stays", int(seconds * 50) + 3_000, 20, (Track("s"),))
+    stays = Presentation("stays", int(seconds * 10) + 600, 100, (Track("s", octets=800, ticks=800),))
     server = Growing(checks, TONE, stays, sessions=many + 64)
     server.put_media(SHORT, THIRD)
     with server, concurrent.futures.ThreadPoolExecutor(count) as pool:
@@ -351,7 +351,7 @@ def changes(checks: Checks, seconds: float, count: int, many: int = 0) -> None:
                     break
         server.offer(TONE, stays, SHORT, THIRD)
         checks.same("what is wrong with those of the film that stays", [""] * many, [play.wrong for play in plays_on.end()])
-        checks.that("these go on", all(play.number >= 45 * seconds for play in plays_on.plays), [play.number for play in plays_on.plays])
+        checks.that("these go on", all(play.number >= 9 * seconds for play in plays_on.plays), [play.number for play in plays_on.plays])
         checks.same("at the end", (200, 200), (comes_to(server, SHORT, 200), comes_to(server, THIRD, 200)))
 
 

@@ -67,7 +67,7 @@ class ManyPlays:
         self.units = [film.tracks[0].unit(number) for number in range(film.units)]
         self.over = threading.Event()
         self.plays = [OnePlay(server, film, uri) for _ in range(count)]
-        self.thread = threading.Thread(target=self.listen)
+        self.thread = threading.Thread(target=self.listen, daemon=True)
         self.thread.start()
 
     def listen(self) -> None:
