@@ -12,8 +12,9 @@ from checks import Failed
 # with an error's number. Where there is a number of bytes the first of them takes so many at most, and without an error
 # the others too. The milliseconds of the time of day are added to it.
 # A read is one of the media slow.raw, of what wasn't read before: the system keeps what was, and 128 KiB about it. Of the
-# media forgotten.raw it keeps nothing, nor of a file of users or the configuration.
-KINDS = "write", "create", "sync", "time of day", "read", "read of what is forgotten"
+# media forgotten.raw it keeps nothing, nor of a file of users or the configuration. An opening is one of the media
+# late.raw.
+KINDS = "write", "create", "sync", "time of day", "read", "read of what is forgotten", "opening"
 PLAN = struct.Struct("@5Lq")
 FOR_EVER = (1 << 63) - 1
 
@@ -30,7 +31,7 @@ LIBRARY = r"""
 #include <time.h>
 #include <unistd.h>
 
-enum { WRITE, CREATE, SYNC, TIME_OF_DAY, READ, FORGOTTEN, KINDS };
+enum { WRITE, CREATE, SYNC, TIME_OF_DAY, READ, FORGOTTEN, OPENING, KINDS };
 
 struct plan { unsigned long asked, first, last, error, most; long milliseconds; };
 
@@ -112,6 +113,8 @@ int open(const char *path, int flags, ...) {
     int mode = flags & O_CREAT ? va_arg(more, int) : 0;
     va_end(more);
     if (flags & O_CREAT && is_journal(path) && is_refused(CREATE, &size))
+        return -1;
+    if (!(flags & O_CREAT) && is_named(path, "late.raw") && is_refused(OPENING, &size))
         return -1;
     return syscall(SYS_openat, AT_FDCWD, path, flags, mode);
 }

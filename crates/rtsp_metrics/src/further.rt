@@ -35,6 +35,8 @@ pub struct ContentFigures {
     pub taken: u64,
     /// How many presentations are offered.
     pub presentations: u64,
+    /// How many places presentations have been given since the start.
+    pub places: u64,
     /// How often the configuration's file wasn't taken up.
     pub refusals: u64,
 }
@@ -111,6 +113,14 @@ fn write_content(out: &mut Vec<u8>, of: &ContentFigures) -> Result<(), AllocErro
         None,
         b"Presentations that are offered.",
         &[Figure::Count(b"", of.presentations)],
+    )?;
+    write_family(
+        out,
+        b"rtspd_places",
+        b"gauge",
+        None,
+        b"Places that presentations were given since the start.",
+        &[Figure::Count(b"", of.places)],
     )?;
     write_family(
         out,

@@ -9,6 +9,7 @@ pub(crate) struct ContentCounts {
     number: AtomicU64,
     taken: AtomicU64,
     presentations: AtomicU64,
+    places: AtomicU64,
     refusals: AtomicU64,
 }
 
@@ -19,15 +20,17 @@ impl ContentCounts {
             number: AtomicU64::new(0),
             taken: AtomicU64::new(0),
             presentations: AtomicU64::new(presentations),
+            places: AtomicU64::new(presentations),
             refusals: AtomicU64::new(0),
         }
     }
 
     /// The configuration was taken up so many seconds after the start, and so many presentations are
-    /// offered. How often it was, with this time.
-    pub(crate) fn take(&self, seconds: u64, presentations: u64) -> u64 {
+    /// offered, of so many places. How often it was, with this time.
+    pub(crate) fn take(&self, seconds: u64, presentations: u64, places: u64) -> u64 {
         self.taken.store(seconds, Ordering::Relaxed);
         self.presentations.store(presentations, Ordering::Relaxed);
+        self.places.store(places, Ordering::Relaxed);
         self.number.fetch_add(1, Ordering::Relaxed).wrapping_add(1)
     }
 
@@ -41,6 +44,7 @@ impl ContentCounts {
             number: self.number.load(Ordering::Relaxed),
             taken: self.taken.load(Ordering::Relaxed),
             presentations: self.presentations.load(Ordering::Relaxed),
+            places: self.places.load(Ordering::Relaxed),
             refusals: self.refusals.load(Ordering::Relaxed),
         }
     }

@@ -4,15 +4,11 @@ use crate::readers::start_readers;
 use crate::shared::Shared;
 use crate::watched_file::read_all;
 use rtsp_sockets::{Longer, MediaFault, Reader};
-use std::alloc::{AllocError, Global};
+use std::alloc::Global;
 use std::fs::File;
-use std::sync::{Arc, Mutex, Wait};
+use std::sync::{Arc, Condvar, Mutex, Wait};
 use std::thread::Threads;
-use std::time::Duration;
 use std::{mem, rt, thread};
-
-// So often it is looked whether something is to be done, in milliseconds.
-const LOOK: u64 = 100;
 
 /// What is to be done.
 #[derive(Drop)]
@@ -42,29 +38,45 @@ enum Desk {
     Asked(Errand),
     UnderWay,
     Done(Outcome),
+    // Nothing is to be done any more.
+    Left,
+}
+
+impl Desk {
+    // Whether the thread has nothing to do but wait.
+    fn is_quiet(&self) -> bool {
+        !matches!(self, Desk::Asked(_) | Desk::Left)
+    }
 }
 
 /// What the first thread asks for, and what came of it: one errand at a time.
 #[derive(Drop)]
 pub(crate) struct Errands {
     desk: Mutex<Desk>,
+    rung: Condvar,
 }
 
 impl Errands {
     /// Nothing is asked for.
-    pub(crate) fn open(alloc: Global) -> Result<Arc<Errands>, AllocError> {
-        let errands = Errands {
+    pub(crate) fn new() -> Errands {
+        Errands {
             desk: Mutex::new(Desk::Empty),
-        };
-        match Arc::new(alloc, errands) {
-            Ok(errands) => Ok(errands),
-            Err(_) => Err(AllocError),
+            rung: Condvar::new(),
+        }
+    }
+
+    // Puts this on the desk, unless the thread is to end.
+    fn put<R: Wait>(&self, rt: &R, what: Desk) {
+        let mut desk = self.desk.lock(rt);
+        if !matches!(*desk, Desk::Left) {
+            *desk = what;
         }
     }
 
     /// This is to be done, where nothing else is under way.
     pub(crate) fn ask<R: Wait>(&self, rt: &R, errand: Errand) {
-        *self.desk.lock(rt) = Desk::Asked(errand);
+        self.put(rt, Desk::Asked(errand));
+        self.rung.notify_all();
     }
 
     /// What came of what was asked for, once it is done.
@@ -79,9 +91,16 @@ impl Errands {
         }
     }
 
-    // What is to be done, which is under way from now on.
-    fn take<R: Wait>(&self, rt: &R) -> Option<Errand> {
-        let mut desk = self.desk.lock(rt);
+    /// Ends the thread, once it has done what it is at.
+    pub(crate) fn leave<R: Wait>(&self, rt: &R) {
+        self.put(rt, Desk::Left);
+        self.rung.notify_all();
+    }
+
+    // Waits for what is to be done, which is under way from then on. Nothing at the end.
+    fn next<R: Wait>(&self, rt: &R) -> Option<Errand> {
+        let desk = self.desk.lock(rt);
+        let mut desk = self.rung.wait_while(rt, desk, |desk| desk.is_quiet());
         match mem::replace(&mut *desk, Desk::UnderWay) {
             Desk::Asked(errand) => Some(errand),
             other => {
@@ -92,7 +111,7 @@ impl Errands {
     }
 
     fn end<R: Wait>(&self, rt: &R, outcome: Outcome) {
-        *self.desk.lock(rt) = Desk::Done(outcome);
+        self.put(rt, Desk::Done(outcome));
     }
 }
 
@@ -121,15 +140,14 @@ fn run<R: Threads + Wait + rt::Clock + Copy + Send + 'static>(
     rt: &R,
     alloc: Global,
     shared: &Arc<Shared>,
-    errands: &Errands,
 ) {
     for _ in rt.forever() {
-        if shared.stop_bell.wait(rt, Duration::from_millis(LOOK)) {
+        let Some(errand) = shared.errands.next(rt) else {
             break;
-        }
-        if let Some(errand) = errands.take(rt) {
-            errands.end(rt, outcome_of(rt, alloc, shared, errand));
-        }
+        };
+        shared
+            .errands
+            .end(rt, outcome_of(rt, alloc, shared, errand));
     }
 }
 
@@ -139,11 +157,10 @@ pub(crate) fn start_errands<R: Threads + Wait + rt::Clock + Copy + Send + 'stati
     rt: &R,
     alloc: Global,
     shared: &Arc<Shared>,
-    errands: &Arc<Errands>,
 ) -> bool {
-    let (Ok(shared), Ok(errands)) = (Arc::try_clone(shared), Arc::try_clone(errands)) else {
+    let Ok(shared) = Arc::try_clone(shared) else {
         return false;
     };
     let own = *rt;
-    thread::spawn(rt, move || run(&own, alloc, &shared, &errands)).is_ok()
+    thread::spawn(rt, move || run(&own, alloc, &shared)).is_ok()
 }

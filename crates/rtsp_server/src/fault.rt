@@ -51,7 +51,9 @@ impl From<MediaFault> for ServerFault {
     fn from(fault: MediaFault) -> ServerFault {
         match fault {
             MediaFault::WrongLength => ServerFault::WrongLength,
-            MediaFault::Unreadable | MediaFault::NoDescriptor => ServerFault::DeviceFailed,
+            MediaFault::Unreadable | MediaFault::NoDescriptor | MediaFault::Changed => {
+                ServerFault::DeviceFailed
+            }
             MediaFault::OutOfMemory => ServerFault::OutOfMemory,
         }
     }

@@ -1,16 +1,16 @@
 //! Has a changed configuration taken up while the server runs.
 
 use crate::descriptors::Descriptors;
-use crate::errands::{Errand, Errands, Outcome};
+use crate::errands::{Errand, Outcome};
 use crate::following::FollowedKeys;
 use crate::growth_reasons::reason;
 use crate::hiding::share_allowed;
 use crate::shared::Shared;
+use crate::wanted_media::{is_any_unwatched, needed, renewed};
 use crate::watched_file::WatchedFile;
 use rtsp_content::{Allowed, Operation, Table, TableFault};
 use rtsp_log::Event;
-use rtsp_metrics::Transport;
-use rtsp_sockets::{Content, Longer, MediaFault};
+use rtsp_sockets::{ClosedMedia, Content, Longer, MediaFault};
 use rtsp_threads::CONFIGURATION_EVERY;
 use std::alloc::{AllocError, Global};
 use std::collections::VecDeque;
@@ -122,10 +122,11 @@ pub(crate) struct Growth {
     operation: Operation,
     file: WatchedFile,
     descriptors: Descriptors,
-    errands: Arc<Errands>,
     phase: Phase,
-    // The text of the change.
+    // The text of the change that is under way.
     text: Vec<u8>,
+    // What is known of files that are closed.
+    closed: ClosedMedia,
     looked: u64,
     // When the content was replaced last, or files were seen last that are wanted no more.
     changed: u64,
@@ -139,29 +140,24 @@ impl Growth {
         file: WatchedFile,
         operation: Operation,
         descriptors: Descriptors,
-    ) -> Result<Growth, AllocError> {
-        Ok(Growth {
+    ) -> Growth {
+        Growth {
             alloc,
             operation,
             file,
             descriptors,
-            errands: Errands::open(alloc)?,
             phase: Phase::Resting,
             text: Vec::new(alloc),
+            closed: ClosedMedia::new(alloc),
             looked: 0,
             changed: 0,
             replaced: VecDeque::new(alloc),
-        })
+        }
     }
 
     /// What the server keeps and shows.
     pub(crate) fn operation(&self) -> &Operation {
         &self.operation
-    }
-
-    /// What another thread is to do.
-    pub(crate) fn errands(&self) -> &Arc<Errands> {
-        &self.errands
     }
 
     /// The milliseconds up to the next turn.
@@ -182,7 +178,7 @@ impl Growth {
         let now = shared.now(rt);
         match mem::replace(&mut self.phase, Phase::Resting) {
             Phase::Resting => self.look(rt, shared, now),
-            phase => match self.errands.outcome(rt) {
+            phase => match shared.errands.outcome(rt) {
                 Some(outcome) => self.go_on(rt, shared, phase, outcome, now),
                 None => self.phase = phase,
             },
@@ -204,7 +200,7 @@ impl Growth {
         if self.file.has_settled(rt, now) {
             match self.file.open_again(rt) {
                 Some(file) => {
-                    self.errands.ask(rt, Errand::Read(file));
+                    shared.errands.ask(rt, Errand::Read(file));
                     self.phase = Phase::Reading;
                 }
                 None => self.refuse(rt, shared, NotTaken::Unreadable),
@@ -268,6 +264,7 @@ impl Growth {
             Ok(reason) => shared.log.not_taken(rt, self.alloc, reason.as_bytes()),
             Err(AllocError) => shared.log.not_taken(rt, self.alloc, b"out of memory"),
         }
+        self.text = Vec::new(self.alloc);
     }
 
     // What the text wants that was read, unless it changes what stays as long as the server runs.
@@ -285,7 +282,7 @@ impl Growth {
         if let Some(key) = changed.or(self.operation.changed_key(&operation)) {
             return Err(NotTaken::Stays(key));
         }
-        let renewed = renewed(rt, self.alloc, &old)?;
+        let renewed = renewed(rt, self.alloc, &old, &wanted, &self.closed)?;
         let table = old.table.longer(self.alloc, &wanted, renewed.as_slice())?;
         Ok(Wanted {
             old,
@@ -298,21 +295,36 @@ impl Growth {
         })
     }
 
-    // Opens the files of the change that was read, and has those held in memory that are to be.
+    // What the text wants that was read, and its media, whose files are open.
+    fn opened<R: Wait + rt::Clock + Files<File = File>>(
+        &self,
+        rt: &R,
+        shared: &Shared,
+    ) -> Result<(Wanted, Longer), NotTaken> {
+        let wanted = self.wanted(rt, shared)?;
+        let needed = needed(self.alloc, shared, &wanted.table, Some(&*wanted.old))?;
+        let (media, table) = (&wanted.old.media, &wanted.table);
+        let media = media.longer(rt, self.alloc, table, needed.as_slice(), &self.closed)?;
+        Ok((wanted, media))
+    }
+
+    // Opens the files of the change that was read, and has those held in memory that are to be. Where a file
+    // that was closed changes meanwhile, nothing that comes back is taken for what it was.
     fn begin<R: Wait + rt::Clock + Files<File = File>>(
         &mut self,
         rt: &R,
         shared: &Shared,
         now: u64,
     ) -> Result<Phase, NotTaken> {
-        let wanted = self.wanted(rt, shared)?;
-        let needed = needed(self.alloc, shared, &wanted.table, Some(&*wanted.old))?;
-        let media = wanted
-            .old
-            .media
-            .longer(rt, self.alloc, &wanted.table, needed.as_slice())?;
+        let (wanted, media) = match self.opened(rt, shared) {
+            Err(NotTaken::Media(MediaFault::Changed)) => {
+                self.closed.forget();
+                self.opened(rt, shared)?
+            }
+            opened => opened?,
+        };
         if media.is_held() {
-            self.errands.ask(rt, Errand::Hold(media));
+            shared.errands.ask(rt, Errand::Hold(media));
             return Ok(Phase::Holding(wanted));
         }
         self.assemble(rt, shared, wanted, media, now)
@@ -354,7 +366,7 @@ impl Growth {
         if readers.is_empty() {
             return Ok(self.switch(rt, shared, ready, now));
         }
-        self.errands.ask(rt, Errand::Start(readers));
+        shared.errands.ask(rt, Errand::Start(readers));
         Ok(Phase::Starting(ready))
     }
 
@@ -372,7 +384,9 @@ impl Growth {
             connections,
             beside,
         } = ready;
+        let places = content.table.presentations().len() as u64;
         shared.gate.allow(connections);
+        self.closed.note(&old.media, &content.media);
         shared.contents.replace(rt, content);
         self.changed = now;
         let _ = self.replaced.push_back(Replaced {
@@ -381,12 +395,13 @@ impl Growth {
         });
         if let Some(Beside { offered, keys }) = beside {
             shared.follow(rt, keys);
-            let number = shared.content_counts.take(now / 1_000, offered);
+            let number = shared.content_counts.take(now / 1_000, offered, places);
             let event = Event::Taken {
                 number,
                 presentations: offered,
             };
             shared.log.event(rt, event);
+            self.text = Vec::new(self.alloc);
         }
         Phase::Resting
     }
@@ -418,7 +433,9 @@ impl Growth {
     ) -> Result<Phase, NotTaken> {
         let table = old.table.longer(self.alloc, &old.table, &[])?;
         let needed = needed(self.alloc, shared, &table, None)?;
-        let media = old.media.longer(rt, self.alloc, &table, needed.as_slice())?;
+        let media = old
+            .media
+            .longer(rt, self.alloc, &table, needed.as_slice(), &self.closed)?;
         let allowed = match &old.allowed {
             Some(allowed) => Some(Arc::try_clone(allowed).map_err(|_| NotTaken::OutOfMemory)?),
             None => None,
@@ -440,66 +457,4 @@ fn shared_content(alloc: Global, content: Content) -> Result<Arc<Content>, NotTa
 
 fn current<R: Wait>(rt: &R, shared: &Shared) -> Result<Arc<Content>, NotTaken> {
     shared.contents.current(rt).ok_or(NotTaken::OutOfMemory)
-}
-
-// Of each place whether other media are at its paths now, as far as that is known: of a place whose files are
-// closed it isn't, so what comes back gets another place.
-fn renewed<R: Files<File = File>>(
-    rt: &R,
-    alloc: Global,
-    content: &Content,
-) -> Result<Vec<bool>, NotTaken> {
-    let mut renewed = Vec::new(alloc);
-    for (place, presentation) in content.table.presentations().iter().enumerate() {
-        let media = &content.media;
-        let is_renewed = !media.has(place) || media.is_renewed(rt, place, presentation);
-        renewed.push(is_renewed).map_err(AllocError::from)?;
-    }
-    Ok(renewed)
-}
-
-// How many sessions live that have streams of this place over a transport.
-fn sessions_of(shared: &Shared, place: u16, over: Transport) -> u64 {
-    match shared.audience.film(place, over) {
-        Some(figures) => figures.sessions,
-        None => 0,
-    }
-}
-
-// Whether a session lives that has streams of this place.
-fn is_watched(shared: &Shared, place: u16) -> bool {
-    sessions_of(shared, place, Transport::Udp) > 0 || sessions_of(shared, place, Transport::Tcp) > 0
-}
-
-// Of each place whether its media are wanted: where it is offered or watched, or was offered up to now, since
-// a session may just be set up.
-fn needed(
-    alloc: Global,
-    shared: &Shared,
-    table: &Table,
-    old: Option<&Content>,
-) -> Result<Vec<bool>, NotTaken> {
-    let mut needed = Vec::new(alloc);
-    for index in 0..table.presentations().len() {
-        let place = u16::try_from(index).unwrap_or(u16::MAX);
-        let was_offered = match old {
-            Some(old) => old.media.has(index) && !old.table.is_withdrawn(place),
-            None => false,
-        };
-        let is_needed = !table.is_withdrawn(place) || was_offered || is_watched(shared, place);
-        needed.push(is_needed).map_err(AllocError::from)?;
-    }
-    Ok(needed)
-}
-
-// Whether files are open of what is withdrawn and watched by nobody.
-fn is_any_unwatched(shared: &Shared, content: &Content) -> bool {
-    let Content { table, media, .. } = content;
-    for index in 0..table.presentations().len() {
-        let place = u16::try_from(index).unwrap_or(u16::MAX);
-        if table.is_withdrawn(place) && media.has(index) && !is_watched(shared, place) {
-            return true;
-        }
-    }
-    false
 }

@@ -14,7 +14,8 @@
 //! `recorded` whether it has to look at the journal's room. `sweeper` and `stopping` are the threads
 //! that end sessions and the server, and `figures` is what is counted and shown. `readers`,
 //! `writing_journal`, `growing_users` and `errands` have the threads that a disk may hold up, which are
-//! then left behind. `growing` takes a changed configuration up, and `growth_reasons` tells why it is refused. What
+//! then left behind. `growing` takes a changed configuration up, for which
+//! `wanted_media` tells what is open, and `growth_reasons` tells why it is refused. What
 //! they go by is in rtsp_threads, who is to be visited in rtsp_roster, and how one player is kept from
 //! harming the others in rtsp_shares.
 
@@ -66,6 +67,7 @@ mod unread;
 mod users;
 mod users_reasons;
 mod visiting;
+mod wanted_media;
 mod watched_file;
 mod writing;
 mod writing_journal;

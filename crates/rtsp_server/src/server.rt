@@ -151,7 +151,7 @@ impl Server {
                 others,
                 lanes,
                 pacers,
-                growth: Growth::open(alloc, file, operation, descriptors)?,
+                growth: Growth::open(alloc, file, operation, descriptors),
                 users,
                 is_short: false,
             },
@@ -228,7 +228,7 @@ impl Server {
         // The scribe's first, since a stop waits for it where it was asked for.
         start.is_short = !(parts.start_scribe(rt, scribe, written)
             && start_readers(rt, &parts.shared, readers)
-            && start_errands(rt, alloc, &parts.shared, start.growth.errands())
+            && start_errands(rt, alloc, &parts.shared)
             && start_users(rt, users, &parts.shared));
         let beside = Beside {
             signals: OwnStatus::open(rt).ok(),

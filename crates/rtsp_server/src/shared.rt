@@ -6,6 +6,7 @@ use crate::content_counts::ContentCounts;
 use crate::draining::Draining;
 use crate::end_lines::EndLines;
 use crate::end_note::EndNote;
+use crate::errands::Errands;
 use crate::following::Switches;
 use crate::opening::Opening;
 use crate::owners::Owners;
@@ -69,6 +70,8 @@ pub(crate) struct Shared {
     /// What is served, and what is told of that.
     pub(crate) contents: Contents,
     pub(crate) content_counts: ContentCounts,
+    /// What another thread does while that changes.
+    pub(crate) errands: Errands,
     pub(crate) ports: PortTable,
     /// The pacers', by which they learn of plays.
     pub(crate) bells: Bells,
@@ -113,6 +116,7 @@ impl Drop for Shared {
             lent: _lent,
             contents: _contents,
             content_counts: _content_counts,
+            errands: _errands,
             ports: _ports,
             bells: _bells,
             stop_bell: _stop_bell,
@@ -208,6 +212,7 @@ impl Shared {
             lent,
             contents: Contents::open(alloc, content)?,
             content_counts: ContentCounts::new(presentations as u64),
+            errands: Errands::new(),
             ports,
             bells,
             stop_bell: StopBell::new(),
@@ -308,6 +313,7 @@ impl Shared {
     pub(crate) fn stop<R: Wait>(&self, rt: &R) {
         self.bells.stop(rt);
         self.stop_bell.ring(rt);
+        self.errands.leave(rt);
         self.halt.halt();
         if let Some(scribe) = &self.scribe {
             scribe.files.leave(rt);

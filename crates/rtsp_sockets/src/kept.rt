@@ -1,6 +1,6 @@
 //! What was read of files.
 
-ghost use Rattle.std.specs.Prelude.{◌≡◌, ◌≤◌, ◌+◌, length, OnOk, OnErr, IfOk, vec_len};
+ghost use Rattle.std.specs.Prelude.{◌≡◌, ◌≤◌, ◌+◌, ◌↔◌, IsTrue, length, OnOk, OnErr, IfOk, vec_len};
 ghost use Rattle.rtsp_sockets.specs.Files.{StandAt};
 
 use crate::loan::Loan;
@@ -60,6 +60,13 @@ impl<F: ReadAt> Kept<F> {
             of: _,
         } = self;
         Blank { bytes, loan }
+    }
+
+    // Whether it was read of this file while it was open by the number that it has now.
+    pub(crate) fn is_of(&self, file: &F) -> bool
+        ensures { IsTrue result ↔ (F.number file.now ≡ self.now.number) }
+    {
+        file.number() == self.number
     }
 
     // Copies what stands at a place of a file, where that is here.

@@ -9,12 +9,14 @@
 //!
 //! `media` are the files of the tracks. Where these aren't held in memory, the readers of each `disk` read
 //! them ahead (`reader`), by cuts of a file (`cut`) that are `wanted`. What was read is `kept` on the
-//! `shelf`, from which units are taken (`taking`).
+//! `shelf`, from which units are taken (`taking`). Media go on by another table (`renewing`), and what is
+//! `closed` meanwhile is remembered.
 
 #![tactic(auto)]
 
 mod bound;
 mod clock;
+mod closed;
 mod contents;
 mod cut;
 mod decisions;
@@ -49,6 +51,7 @@ mod wishes;
 mod words;
 
 pub use clock::{PieceClock, RunningClock};
+pub use closed::ClosedMedia;
 pub use contents::{Content, Contents, Seen};
 pub use decisions::{Decisions, LaneDecisions};
 pub use disk::READERS;

@@ -9,7 +9,7 @@ ghost use Rattle.rtsp_sockets.specs.Media.{IsPlaceOf, file_at};
 use crate::cut::{CUT_MS, cut_len};
 use crate::disk::Disk;
 use crate::media_file::MediaFile;
-use crate::opened_files::OpenedFiles;
+use crate::opened_files::{OpenedFile, OpenedFiles};
 use crate::read_at::ReadAt;
 use crate::shelf::Shelf;
 use rtsp_content::{Presentation, Table, Track};
@@ -36,6 +36,9 @@ pub enum MediaFault {
     /// A file can't be read, or it has no such unit any more.
     #[error("a track's file can't be read")]
     Unreadable,
+    /// A file that was closed has become another since it was looked at.
+    #[error("a track's file has changed while it was opened")]
+    Changed,
     /// There is no descriptor for a file.
     #[error("there is no descriptor for a track's file")]
     NoDescriptor,
@@ -85,7 +88,7 @@ pub struct TrackPlace {
 #[derive(Drop)]
 pub struct MediaOf<F: ReadAt> {
     // What is unchanged is shared with the media before these. A file keeps its index as long as the server
-    // runs, and is closed once no track is in it.
+    // runs, also where it is closed, once no track is in it, and opened again.
     pub(crate) files: Vec<Option<Arc<MediaFile<F>>>>,
     // The places of the tracks of each presentation, in the order of the table: none of one that nobody has.
     pub(crate) places: Vec<Vec<Place>>,
@@ -135,7 +138,7 @@ impl MediaOf<File> {
         };
         let mut opening = OpenedFiles::new(alloc, 0);
         for presentation in table.presentations() {
-            let places = opening.places_of(rt, presentation)?;
+            let places = opening.places_of(rt, &media, presentation, &[])?;
             media.places.push(places).map_err(AllocError::from)?;
         }
         if opening.total() < HELD_LIMIT {
@@ -154,20 +157,29 @@ fn place_of(places: &[Place], track: usize) -> Option<Place>
 }
 
 impl<F: ReadAt> MediaOf<F> {
-    // Takes files in that were opened, behind those that there are. Those that aren't held in memory are to
-    // be read ahead.
+    // Takes files in that were opened. Those that aren't held in memory are to be read ahead.
     pub(crate) fn take_in(
         &mut self,
         alloc: Global,
         opened: OpenedFiles<F>,
     ) -> Result<(), MediaFault> {
-        for file in opened.files {
+        for opened in opened.files {
+            let OpenedFile { index, file, .. } = opened;
             if file.held.is_none() {
-                self.add_disk(alloc, file.mark.device)?;
+                self.add_disk(alloc, file.state.mark.device)?;
             }
-            self.files
-                .push(Some(shared(alloc, file)?))
-                .map_err(AllocError::from)?;
+            self.put(index, shared(alloc, file)?)?;
+        }
+        Ok(())
+    }
+
+    // Puts a file at its index.
+    fn put(&mut self, index: usize, file: Arc<MediaFile<F>>) -> Result<(), MediaFault> {
+        for _ in self.files.len()..index.saturating_add(1) {
+            self.files.push(None).map_err(AllocError::from)?;
+        }
+        if let Some(slot) = self.files.get_mut(index) {
+            *slot = Some(file);
         }
         Ok(())
     }

@@ -37,6 +37,26 @@ impl FileMark {
     }
 }
 
+/// A file as it stands: which it is, and when anything of it was changed last, as its names and its rights.
+/// Nobody can set that time, unlike that of its bytes.
+#[derive(Clone, Copy, PartialEq, Eq)]
+pub(crate) struct FileState {
+    pub(crate) mark: FileMark,
+    seconds: i64,
+    nanoseconds: i64,
+}
+
+impl FileState {
+    /// That of the file of which the system tells this.
+    pub(crate) fn of(metadata: &Metadata) -> FileState {
+        FileState {
+            mark: FileMark::of(metadata),
+            seconds: metadata.ctime(),
+            nanoseconds: metadata.ctime_nsec(),
+        }
+    }
+}
+
 // The file of a track.
 #[derive(Drop)]
 pub(crate) struct MediaFile<F: ReadAt> {
@@ -44,7 +64,8 @@ pub(crate) struct MediaFile<F: ReadAt> {
     pub(crate) len: u64,
     // All of it, where it is held in memory.
     pub(crate) held: Option<Vec<u8>>,
-    pub(crate) mark: FileMark,
+    // As it stood when it was opened.
+    pub(crate) state: FileState,
     ghost whole: { (bytes : Vec ℕ) → held ≡ Some bytes → StandAt (F.text (F.number file)) 0 bytes.items },
 }
 
@@ -74,7 +95,7 @@ impl MediaFile<File> {
             file,
             len,
             held: None,
-            mark: FileMark::of(&metadata),
+            state: FileState::of(&metadata),
         })
     }
 }

@@ -1,5 +1,6 @@
 //! Media that go on by another table.
 
+use crate::closed::{ClosedFile, ClosedMedia};
 use crate::media::{HELD_LIMIT, Media, MediaFault, MediaOf, Place};
 use crate::media_file::FileMark;
 use crate::opened_files::OpenedFiles;
@@ -43,6 +44,19 @@ impl<F: ReadAt> MediaOf<F> {
             places.push(*place).map_err(AllocError::from)?;
         }
         self.places.push(places).map_err(AllocError::from)?;
+        Ok(())
+    }
+
+    // Shares what is still open of files that were closed at a place, since other tracks are in them.
+    fn share(&mut self, old: &MediaOf<F>, closed: &[ClosedFile]) -> Result<(), MediaFault> {
+        for file in closed {
+            if let (Some(shared), Some(Some(open))) = (
+                self.files.get_mut(file.index),
+                old.files.get(file.index),
+            ) {
+                *shared = Some(another(open)?);
+            }
+        }
         Ok(())
     }
 
@@ -91,7 +105,7 @@ impl MediaOf<File> {
         for (track, place) in presentation.tracks().iter().zip(places) {
             if let Some(Some(file)) = self.files.get(place.file)
                 && let Ok(metadata) = fs::metadata(rt, track.file())
-                && FileMark::of(&metadata) != file.mark
+                && FileMark::of(&metadata) != file.state.mark
             {
                 return true;
             }
@@ -101,13 +115,15 @@ impl MediaOf<File> {
 
     /// The media of a longer table, as far as they are wanted at its places, before anything of them is read.
     /// What is open for a place is shared with these; files of other places are opened, and are held in memory
-    /// where all are and there is room. On a fault nothing is open that wasn't.
+    /// where all are and there is room. Those that were closed at a place have to be as they were: `Changed`
+    /// where one isn't. On a fault nothing is open that wasn't.
     pub fn longer<R: Files<File = File>>(
         &self,
         rt: &R,
         alloc: Global,
         table: &Table,
         wanted: &[bool],
+        closed: &ClosedMedia,
     ) -> Result<Longer, MediaFault> {
         let mut media = self.emptied(alloc)?;
         let mut opened = OpenedFiles::new(alloc, self.files.len());
@@ -121,7 +137,9 @@ impl MediaOf<File> {
                 }
                 Some(places) if !places.is_empty() => media.keep(alloc, self, places)?,
                 _ => {
-                    let places = opened.places_of(rt, presentation)?;
+                    let closed = closed.files(place);
+                    media.share(self, closed)?;
+                    let places = opened.places_of(rt, &media, presentation, closed)?;
                     media.places.push(places).map_err(AllocError::from)?;
                 }
             }

@@ -94,6 +94,14 @@ impl<F: ReadAt> Space<F> {
         }
     }
 
+    // Whether it was kept of a file that was closed since then, and is open by another number now.
+    fn is_stale(&self, file: &F) -> bool {
+        match &self.state {
+            State::Kept(kept) => !kept.is_of(file),
+            State::Asked | State::Unreadable => false,
+        }
+    }
+
     // Copies the bytes at a place of a file, where they are here.
     fn copy(&self, file: &F, at: u64, out: &mut [u8]) -> Found
         ensures copied { result ≡ Found.Copied → StandAt (F.text (F.number file.now)) at out.new }
@@ -129,15 +137,20 @@ impl<F: ReadAt> Spaces<F> {
         Some(space)
     }
 
-    // Copies the bytes at a place of a file that is in this part, where they are kept.
+    // Copies the bytes at a place of a file that is in this part, where they are kept. What was kept of it
+    // before it was closed and opened again is forgotten.
     pub(crate) fn copy(&mut self, cut: Cut, file: &F, at: u64, out: &mut [u8], now: u64) -> Found
         ensures copied { result ≡ Found.Copied → StandAt (F.text (F.number file.now)) at out.new }
         ensures others { (result ≡ Found.Copied → ⊥) → out.new ≡ out.old }
     {
-        match self.space(cut, now) {
-            Some(space) => space.copy(file, at, out),
-            None => Found::Unknown,
+        let Some(space) = self.space(cut, now) else {
+            return Found::Unknown;
+        };
+        if space.is_stale(file) {
+            self.forget(cut);
+            return Found::Unknown;
         }
+        space.copy(file, at, out)
     }
 
     // Notes that a part is asked for. Whether it is to be read, and nobody has asked for it yet.

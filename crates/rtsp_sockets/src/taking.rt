@@ -141,7 +141,10 @@ impl<F: ReadAt> MediaOf<F> {
         if cut.len == 0 || !self.shelf.ask(rt, cut, now) {
             return;
         }
-        let disk = self.disks.iter().find(|disk| disk.is(file.mark.device));
+        let disk = self
+            .disks
+            .iter()
+            .find(|disk| disk.is(file.state.mark.device));
         if !disk.is_some_and(|disk| disk.ask(rt, cut)) {
             self.shelf.forget(rt, cut);
         }
