@@ -50,7 +50,7 @@ static int is_journal(const char *path) { return strstr(path, "/journal-") && st
 
 static int is_named(const char *path, const char *wanted) {
     const char *name = strrchr(path, '/');
-    return name && !strcmp(name + 1, wanted);
+    return !strcmp(name ? name + 1 : path, wanted);
 }
 
 static int is_slow(const char *path) { return is_named(path, "slow.raw"); }

@@ -13,6 +13,7 @@ from rtsp_client.player import Player, Way
 
 from .events import Telling, is_told, stops
 from .film_players import Kind, is_here, is_whole
+from .many_plays import ManyPlays
 from .operator import figures, shown_at
 from .plays import numbers_fit, set_up_all
 from .runner import serving_test
@@ -328,25 +329,30 @@ def a_film_too_large_for_memory_is_added(checks: Checks) -> None:
         play.fits(checks, "beside it", TONE.tracks, TONE.units)
 
 
-def changes(checks: Checks, seconds: float, count: int) -> None:
-    """The configuration's file changes each second beside plays; once it stands it is taken up."""
-    server = Growing(checks, TONE)
+def changes(checks: Checks, seconds: float, count: int, many: int = 0) -> None:
+    """The configuration's file changes each second beside plays, of which many are of one film that stays; once it stands it
+    is taken up."""
+    stays = Presentation("stays", int(seconds * 10) + 600, 100, (Track("s", octets=800, ticks=800),))
+    server = Growing(checks, TONE, stays, sessions=many + 64)
     server.put_media(SHORT, THIRD)
     with server, concurrent.futures.ThreadPoolExecutor(count) as pool:
+        plays_on = ManyPlays(server, stays, server.uri_of(stays), many)
         until = time.monotonic() + seconds
         plays: List[Play] = []
         for number in range(10_000):
             if number % 12 == 0:
                 plays = [Play(pool, server.player((Way.UDP, Way.TCP)[at % 2]), 30) for at in range(count)]
-            server.put(server.text_of(TONE, *([SHORT], [THIRD], [])[number % 3]))
+            server.put(server.text_of(TONE, stays, *([SHORT], [THIRD], [])[number % 3]))
             time.sleep(1.0)
             if number % 12 == 11:
                 for play in plays:
                     play.fits(checks, f"change {number}", TONE.tracks, TONE.units)
                 if time.monotonic() > until:
                     break
-        server.offer(TONE, SHORT, THIRD)
-        checks.same("at the end", (200, 200), (server.described(SHORT), server.described(THIRD)))
+        server.offer(TONE, stays, SHORT, THIRD)
+        checks.same("what is wrong with those of the film that stays", [""] * many, [play.wrong for play in plays_on.end()])
+        checks.that("these go on", all(play.number >= 9 * seconds for play in plays_on.plays), [play.number for play in plays_on.plays])
+        checks.same("at the end", (200, 200), (comes_to(server, SHORT, 200), comes_to(server, THIRD, 200)))
 
 
 @serving_test(limit=90)
@@ -357,8 +363,8 @@ def a_configuration_that_changes_each_second(checks: Checks) -> None:
 
 @serving_test(limit=400, is_by_name=True)
 def a_configuration_that_changes_for_minutes(checks: Checks) -> None:
-    """Five minutes of it, beside plays that come and go."""
-    changes(checks, 290, 12)
+    """Five minutes of it, beside plays that come and go, 200 of them at once."""
+    changes(checks, 290, 12, 188)
 
 
 @serving_test(limit=240, is_long=True)

@@ -54,7 +54,7 @@ def is_written(checks: Checks, server: Growing) -> None:
 
 def nobody_waits(checks: Checks, film: Presentation, kind: str, first: int) -> None:
     """Meanwhile everybody is answered at once, and who plays gets each packet; then it is taken up."""
-    with changed_meanwhile(checks, film, kind, first, HELD) as (server, disk):
+    with changed_meanwhile(checks, film, kind, first, LONG_HELD) as (server, disk):
         with concurrent.futures.ThreadPoolExecutor(2) as pool:
             plays = [Play(pool, server.player(way), 20) for way in (Way.TCP, Way.UDP)]
             began, waits = time.monotonic(), []  # type: Tuple[float, List[float]]
