@@ -23,13 +23,13 @@ impl ClosedFile {
     pub(crate) fn is<F: ReadAt>(&self, file: &MediaFile<F>) -> bool
         ensures { result ≡ true → file.now.state ≡ self.now.state }
     {
-        file.state == self.state
+        file.state.is_same(&self.state)
     }
 
     // Whether it is at a path, as it was.
     fn is_at<R: Files<File = File>>(&self, rt: &R, path: &str) -> bool {
         match fs::metadata(rt, path) {
-            Ok(metadata) => FileState::of(&metadata) == self.state,
+            Ok(metadata) => FileState::of(&metadata).is_same(&self.state),
             Err(_) => false,
         }
     }

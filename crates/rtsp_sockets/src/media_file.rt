@@ -1,6 +1,6 @@
 //! The file of a track.
 
-ghost use Rattle.std.specs.Prelude.{◌≡◌, ◌≤◌, ◌+◌, ℕ, length, Some, OnOk, OnErr, IfOk, IsOk};
+ghost use Rattle.std.specs.Prelude.{◌≡◌, ◌≤◌, ◌+◌, ℕ, length, true, Some, OnOk, OnErr, IfOk, IsOk};
 ghost use Rattle.std.specs.Global.{Vec};
 ghost use Rattle.rtsp_sockets.specs.Files.{StandAt, Holds};
 
@@ -35,11 +35,22 @@ impl FileMark {
             len: metadata.len(),
         }
     }
+
+    // Whether it is the same.
+    fn is_same(&self, other: &FileMark) -> bool
+        ensures { result ≡ true → self.now ≡ other.now }
+    {
+        self.device == other.device
+            && self.number == other.number
+            && self.seconds == other.seconds
+            && self.nanoseconds == other.nanoseconds
+            && self.len == other.len
+    }
 }
 
 /// A file as it stands: which it is, and when anything of it was changed last, as its names and its rights.
 /// Nobody can set that time, unlike that of its bytes.
-#[derive(Clone, Copy, PartialEq, Eq)]
+#[derive(Clone, Copy)]
 pub(crate) struct FileState {
     pub(crate) mark: FileMark,
     seconds: i64,
@@ -54,6 +65,15 @@ impl FileState {
             seconds: metadata.ctime(),
             nanoseconds: metadata.ctime_nsec(),
         }
+    }
+
+    /// Whether it is the same.
+    pub(crate) fn is_same(&self, other: &FileState) -> bool
+        ensures { result ≡ true → self.now ≡ other.now }
+    {
+        self.mark.is_same(&other.mark)
+            && self.seconds == other.seconds
+            && self.nanoseconds == other.nanoseconds
     }
 }
 
