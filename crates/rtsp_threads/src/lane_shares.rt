@@ -71,7 +71,7 @@ fn ask<R: Wait>(rt: &R, handle: &mut BookHandle, kept: KeptPlace) -> Option<Ende
 #[derive(Drop)]
 pub struct LaneShares<'a, R> {
     rt: &'a R,
-    // There are none where addresses have no share.
+    // There are none where addresses have no share, and won't come to have one.
     places: Option<&'a Mutex<ShareTable>>,
     // By which the lane looks which sessions live.
     handle: &'a mut BookHandle,

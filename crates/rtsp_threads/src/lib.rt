@@ -3,9 +3,9 @@
 //! `limits` has the numbers, `descriptors` what the system allows. `acceptor` is where connections come
 //! from, `gate` says which are let in, `activity` when one was heard of, and `timed_reader` ends a visit
 //! to it. `pool` runs a thread for each lane, whatever a lane does, and `holdings` is what their book is
-//! opened over. `lane_shares` is what an address may have of the sessions, `leaving` and `ending` end
-//! sessions. `relieving` keeps the journal from filling: `room_looks` says when a lane looks for room in
-//! it, `room_wait` for how long it is waited for.
+//! opened over. `lane_shares` is what an address may have of the sessions, `share_numbers` how many a key
+//! means, `leaving` and `ending` end sessions. `relieving` keeps the journal from filling: `room_looks` says
+//! when a lane looks for room in it, `room_wait` for how long it is waited for.
 //! `scribe` writes the journal to files, `scribe_bell` wakes it, and `file_requests` are new files for it.
 //! `signals` and `stop_bell` are how threads are asked to end, `process` what the system says of them.
 
