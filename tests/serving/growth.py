@@ -212,6 +212,7 @@ def a_replaced_film_stays_replaced(checks: Checks) -> None:
         server.put_media(TONE, content=Track("z"))
         server.offer(TONE)
         checks.same("the old files are closed", files, server.descriptors_fall_to(files, CLOSED))
+        plays_whole(checks, server, TONE, Way.TCP, *content)
         server.put_media(SHORT)
         server.offer(TONE, SHORT)
         plays_whole(checks, server, TONE, Way.TCP, *content)

@@ -6,7 +6,7 @@ use crate::following::FollowedKeys;
 use crate::growth_reasons::reason;
 use crate::hiding::share_allowed;
 use crate::shared::Shared;
-use crate::wanted_media::{is_any_unwatched, needed, renewed};
+use crate::wanted_media::{is_any_unwatched, needed, renewed, withdrawn};
 use crate::watched_file::WatchedFile;
 use rtsp_content::{Allowed, Operation, Table, TableFault};
 use rtsp_log::Event;
@@ -423,7 +423,7 @@ impl Growth {
         }
     }
 
-    // Has the same presentations served, with the files alone that are wanted.
+    // Has the same presentations served at the same places, with the files alone that are wanted.
     fn close<R: Wait + rt::Clock + Files<File = File>>(
         &mut self,
         rt: &R,
@@ -431,7 +431,11 @@ impl Growth {
         old: Arc<Content>,
         now: u64,
     ) -> Result<Phase, NotTaken> {
-        let table = old.table.longer(self.alloc, &old.table, &[])?;
+        // What was replaced by other files is the same as what is offered, and stays withdrawn.
+        let withdrawn = withdrawn(self.alloc, &old.table)?;
+        let table = old
+            .table
+            .longer(self.alloc, &old.table, withdrawn.as_slice())?;
         let needed = needed(self.alloc, shared, &table, None)?;
         let media = old
             .media

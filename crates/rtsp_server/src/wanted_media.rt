@@ -39,6 +39,16 @@ pub(crate) fn renewed<R: Files<File = File>>(
     Ok(renewed)
 }
 
+/// Of each place whether what stands there is offered no more.
+pub(crate) fn withdrawn(alloc: Global, table: &Table) -> Result<Vec<bool>, AllocError> {
+    let mut withdrawn = Vec::new(alloc);
+    for index in 0..table.presentations().len() {
+        let place = u16::try_from(index).unwrap_or(u16::MAX);
+        withdrawn.push(table.is_withdrawn(place))?;
+    }
+    Ok(withdrawn)
+}
+
 // How many sessions live that have streams of this place over a transport.
 fn sessions_of(shared: &Shared, place: u16, over: Transport) -> u64 {
     match shared.audience.film(place, over) {
