@@ -1,6 +1,6 @@
 //! What keeps one player from harming the others, by what it takes or by how long it holds a thread.
 //!
-//! `table` has the places that addresses have taken, each at most its share; `no_place` says why one
+//! `table` has the places that addresses have taken, each by its share of then; `no_place` says why one
 //! gets none. A place is held by whoever took it, or kept for something with a number until whoever
 //! ends that tells. In case nobody told, `living` tells what still lives, whom `kept_place` asks, and
 //! `search` says about whose places. Nobody is asked with a table held. `headcount` counts who is inside
