@@ -45,7 +45,7 @@ pub(crate) struct Lent {
 }
 
 impl Lent {
-    fn open(alloc: Global) -> Result<Lent, AllocError> {
+    pub(crate) fn open(alloc: Global) -> Result<Lent, AllocError> {
         Ok(Lent {
             frames: SharedRoom::open(alloc, LENT_IN_ALL)?,
             unread: SharedRoom::open(alloc, HELD_IN_ALL)?,
@@ -139,28 +139,6 @@ impl Drop for Shared {
     }
 }
 
-// What addresses have of the sessions, where each has at most so many, or may come to. There is room for all
-// that live and for one more of each lane, and for as many whose end nobody has told yet.
-fn session_shares(
-    alloc: Global,
-    numbers: Server,
-    operation: &Operation,
-) -> Result<Option<Mutex<ShareTable>>, AllocError> {
-    let most = 2 * usize::from(numbers.sessions) + usize::from(numbers.workers);
-    open_shares(alloc, numbers.sessions_per_address, operation.watch(), most)
-}
-
-// The log, in which lines of requests wait in batches, where there are such or may come to be.
-fn open_log(alloc: Global, operation: &Operation) -> Result<Log, AllocError> {
-    let may_log_access = operation.access_log() || operation.watch();
-    let room = if may_log_access {
-        LOG_LINES / BATCH_LINES
-    } else {
-        FEW_LINES
-    };
-    Log::new(alloc, room, may_log_access)
-}
-
 // The bell of the thread that writes the journal to files, where one does.
 fn scribe_bell(operation: &Operation) -> Option<ScribeBell> {
     let files = operation.journal()?;
@@ -179,28 +157,25 @@ impl Shared {
         connections: Option<u64>,
         users: Option<CurrentUsers>,
     ) -> io::Result<Shared> {
-        let Opening {
-            numbers,
-            operation,
-            pacers,
-        } = of;
+        let operation = of.operation;
         let begun = Instant::now(rt)?;
-        let watermark = Watermark::new(alloc, usize::from(numbers.workers))?;
-        let lent = Lent::open(alloc)?;
-        let ports = PortTable::open(alloc, numbers.first_port, numbers.pairs)?;
-        let bells = Bells::new(alloc, pacers, numbers.sessions)?;
-        let share = numbers.connections_per_address;
-        let gate = Gate::new(alloc, connections, share, operation.watch())?;
-        let balancers = Balancers::open(alloc, operation.proxy())?;
-        let session_shares = session_shares(alloc, numbers, operation)?;
         let presentations = content.table.presentations().len();
-        let places = if operation.watch() {
-            MAX_PLACES
-        } else {
-            presentations
-        };
-        let audience = Audience::open(alloc, places)?;
-        let log = open_log(alloc, operation)?;
+        let handed = Handed::open(alloc, of, content)?;
+        let doors = Doors::open(alloc, of, connections)?;
+        let Told { audience, log } = Told::open(alloc, operation, presentations)?;
+        let Handed {
+            contents,
+            watermark,
+            lent,
+            ports,
+            bells,
+            decisions,
+        } = handed;
+        let Doors {
+            gate,
+            balancers,
+            session_shares,
+        } = doors;
         Ok(Shared {
             listener,
             gate,
@@ -210,7 +185,7 @@ impl Shared {
             session_shares,
             outlets: Outlets::new(alloc),
             lent,
-            contents: Contents::open(alloc, content)?,
+            contents,
             content_counts: ContentCounts::new(presentations as u64),
             errands: Errands::new(),
             ports,
@@ -230,7 +205,7 @@ impl Shared {
             draining: Draining::new(operation.drain()),
             written_at: AtomicU64::new(0),
             lanes: AllLanes::new(alloc),
-            decisions: Decisions::open(alloc, usize::from(numbers.workers))?,
+            decisions,
         })
     }
 
