@@ -3,12 +3,12 @@
 use crate::descriptors::Descriptors;
 use crate::errands::{Errand, Outcome};
 use crate::following::FollowedKeys;
-use crate::growth_reasons::reason;
+use crate::growth_reasons::{NotTaken, reason};
 use crate::hiding::share_allowed;
 use crate::shared::Shared;
 use crate::wanted_media::{is_any_unwatched, needed, renewed, withdrawn};
 use crate::watched_file::WatchedFile;
-use rtsp_content::{Allowed, Operation, Table, TableFault};
+use rtsp_content::{Allowed, Operation, Table};
 use rtsp_log::Event;
 use rtsp_sockets::{ClosedMedia, Content, Longer, MediaFault};
 use rtsp_threads::CONFIGURATION_EVERY;
@@ -25,47 +25,6 @@ const KEPT: u64 = 3_000;
 
 // So often it is looked how far a change is that is under way, in milliseconds.
 const UNDER_WAY_EVERY: u64 = 20;
-
-/// Why a configuration isn't taken up.
-#[derive(Clone, Copy, PartialEq, Eq)]
-pub(crate) enum NotTaken {
-    /// Its file can't be read.
-    Unreadable,
-    Refused(TableFault),
-    /// This key of `[server]` is another, and stays as long as the server runs.
-    Stays(&'static str),
-    Media(MediaFault),
-    /// Its files leave no descriptors for the connections that are open.
-    NoDescriptor,
-    /// A thread can't be made that reads a further disk ahead.
-    NoThread,
-    OutOfMemory,
-}
-
-impl From<AllocError> for NotTaken {
-    fn from(_: AllocError) -> NotTaken {
-        NotTaken::OutOfMemory
-    }
-}
-
-impl From<TableFault> for NotTaken {
-    fn from(fault: TableFault) -> NotTaken {
-        match fault {
-            TableFault::OutOfMemory => NotTaken::OutOfMemory,
-            fault => NotTaken::Refused(fault),
-        }
-    }
-}
-
-impl From<MediaFault> for NotTaken {
-    fn from(fault: MediaFault) -> NotTaken {
-        match fault {
-            MediaFault::OutOfMemory => NotTaken::OutOfMemory,
-            MediaFault::NoDescriptor => NotTaken::NoDescriptor,
-            fault => NotTaken::Media(fault),
-        }
-    }
-}
 
 // Content that was replaced, and when.
 #[derive(Drop)]

@@ -1,12 +1,53 @@
 //! Why a configuration isn't taken up, for whoever wrote it.
 
-use crate::growing::NotTaken;
 use rtsp_content::{Presentation, Table, TableFault, Track};
 use rtsp_explain::{Place, explain, line_of};
+use rtsp_sockets::MediaFault;
 use std::alloc::{AllocError, Global};
 use std::fs;
 use std::fs::File;
 use std::rt::Files;
+
+/// Why a configuration isn't taken up.
+#[derive(Clone, Copy, PartialEq, Eq)]
+pub(crate) enum NotTaken {
+    /// Its file can't be read.
+    Unreadable,
+    Refused(TableFault),
+    /// This key of `[server]` is another, and stays as long as the server runs.
+    Stays(&'static str),
+    Media(MediaFault),
+    /// Its files leave no descriptors for the connections that are open.
+    NoDescriptor,
+    /// A thread can't be made that reads a further disk ahead.
+    NoThread,
+    OutOfMemory,
+}
+
+impl From<AllocError> for NotTaken {
+    fn from(_: AllocError) -> NotTaken {
+        NotTaken::OutOfMemory
+    }
+}
+
+impl From<TableFault> for NotTaken {
+    fn from(fault: TableFault) -> NotTaken {
+        match fault {
+            TableFault::OutOfMemory => NotTaken::OutOfMemory,
+            fault => NotTaken::Refused(fault),
+        }
+    }
+}
+
+impl From<MediaFault> for NotTaken {
+    fn from(fault: MediaFault) -> NotTaken {
+        match fault {
+            MediaFault::OutOfMemory => NotTaken::OutOfMemory,
+            MediaFault::NoDescriptor => NotTaken::NoDescriptor,
+            fault => NotTaken::Media(fault),
+        }
+    }
+}
 
 /// The reason, as the line of the log has it: the key with its line, or the file, and what is wrong with it.
 pub(crate) fn reason<R: Files<File = File>>(

@@ -15,6 +15,7 @@ use std::io;
 use std::sync::Mutex;
 
 /// What threads hand to each other.
+#[derive(Drop)]
 pub(crate) struct Handed {
     pub(crate) contents: Contents,
     pub(crate) watermark: Watermark,
@@ -22,20 +23,6 @@ pub(crate) struct Handed {
     pub(crate) ports: PortTable,
     pub(crate) bells: Bells,
     pub(crate) decisions: Decisions,
-}
-
-// Written out, as that of `Shared` is.
-impl Drop for Handed {
-    fn drop(self) {
-        let Self {
-            contents: _contents,
-            watermark: _watermark,
-            lent: _lent,
-            ports: _ports,
-            bells: _bells,
-            decisions: _decisions,
-        } = self;
-    }
 }
 
 impl Handed {
@@ -60,21 +47,11 @@ impl Handed {
 }
 
 /// By what somebody is let in.
+#[derive(Drop)]
 pub(crate) struct Doors {
     pub(crate) gate: Gate,
     pub(crate) balancers: Balancers,
     pub(crate) session_shares: Option<Mutex<ShareTable>>,
-}
-
-// Written out, as that of `Shared` is.
-impl Drop for Doors {
-    fn drop(self) {
-        let Self {
-            gate: _gate,
-            balancers: _balancers,
-            session_shares: _session_shares,
-        } = self;
-    }
 }
 
 // What addresses have of the sessions, where each has at most so many, or may come to. There is room for all
@@ -121,34 +98,25 @@ fn open_log(alloc: Global, operation: &Operation) -> Result<Log, AllocError> {
 }
 
 /// What is told to whoever runs the server.
-pub(crate) struct Told {
+#[derive(Drop)]
+pub(crate) struct Telling {
     pub(crate) audience: Audience,
     pub(crate) log: Log,
 }
 
-// Written out, as that of `Shared` is.
-impl Drop for Told {
-    fn drop(self) {
-        let Self {
-            audience: _audience,
-            log: _log,
-        } = self;
-    }
-}
-
-impl Told {
+impl Telling {
     /// Of so many presentations, or of as many as may come.
     pub(crate) fn open(
         alloc: Global,
         operation: &Operation,
         presentations: usize,
-    ) -> Result<Told, AllocError> {
+    ) -> Result<Telling, AllocError> {
         let places = if operation.watch() {
             MAX_PLACES
         } else {
             presentations
         };
-        Ok(Told {
+        Ok(Telling {
             audience: Audience::open(alloc, places)?,
             log: open_log(alloc, operation)?,
         })

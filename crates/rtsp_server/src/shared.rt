@@ -8,15 +8,16 @@ use crate::end_lines::EndLines;
 use crate::end_note::EndNote;
 use crate::errands::Errands;
 use crate::following::Switches;
+use crate::opened::{Doors, Handed, Telling};
 use crate::opening::Opening;
 use crate::owners::Owners;
 use crate::stopping::StopTimes;
 use crate::unread::HELD_IN_ALL;
 use crate::users::CurrentUsers;
 use mio::net::TcpListener;
-use rtsp_content::{MAX_PLACES, Operation, Server, Table};
+use rtsp_content::{Operation, Table};
 use rtsp_lock::BookHandle;
-use rtsp_log::{BATCH_LINES, Event, HeaderCause, Log, moment};
+use rtsp_log::{Event, HeaderCause, Log, moment};
 use rtsp_metrics::{Audience, Counters};
 use rtsp_pacing::Bells;
 use rtsp_shares::{ShareTable, Watermark};
@@ -25,8 +26,7 @@ use rtsp_sockets::{
 };
 use rtsp_status::Halt;
 use rtsp_threads::{
-    FEW_LINES, Gate, LAST_ROOM, LOG_LINES, Refused, ScribeBell, StopBell, ask_for_room, end_place,
-    make_room, open_shares,
+    Gate, LAST_ROOM, Refused, ScribeBell, StopBell, ask_for_room, end_place, make_room,
 };
 use std::alloc::{AllocError, Global};
 use std::net::Ipv4Addr;
@@ -162,7 +162,7 @@ impl Shared {
         let presentations = content.table.presentations().len();
         let handed = Handed::open(alloc, of, content)?;
         let doors = Doors::open(alloc, of, connections)?;
-        let Told { audience, log } = Told::open(alloc, operation, presentations)?;
+        let Telling { audience, log } = Telling::open(alloc, operation, presentations)?;
         let Handed {
             contents,
             watermark,
