@@ -12,7 +12,9 @@ use crate::status::Status;
 use rtsp_book::SessionView;
 use rtsp_content::Table;
 
-// The place of the presentation that a session has streams of.
+// The place of the presentation that a session has streams of. It stands apart, as what aims at media does, so
+// that a request which needs neither doesn't pay for their room on the stack.
+#[inline(never)]
 fn first_place(view: &SessionView) -> Option<u16>
     ensures { result ≡ first_place (streams_of view.now.1) }
 {
@@ -76,8 +78,9 @@ fn set_track(target: &mut Target<'_>, meant: u16)
     }
 }
 
-/// Aims a target at the places that are meant. It stays where it is, since it is dear to move.
-pub fn aim(table: &Table, own: Option<u16>, target: &mut Target<'_>) -> Result<(), Fault>
+// Aims a target at the places that are meant.
+#[inline(never)]
+fn aim_at_media(table: &Table, own: Option<u16>, target: &mut Target<'_>) -> Result<(), Fault>
     ensures { Aims table.now own result target.old target.new }
 {
     match &*target {
@@ -94,5 +97,16 @@ pub fn aim(table: &Table, own: Option<u16>, target: &mut Target<'_>) -> Result<(
             Ok(())
         }
         Target::Server | Target::Star => Ok(()),
+    }
+}
+
+/// Aims a target at the places that are meant. It stays where it is, since it is dear to move.
+#[inline(always)]
+pub fn aim(table: &Table, own: Option<u16>, target: &mut Target<'_>) -> Result<(), Fault>
+    ensures { Aims table.now own result target.old target.new }
+{
+    match &*target {
+        Target::Server | Target::Star => Ok(()),
+        Target::Presentation(..) | Target::Track(..) => aim_at_media(table, own, target),
     }
 }
