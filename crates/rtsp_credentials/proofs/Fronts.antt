@@ -1,16 +1,14 @@
 -- The parameter at the front of a list, where it is written plainly.
-use Rattle.std.proofs.Common.{◌≡◌, ◌<◌, ◌≤◌, ◌+◌, ◌-◌, ℕ, Bool, true, false, cond, eqb, List, [], ◌∷◌, ◌++◌, length, get_or, take, drop, Option, Some, None, refl, sym, ap, subst, ◌∙◌, inl, inr, arith, append_assoc}
+use Rattle.std.proofs.Common.{◌≡◌, ◌<◌, ◌+◌, ◌-◌, ℕ, Bool, true, false, cond, eqb, List, [], ◌∷◌, ◌++◌, length, get_or, take, Option, Some, None, refl, sym, ap, subst, ◌∙◌, inl, inr, arith, append_assoc}
 use Rattle.std.specs.Prelude.{◌&&◌, ◌||◌, not, IfSome}
 use Rattle.std.specs.List.{list_all, prefix_len}
 use Rattle.std.proofs.lemmas.Bool.{and_parts}
-use Rattle.std.proofs.lemmas.List.{append-nil, length-append, length-drop, get_or_append_left, get_or-append_right, take-append-drop, take_all, drop_more}
-use Rattle.memchr.specs.Find.{Nowhere, Passes, is_byte2}
+use Rattle.std.proofs.lemmas.List.{append-nil, length-append, get_or_append_left, get_or-append_right, take-append-drop}
 use Rattle.rtsp_text.specs.Bytes.{is_blank, is_token, is_token_byte, is_other}
 use Rattle.rtsp_text.specs.Options.{◌>>=◌}
 use Rattle.rtsp_text.specs.Trim.{trim_start}
 use Rattle.rtsp_text.proofs.ByteLemmas.{all_weaker, all_other, some_parts}
 use Rattle.rtsp_text.proofs.PaddingLemmas.{front_blank}
-use Rattle.rtsp_text.proofs.SearchLemmas.{none_before}
 use Rattle.rtsp_transport.specs.Split.{is_part, split, parts_left}
 use Rattle.rtsp_transport.proofs.PartsLemmas.{alone, followed}
 use Rattle.rtsp_credentials.specs.declared.field.Field.{Field}
@@ -71,16 +69,6 @@ quoted_ends rest value behind left found e plain = record {
   parts = ap (λ (xs : List ℕ). 34 ∷ xs) (found ∙ ap (λ (xs : List ℕ). value ++ 34 ∷ xs) e ∙ sym (append_assoc value (34 ∷ []) (tail left)));
   spelled = inr (refl, plain);
 }
-
-pub cut_at : (b : ℕ) (text : List ℕ) (i : ℕ) → i < length text → get_or text i 0 ≡ b → text ≡ take i text ++ b ∷ take (length text - (i + 1)) (drop (i + 1) text)
-cut_at b text i lt e =
-    let whole : take (length text - (i + 1)) (drop (i + 1) text) ≡ drop (i + 1) text = take_all (length text - (i + 1)) (drop (i + 1) text) (omega (arith, length-drop (i + 1) text)) in
-    sym (take-append-drop i text)
-    ∙ ap (λ (xs : List ℕ). take i text ++ xs) (drop_more text i 0 lt ∙ ap (λ (n : ℕ). n ∷ drop (i + 1) text) e ∙ ap (λ (xs : List ℕ). b ∷ xs) (sym whole))
-
--- what is before the first quote or backslash
-pub quoted_plain : (rest : List ℕ) (i : ℕ) → i ≤ length rest → Nowhere (Passes (is_byte2 34 92) rest) 0 i → list_all is_plain_byte (take i rest) ≡ true
-quoted_plain rest i le before = none_before (is_byte2 34 92) rest i le before
 
 -- ---- a name at the front
 

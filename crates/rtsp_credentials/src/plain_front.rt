@@ -3,13 +3,13 @@
 
 ghost use Rattle.std.specs.Prelude.{◌≡◌, ◌∷◌, ◌++◌, true, IfSome};
 ghost use Rattle.std.specs.List.{list_all};
+ghost use Rattle.rtsp_text.specs.Bytes.{is_other};
 ghost use Rattle.rtsp_text.specs.Slices.{held};
 ghost use Rattle.rtsp_credentials.specs.Parameters.{is_plain_byte};
 ghost use Rattle.rtsp_credentials.specs.Field.{name_of};
 ghost use Rattle.rtsp_credentials.specs.Front.{EndsValue, IsFront};
 
 use crate::field::Field;
-use memchr::memchr2;
 use rtsp_text::{is_token, split_once, trim_start};
 
 pub(crate) const QUOTE: u8 = b'"';
@@ -22,14 +22,21 @@ pub(crate) struct Front<'a> {
     pub(crate) left: Option<&'a [u8]>,
 }
 
-// A value in quotes, behind the first of them, and what is behind the second: the byte that comes first is
-// that, or a backslash.
+/// Whether a text without a quote means itself in quotes: it has no backslash either.
+pub(crate) fn is_plain(unquoted: &[u8]) -> bool
+    requires { list_all (is_other 34) unquoted.now ≡ true }
+    ensures { result ≡ list_all is_plain_byte unquoted.now }
+{
+    split_once(unquoted, b'\\').is_none()
+}
+
+// A value in quotes, behind the first of them, and what is behind the second.
 fn quoted(rest: &[u8]) -> Option<(&[u8], &[u8])>
     ensures { IfSome result (λ p. (rest.now ≡ p.0.now ++ 34 ∷ p.1.now) × (list_all is_plain_byte p.0.now ≡ true)) }
 {
-    let at = memchr2(QUOTE, b'\\', rest)?;
-    if rest[at] == QUOTE {
-        Some((&rest[..at], &rest[at + 1..]))
+    let (value, behind) = split_once(rest, QUOTE)?;
+    if is_plain(value) {
+        Some((value, behind))
     } else {
         None
     }

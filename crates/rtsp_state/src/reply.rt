@@ -144,6 +144,7 @@ impl Reply {
     }
 
     /// Writes the response. It takes no memory and can't fail.
+    #[inline(always)]
     pub fn answer(&self, room: &mut Room)
         requires { reply_room self.now ≤ room.old.spare }
         ensures text { room.new.text ≡ room.old.text ++ response_text self.now }

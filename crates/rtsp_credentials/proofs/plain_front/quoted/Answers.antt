@@ -1,8 +1,12 @@
-use Rattle.std.proofs.Common.{arith}
-use Rattle.rtsp_credentials.proofs.Fronts.{cut_at, quoted_plain}
+use Rattle.std.proofs.Common.{◌∙◌, ◌×◌, ◌≡◌, ◌++◌, ◌∷◌, List, ℕ, true, sym, ap}
+use Rattle.std.specs.List.{list_all}
+use Rattle.rtsp_text.specs.Slices.{halves}
+use Rattle.rtsp_text.proofs.SplitLemmas.{split_parts}
 use Rattle.rtsp_credentials.proofs.plain_front.quoted.Goals as goal
 
-pub returns-then-rest-at-eq-QUOTE : goal.returns-then-rest-at-eq-QUOTE
-returns-then-rest-at-eq-QUOTE c =
-    let first = c.in_ok-at.ensures.0 in
-    (cut_at 34 c.args.rest.now c.in_ok-at.at first.high c.if-rest-at-eq-QUOTE.true, quoted_plain c.args.rest.now c.in_ok-at.at (omega (arith, first.high)) first.before)
+pub is_plain-requires : goal.is_plain-requires
+is_plain-requires c = (split_parts 34 c.args.rest.now (c.in_ok-value.value.now, c.in_ok-value.behind.now) (sym c.split_once.ensures ∙ ap halves c.in_ok-value.was)).1
+
+pub returns-then-is_plain : goal.returns-then-is_plain
+returns-then-is_plain c =
+    ((split_parts 34 c.args.rest.now (c.in_ok-value.value.now, c.in_ok-value.behind.now) (sym c.split_once.ensures ∙ ap halves c.in_ok-value.was)).0, sym c.is_plain.ensures ∙ c.if-is_plain.true)
