@@ -45,8 +45,8 @@ fn may_have_opened(status: u16) -> bool {
 }
 
 // Whether a request counts what has been sent of a play.
-fn is_counting(method: Method) -> bool {
-    matches!(method, Method::Play | Method::Pause)
+fn is_counting(method: &rtsp_grammar::Method) -> bool {
+    matches!(method, rtsp_grammar::Method::Play | rtsp_grammar::Method::Pause)
 }
 
 /// Who is told of the answers to a piece of a player's input, and notes what they came to.
@@ -159,7 +159,7 @@ impl<R: Wait + rt::Clock> AnswerCounter<'_, R> {
             let access = Access {
                 peer: self.asker.peer,
                 conn: self.asker.conn,
-                method: told.method,
+                method: told.method.as_bytes(),
                 uri: told.uri,
                 status: told.status,
                 session: named(rt, &shared.audience, told),
@@ -173,8 +173,8 @@ impl<R: Wait + rt::Clock> AnswerCounter<'_, R> {
 }
 
 impl<R: Wait + rt::Clock> Witness for AnswerCounter<'_, R> {
-    fn asked(&self, method: &[u8]) {
-        if is_counting(Method::of(method)) {
+    fn asked(&self, method: &rtsp_grammar::Method) {
+        if is_counting(method) {
             let Service { rt, shared, .. } = self.service;
             let mut clock = RunningClock::new(rt, shared.begun);
             self.service.decisions().begin(&mut clock);
@@ -186,14 +186,14 @@ impl<R: Wait + rt::Clock> Witness for AnswerCounter<'_, R> {
     }
 
     fn answered(&self, told: &Told<'_>) {
-        let method = Method::of(told.method);
+        let method = Method::of(told.method.as_bytes());
         let Service {
             answers,
             recorded,
             ..
         } = self.service;
         answers.answered(method, told.status);
-        if is_counting(method) {
+        if is_counting(told.method) {
             self.end_decision();
         }
         let is_let_through = told.status != UNAUTHORIZED;

@@ -10,7 +10,7 @@ use rtsp_book::Receipt;
 use rtsp_content::Table;
 use rtsp_credentials::{Gate, Protection, Refusal, Users, read_users};
 use rtsp_engine::{Asker, Connection};
-use rtsp_grammar::Request;
+use rtsp_grammar::{Method, Request};
 use rtsp_guard::{
     Foreign, NamedBy, Porter, law_changes_nothing, law_hides_as_absent, law_pieces_change_nothing,
     law_same_verdict, law_strangers_change_nothing, law_visited_drawn, push_lent,
@@ -45,7 +45,7 @@ struct Nobody {
 }
 
 impl Witness for Nobody {
-    fn asked(&self, _method: &[u8]) {}
+    fn asked(&self, _method: &Method) {}
 
     fn heard(&self, _channel: u8) {}
 

@@ -6,7 +6,7 @@ use crate::devices::{Drawing, Noting, Ticking};
 use rtsp_book::Receipt;
 use rtsp_content::Table;
 use rtsp_engine::{Asker, Connection, fault_response};
-use rtsp_grammar::MessageFault;
+use rtsp_grammar::{MessageFault, Method};
 use rtsp_lock::{BookLock, BookSeat, open};
 use rtsp_record::{Entry, Record, Whole};
 use rtsp_state::Room;
@@ -84,8 +84,8 @@ struct Watcher {
 }
 
 impl Witness for Watcher {
-    fn asked(&self, method: &[u8]) {
-        if !method.is_empty() {
+    fn asked(&self, method: &Method) {
+        if !method.as_bytes().is_empty() {
             self.asked.set(self.asked.get().wrapping_add(1));
         }
     }
@@ -95,7 +95,7 @@ impl Witness for Watcher {
     }
 
     fn answered(&self, told: &Told<'_>) {
-        let asked = told.method.len().saturating_add(told.uri.len());
+        let asked = told.method.as_bytes().len().saturating_add(told.uri.len());
         self.seen.set((
             self.asked.get(),
             told.status,

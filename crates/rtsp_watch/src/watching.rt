@@ -26,7 +26,7 @@ pub(crate) struct Watched<'a, 'w, A, T> {
 fn tell<A: Recorder, T: Witness>(answerer: &A, witness: &T, request: &Request, response: &[u8]) {
     let status = status_of(response);
     witness.answered(&Told {
-        method: request.method.as_bytes(),
+        method: &request.method,
         uri: request.uri.as_bytes(),
         status,
         response,
@@ -42,7 +42,7 @@ impl<A: Answerer + Recorder, T: Witness> Answerer for Watched<'_, '_, A, T> {
 
     fn answer(&mut self, alloc: Global, item: &Item, room: &mut Room) -> Result<(), AllocError> {
         match item {
-            Item::Request(request) => self.witness.asked(request.method.as_bytes()),
+            Item::Request(request) => self.witness.asked(&request.method),
             Item::Frame(frame) => self.witness.heard(frame.channel),
             Item::Response(_) => {}
         }

@@ -1,13 +1,13 @@
 //! Who is told of answers.
 
 use crate::reading::{id_of, session_of};
+use rtsp_grammar::Method;
 use rtsp_record::{Life, Setup};
 
 /// A request that was answered.
 #[derive(Clone, Copy)]
 pub struct Told<'a> {
-    /// As the player wrote it.
-    pub method: &'a [u8],
+    pub method: &'a Method,
     /// As the player wrote it.
     pub uri: &'a [u8],
     /// Of the response; 0 where the response has none, as the answer to a request that needs none.
@@ -35,8 +35,8 @@ impl Told<'_> {
 
 /// Who is told of each request that was answered. Several lanes may tell at once.
 pub trait Witness {
-    /// A request of this method, as the player wrote it, is about to be answered.
-    fn asked(&self, method: &[u8]);
+    /// A request of this method is about to be answered.
+    fn asked(&self, method: &Method);
 
     /// A frame came on this channel.
     fn heard(&self, channel: u8);
