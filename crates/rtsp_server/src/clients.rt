@@ -198,8 +198,12 @@ impl Clients {
         handle: &mut BookHandle,
     ) {
         let until = service.now.saturating_add(TURN_TIME);
-        let mut now = service.now;
-        for _ in 0..self.roster.ready() {
+        for count in 0..self.roster.ready() {
+            let now = if count == 0 {
+                service.now
+            } else {
+                service.shared.now(service.rt)
+            };
             if now >= service.shared.lanes.time_until(until) {
                 return;
             }
@@ -207,7 +211,6 @@ impl Clients {
                 return;
             };
             self.visit(service, handle, key, now);
-            now = service.shared.now(service.rt);
         }
     }
 

@@ -57,7 +57,9 @@ impl Client {
         front.visit(input, room, piece, part, reads_all, until)
     }
 
-    // The same at the connection's gate, which there is only where there are users.
+    // The same at the connection's gate, which there is only where there are users. Never inlined, so that
+    // who has none doesn't pay for its room on the stack.
+    #[inline(never)]
     fn read_guarded<R: Wait + Net + rt::Clock>(
         &mut self,
         service: &Service<'_, R>,
