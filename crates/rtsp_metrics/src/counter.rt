@@ -15,8 +15,11 @@ impl Counter {
         }
     }
 
+    // Where there is nothing to add, no other core waits for it.
     pub(crate) fn add(&self, more: u64) {
-        self.count.fetch_add(more, Ordering::Relaxed);
+        if more > 0 {
+            self.count.fetch_add(more, Ordering::Relaxed);
+        }
     }
 
     pub(crate) fn read(&self) -> u64 {
@@ -39,8 +42,12 @@ impl SoleCounter {
     }
 
     pub(crate) fn add_one(&self) {
+        self.add(1);
+    }
+
+    pub(crate) fn add(&self, more: u64) {
         self.count
-            .store(self.read().wrapping_add(1), Ordering::Relaxed);
+            .store(self.read().wrapping_add(more), Ordering::Relaxed);
     }
 
     pub(crate) fn read(&self) -> u64 {

@@ -1,6 +1,6 @@
 //! What was sent to a session.
 
-use crate::counter::Counter;
+use crate::counter::SoleCounter;
 
 /// A packet that is sent more milliseconds late than this counts as late.
 pub const LATE_MS: u64 = 40;
@@ -14,13 +14,13 @@ pub struct SessionSums {
     pub late: u64,
 }
 
-/// Counts what is sent to a session. Its pacer adds, and any thread may read.
+/// Counts what is sent to a session. Its pacer alone adds, and any thread may read.
 #[derive(Drop)]
 pub struct SessionCounts {
     digits: u32,
-    sent: Counter,
-    lost: Counter,
-    late: Counter,
+    sent: SoleCounter,
+    lost: SoleCounter,
+    late: SoleCounter,
 }
 
 impl SessionCounts {
@@ -28,9 +28,9 @@ impl SessionCounts {
     pub fn new(digits: u32) -> SessionCounts {
         SessionCounts {
             digits,
-            sent: Counter::new(),
-            lost: Counter::new(),
-            late: Counter::new(),
+            sent: SoleCounter::new(),
+            lost: SoleCounter::new(),
+            late: SoleCounter::new(),
         }
     }
 

@@ -7,10 +7,11 @@ use crate::bell::Bell;
 use crate::dropped::Dropped;
 use crate::pacer_room::PacerRoom;
 use crate::told::ToldSessions;
+use crate::untold::Untold;
 use rtsp_book::{Refusal, SessionView, Step};
 use rtsp_lock::{AnyNumbers, BookLock, BookSeat, Name, Numbers};
 use rtsp_log::{Event, FrameLoss, Log, SessionName};
-use rtsp_metrics::{Audience, Counters};
+use rtsp_metrics::{Audience, Counters, Transport};
 use rtsp_npt::UnitLength;
 use rtsp_record::Phase;
 use rtsp_sockets::{Contents, Decisions, Outlets, PortTable, RunningClock};
@@ -67,6 +68,7 @@ pub(crate) struct PacerDesk<'a, R, N: Numbers> {
     pub(crate) parts: PacerParts<'a, N>,
     pub(crate) clock: RunningClock<'a, R>,
     pub(crate) paced: Paced,
+    untold: Untold,
     pub(crate) room: PacerRoom,
     // The moment that was read last, and for how many turns more it does.
     moment: u64,
@@ -103,6 +105,7 @@ impl<'a, R, N: Numbers> PacerDesk<'a, R, N> {
                 failures: 0,
                 reported: 0,
             },
+            untold: Untold::none(),
             room,
             moment: 0,
             turns_left: 0,
@@ -127,8 +130,25 @@ impl<R, N: Numbers> PacerDesk<'_, R, N> {
     // Counts what came of a turn, of whose packets the first was so many milliseconds late.
     pub(crate) fn count(&mut self, packets: u64, lost: u64, failures: u64, late: u64) {
         self.paced.count(packets, lost, failures);
-        self.parts.counters.sent(packets, late);
+        self.untold.add_packets(self.parts.counters, packets, late);
         self.parts.counters.lost(lost);
+    }
+
+    // Counts bytes that were sent of a presentation over a transport.
+    pub(crate) fn count_bytes(&mut self, presentation: u16, transport: Transport, bytes: u64) {
+        let audience = self.parts.audience;
+        self.untold
+            .add_bytes(audience, presentation, transport, bytes);
+    }
+
+    // Has what was counted seen by all.
+    pub(crate) fn put_down(&mut self) {
+        let PacerParts {
+            counters,
+            audience,
+            ..
+        } = self.parts;
+        self.untold.put_down(counters, audience);
     }
 }
 

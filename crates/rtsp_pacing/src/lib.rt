@@ -30,6 +30,7 @@ mod renewal;
 mod reports;
 mod sink;
 mod told;
+mod untold;
 mod ways;
 mod went;
 mod wheel;

@@ -112,8 +112,14 @@ impl<R: Wait + Clock, N: Numbers> Pacing<'_, R, N> {
         u64::MAX
     }
 
-    // Takes the turns that are due, of some slots at most.
+    // Takes the turns that are due, of some slots at most, and has them counted.
     fn turn_due(&mut self, content: &Content) {
+        self.turn_slots(content);
+        self.desk.put_down();
+    }
+
+    // Takes the turns of some slots that are due.
+    fn turn_slots(&mut self, content: &Content) {
         for _ in 0..SLOTS_AT_ONCE {
             let now = self.desk.now();
             let Some(last) = self.wheel.take(now) else {

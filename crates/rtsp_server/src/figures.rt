@@ -46,7 +46,10 @@ fn may_have_opened(status: u16) -> bool {
 
 // Whether a request counts what has been sent of a play.
 fn is_counting(method: &rtsp_grammar::Method) -> bool {
-    matches!(method, rtsp_grammar::Method::Play | rtsp_grammar::Method::Pause)
+    matches!(
+        method,
+        rtsp_grammar::Method::Play | rtsp_grammar::Method::Pause
+    )
 }
 
 /// Who is told of the answers to a piece of a player's input, and notes what they came to.

@@ -48,12 +48,11 @@ impl Watched {
     // Counts what came of the packets of a turn, of which the first was so many milliseconds late.
     pub(super) fn count<R, N: Numbers>(
         &self,
-        desk: &PacerDesk<'_, R, N>,
+        desk: &mut PacerDesk<'_, R, N>,
         count: &PacketCount,
         late: u64,
     ) {
-        let audience = desk.parts.audience;
-        audience.sent(self.presentation, self.transport, count.bytes);
+        desk.count_bytes(self.presentation, self.transport, count.bytes);
         if let Some(counts) = &self.counts {
             counts.add(count.sent, count.lost, late);
         }
