@@ -1,5 +1,4 @@
-use Rattle.std.proofs.Common.{◌∙◌, ◌×◌, ◌≡◌, ◌++◌, ◌∷◌, List, ℕ, true, sym, ap}
-use Rattle.std.specs.List.{list_all}
+use Rattle.std.proofs.Common.{◌∙◌, sym, ap}
 use Rattle.rtsp_text.specs.Slices.{halves}
 use Rattle.rtsp_text.proofs.SplitLemmas.{split_parts}
 use Rattle.rtsp_credentials.proofs.plain_front.quoted.Goals as goal
