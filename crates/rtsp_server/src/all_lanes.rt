@@ -3,6 +3,7 @@
 use crate::stopping::StopTimes;
 use crossbeam_utils::CachePadded;
 use mio::Waker;
+use rtsp_log::EndCause;
 use rtsp_metrics::{AnswerCounters, Counts};
 use std::alloc::{AllocError, Global};
 use std::sync::atomic::{AtomicU64, Ordering};
@@ -95,6 +96,14 @@ impl AllLanes {
         match self.stop_by.load(Ordering::SeqCst) {
             u64::MAX => None,
             by => Some(by),
+        }
+    }
+
+    /// Why sessions end whose connection is closed.
+    pub(crate) fn hang_up_cause(&self) -> EndCause {
+        match self.stop_by() {
+            Some(_) => EndCause::Stop,
+            None => EndCause::HangUp,
         }
     }
 

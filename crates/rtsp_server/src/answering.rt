@@ -14,11 +14,11 @@ use rtsp_book::Receipt;
 use rtsp_engine::{Asker, Binder, Clock, Connection, PieceAnswerer, Plays, Shares, Words};
 use rtsp_grammar::MessageFault;
 use rtsp_lock::BookHandle;
-use rtsp_log::Event;
-use rtsp_pacing::NotedPlays;
+use rtsp_log::{Event, Log};
+use rtsp_pacing::{Bells, NotedPlays};
 use rtsp_sockets::{Outlet, PieceClock, PortBinder, RandomWords};
 use rtsp_state::Room;
-use rtsp_threads::{ANSWERS, Activity, LaneShares, PAUSE, PIECE};
+use rtsp_threads::{ANSWERS, Activity, LAST_ROOM, LaneShares, PAUSE, PIECE};
 use rtsp_watch::push_lent;
 use std::alloc::Global;
 use std::cell::Cell;
@@ -88,7 +88,7 @@ fn answer_piece<R: Wait + Net + rt::Clock, W: Words, P: Plays>(
     let rt = service.rt;
     let shared = service.shared;
     let mut binder = PortBinder::new(rt, &shared.ports, host);
-    let mut clock = PieceClock::new(rt, shared.begun, service.decisions());
+    let mut clock = PieceClock::new(rt, shared.begun, service.desk.decisions);
     let mut shares = LaneShares::new(rt, shared.session_shares.as_ref(), lane);
     let pushed = push_lent(
         rt,
@@ -124,32 +124,37 @@ pub(crate) struct Came {
     pub(crate) is_fault: bool,
 }
 
-// Does what follows from the answers to a piece. Whether the journal has room for what the next piece may
-// record.
+// Requests were refused since there was no more of something. Where that may be the journal's room, the
+// log tells of it.
+fn note_unavailable<R: Wait + rt::Clock>(rt: &R, log: &Log, lane: &mut BookHandle) {
+    if lane.tally(rt).room < LAST_ROOM {
+        log.event(rt, Event::JournalFull);
+    }
+}
+
+// Does what follows from the answers to a piece.
 pub(crate) fn settle<R: Wait + rt::Clock>(
-    service: &Service<'_, R>,
     lane: &mut BookHandle,
     activity: &mut Activity,
     witness: &AnswerCounter<'_, R>,
     input: &Connection,
     came: Came,
-) -> bool {
+) {
+    let desk = witness.desk;
     let has_setup = witness.has_setup();
-    activity.note(service.now, came.all, input, has_setup);
+    activity.note(desk.now, came.all, input, has_setup);
     // A request for whose answer there was no memory may have done something all the same.
     if came.is_fault {
-        service.recorded.note();
+        desk.recorded.note();
         witness.end_decision();
     }
     // A session that was opened for a track that was then refused has ended.
     if has_setup {
-        service.shared.ends.note();
+        desk.ends.note();
     }
     if witness.is_unavailable() {
-        service.shared.note_unavailable(service.rt, lane);
+        note_unavailable(desk.rt, desk.teller.log, lane);
     }
-    // A piece that was full may be followed by another one.
-    !came.is_full || service.make_room(lane)
 }
 
 // Whether answers are written before more is read. Where a play is among them, it is handed over once they
@@ -161,13 +166,14 @@ pub(crate) fn is_due(has_room: bool, plays: &NotedPlays, gathered: usize) -> boo
 // Hands the plays over whose answers are written, so that no packet comes before these. Whether more may
 // be read: not while too many plays wait for their pacer, or too much waits to be written.
 pub(crate) fn has_handed_over<R: Wait>(
-    service: &Service<'_, R>,
+    rt: &R,
+    bells: &Bells,
     plays: &mut NotedPlays,
-    asker: Asker,
+    conn: u64,
     outlet: &Outlet,
 ) -> bool {
-    let is_heard = plays.hand_over(service.rt, &service.shared.bells, asker.conn);
-    is_heard && outlet.waiting(service.rt) <= PAUSE
+    let is_heard = plays.hand_over(rt, bells, conn);
+    is_heard && outlet.waiting(rt) <= PAUSE
 }
 
 impl<R: Wait + Net + rt::Clock> PieceAnswerer for Front<'_, R> {
@@ -191,7 +197,7 @@ impl<R: Wait + Net + rt::Clock> PieceAnswerer for Front<'_, R> {
         room: &mut Room,
     ) -> Result<(), MessageFault> {
         let all = input.len().saturating_add(piece.len());
-        let witness = AnswerCounter::new(&self.service, self.asker, self.heard);
+        let witness = AnswerCounter::new(self.service.desk, self.asker, self.heard);
         let pushed = answer_piece(
             &self.service,
             self.handle,
@@ -211,14 +217,9 @@ impl<R: Wait + Net + rt::Clock> PieceAnswerer for Front<'_, R> {
             is_full: piece.len() == PIECE,
             is_fault: pushed.is_err(),
         };
-        self.has_room = settle(
-            &self.service,
-            self.lane,
-            self.activity,
-            &witness,
-            input,
-            came,
-        );
+        settle(self.lane, self.activity, &witness, input, came);
+        // A piece that was full may be followed by another one.
+        self.has_room = !came.is_full || self.service.make_room(self.lane);
         pushed
     }
 
@@ -227,8 +228,9 @@ impl<R: Wait + Net + rt::Clock> PieceAnswerer for Front<'_, R> {
     }
 
     fn has_written(&mut self) -> bool {
-        let outlet = self.outlet;
-        let goes_on = has_handed_over(&self.service, self.plays, self.asker, outlet);
+        let Service { rt, shared, .. } = self.service;
+        let conn = self.asker.conn;
+        let goes_on = has_handed_over(rt, &shared.bells, self.plays, conn, self.outlet);
         self.has_room && goes_on
     }
 }

@@ -18,13 +18,14 @@ impl Parts {
         growth: &mut Growth,
         mut users: Option<UsersGrowth>,
     ) {
+        let shared = &self.shared;
         for _ in rt.forever() {
             if self.attend_scribe(rt, Duration::from_millis(growth.pause())) {
                 break;
             }
-            growth.turn(rt, &self.shared);
-            if let Some(users) = &mut users {
-                users.turn(rt, &self.shared);
+            growth.turn(rt, shared);
+            if let (Some(users), Some(current)) = (&mut users, &shared.users) {
+                users.turn(rt, current, &shared.log, shared.now(rt));
             }
         }
     }

@@ -6,10 +6,11 @@ mod taking_a_name;
 
 use self::holding_back::Passage;
 use crate::channels::Channels;
+use crate::desk::Desk;
 use crate::hearing::Hearing;
 use crate::naming::Naming;
 use crate::service::Service;
-use crate::shared::{Lent, Shared};
+use crate::shared::{Lent, Shared, unbinder};
 use crate::tools::Tools;
 use crate::unread::UnreadLoan;
 use crate::visiting::{Part, Read, Visit};
@@ -22,13 +23,14 @@ use rtsp_grammar::MessageFault;
 use rtsp_lock::BookHandle;
 use rtsp_log::{Event as LogEvent, Log};
 use rtsp_metrics::Counters;
-use rtsp_sockets::{Loan, Outlet, prepare};
+use rtsp_shares::ShareTable;
+use rtsp_sockets::{Loan, Outlet, PortTable, prepare};
 use rtsp_threads::{Activity, LaneShares, PAUSE, PIECES, take_leave};
 use std::alloc::Global;
 use std::net::{Ipv4Addr, Net, SocketAddr};
 use std::os::fd::{AsRawFd, RawFd};
 use std::rt;
-use std::sync::{Arc, Wait};
+use std::sync::{Arc, Mutex, Wait};
 
 // How far a connection has come.
 #[derive(Clone, Copy, PartialEq, Eq)]
@@ -93,7 +95,8 @@ impl Client {
     /// A connection that was accepted. `None` where its options can't be set, or where memory or the
     /// numbers are used up.
     pub(crate) fn open<R: Wait>(
-        service: &Service<'_, R>,
+        desk: &Desk<'_, R>,
+        lent: &Lent,
         lane: &mut BookHandle,
         stream: TcpStream,
         peer: u32,
@@ -104,11 +107,10 @@ impl Client {
             return None;
         }
         let host = host_of(&stream);
-        let lent = &service.shared.lent;
-        let outlet = open_outlet(service.alloc, lent, stream)?;
+        let outlet = open_outlet(desk.alloc, lent, stream)?;
         let unread = UnreadLoan::of(&lent.unread)?;
-        let mut handle = lane.split(service.rt)?;
-        let conn = handle.draw(service.rt)?;
+        let mut handle = lane.split(desk.rt)?;
+        let conn = handle.draw(desk.rt)?;
         Some(Client {
             handle,
             asker: Asker {
@@ -119,7 +121,7 @@ impl Client {
             naming,
             host,
             outlet,
-            input: Connection::new(service.alloc),
+            input: Connection::new(desk.alloc),
             gate,
             unread,
             stage: Stage::Open,
@@ -128,7 +130,7 @@ impl Client {
             is_ending: false,
             is_over: false,
             passage: Passage::Open,
-            activity: Activity::new(service.now),
+            activity: Activity::new(desk.now),
             hearing: Hearing::new(),
         })
     }
@@ -165,7 +167,7 @@ impl Client {
         until: u64,
     ) -> Visit {
         if self.is_over {
-            return self.end_overdue(service);
+            return self.end_overdue(service.rt, service.shared.doorway());
         }
         if self.is_writable && !self.flush(service.rt, service.now) {
             return Visit::Ended;
@@ -184,8 +186,8 @@ impl Client {
             Err(visit) => return visit,
         };
         let read = self.read(service, tools, lane, part, until);
-        self.hear(service, tools);
-        self.end_visit(service, tools, read)
+        self.hear(service.desk, tools);
+        self.end_visit(service.desk, &service.shared.counters, tools, read)
     }
 
     // Writes what waits. Whether the connection goes on.
@@ -207,7 +209,7 @@ impl Client {
     }
 
     // Where the players are GStreamer, RTCP keeps the session alive that plays over the connection.
-    fn hear<R: Wait>(&mut self, service: &Service<'_, R>, tools: &mut Tools) {
+    fn hear<R: Wait>(&mut self, desk: &Desk<'_, R>, tools: &mut Tools) {
         if let Some(session) = tools.plays.take_last() {
             self.hearing.expect(session);
         }
@@ -215,11 +217,11 @@ impl Client {
         if heard.is_empty() {
             return;
         }
-        match service.table.server().players {
+        match desk.table.server().players {
             Players::Strict => {}
             Players::Gstreamer => {
                 self.hearing
-                    .hear(service, &mut self.handle, self.asker.conn, heard);
+                    .hear(desk, &mut self.handle, self.asker.conn, heard);
             }
         }
     }
@@ -238,20 +240,21 @@ impl Client {
     // Does what follows from how a visit ended.
     fn end_visit<R: Wait + rt::Clock>(
         &mut self,
-        service: &Service<'_, R>,
+        desk: &Desk<'_, R>,
+        counters: &Counters,
         tools: &mut Tools,
         read: Read,
     ) -> Visit {
-        let Service { rt, shared, .. } = *service;
+        let Desk { rt, teller, .. } = *desk;
         match read.end {
-            VisitEnd::More => self.go_on(rt, &shared.counters, read.is_kept, Visit::More),
+            VisitEnd::More => self.go_on(rt, counters, read.is_kept, Visit::More),
             VisitEnd::Waits => {
                 self.is_readable = false;
-                self.go_on(rt, &shared.counters, read.is_kept, Visit::Done)
+                self.go_on(rt, counters, read.is_kept, Visit::Done)
             }
             VisitEnd::Closed => self.drain(rt),
             VisitEnd::Fault(fault) => {
-                tell_fault(rt, &shared.log, fault);
+                tell_fault(rt, teller.log, fault);
                 self.drop_rest(tools);
                 self.drain(rt)
             }
@@ -340,9 +343,9 @@ impl Client {
         if shared.users.is_some() {
             shared.owners.leave(rt, conn);
         }
-        if self.end_sessions(rt, shared, lane) {
+        if self.end_sessions(rt, &shared.ports, &shared.session_shares, lane) {
             shared.ends.note();
-            shared.tell_hung_up(rt, conn, lane);
+            shared.end_teller().tell_hung_up(rt, conn, lane);
         }
         shared.gate.leave(rt, self.naming.place(peer));
     }
@@ -351,12 +354,13 @@ impl Client {
     fn end_sessions<R: Wait + Net>(
         &mut self,
         rt: &R,
-        shared: &Shared,
+        ports: &PortTable,
+        places: &Option<Mutex<ShareTable>>,
         lane: &mut BookHandle,
     ) -> bool {
         let conn = self.asker.conn;
-        let mut binder = shared.unbinder(rt);
-        let mut shares = LaneShares::new(rt, shared.session_shares.as_ref(), lane);
+        let mut binder = unbinder(rt, ports);
+        let mut shares = LaneShares::new(rt, places.as_ref(), lane);
         take_leave(rt, &mut self.handle, &mut binder, conn, &mut shares)
     }
 }

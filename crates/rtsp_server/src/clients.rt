@@ -7,10 +7,12 @@ use crate::service::Service;
 use crate::shared::Shared;
 use crate::tools::Tools;
 use crate::visiting::Visit;
+use mio::net::TcpListener;
 use mio::unix::SourceFd;
 use mio::{Events, Interest, Poll, Token, Waker};
 use rtsp_lock::BookHandle;
 use rtsp_roster::{Line, Roster};
+use rtsp_shares::Watermark;
 use rtsp_threads::{
     Acceptor, HELD_REST, LaneTurn, RoomLooks, RoomWait, SWEEP_EVERY, TURN_EVERY, TURN_TIME,
     VISIT_TIME,
@@ -20,7 +22,7 @@ use std::fs::File;
 use std::net::Net;
 use std::os::fd::AsRawFd;
 use std::rt::Files;
-use std::sync::Wait;
+use std::sync::{Mutex, Wait};
 use std::time::Duration;
 use std::{io, net, rt, thread};
 
@@ -80,13 +82,13 @@ impl Drop for Clients {
 }
 
 // A poll that tells of the listener of all lanes, and that other threads wake.
-fn open_poll<R: Wait + Net>(rt: &R, shared: &Shared) -> io::Result<Poll> {
+fn open_poll<R: Wait + Net>(rt: &R, listener: &TcpListener, lanes: &AllLanes) -> io::Result<Poll> {
     let poll = Poll::new(rt)?;
-    let fd = shared.listener.as_raw_fd();
+    let fd = listener.as_raw_fd();
     let registry = poll.registry();
     registry.register(&mut SourceFd(&fd), LISTENER, Interest::READABLE)?;
     let waker = Waker::new(registry, WAKER)?;
-    shared.lanes.add_waker(rt, waker)?;
+    lanes.add_waker(rt, waker)?;
     Ok(poll)
 }
 
@@ -100,9 +102,9 @@ impl Clients {
         listener: net::TcpListener,
     ) -> io::Result<Clients> {
         let acceptor = Acceptor::new(listener)?;
-        let tools = Tools::open(rt, alloc, shared)?;
+        let tools = Tools::open(rt, alloc, &shared.users)?;
         let events = Events::with_capacity(alloc, EVENTS)?;
-        let poll = open_poll(rt, shared)?;
+        let poll = open_poll(rt, &shared.listener, &shared.lanes)?;
         Ok(Clients {
             number,
             poll,
@@ -305,28 +307,27 @@ impl Clients {
     }
 
     // Tells that all that had come up to a moment was read.
-    fn tell_read<R: Wait>(&mut self, service: &Service<'_, R>, moment: u64) {
+    fn tell_read<R: Wait>(&mut self, rt: &R, watermark: &Mutex<Watermark>, moment: u64) {
         if moment > self.read {
             self.read = moment;
-            let mut watermark = service.shared.watermark.lock(service.rt);
+            let mut watermark = watermark.lock(rt);
             watermark.note_read(self.number, moment);
         }
     }
 
     // Closes connections that are stalled, and has those visited that are silent or late, or that have
     // bytes waiting for their players.
-    fn sweep<R: Wait>(&mut self, service: &Service<'_, R>) {
-        if service.now.saturating_sub(self.swept) < SWEEP_EVERY {
+    fn sweep<R: Wait>(&mut self, rt: &R, watermark: &Mutex<Watermark>, timeout: u32, now: u64) {
+        if now.saturating_sub(self.swept) < SWEEP_EVERY {
             return;
         }
-        self.swept = service.now;
+        self.swept = now;
         self.acceptor.restore();
-        let watermark = &service.shared.watermark;
-        let moment = watermark.lock(service.rt).moment(service.now);
-        let timeout = u64::from(service.table.server().timeout).saturating_mul(1_000);
+        let moment = watermark.lock(rt).moment(now);
+        let timeout = u64::from(timeout).saturating_mul(1_000);
         for key in 0..self.roster.keys() {
             if let Some(client) = self.roster.get_mut(key)
-                && client.sweep(service.rt, timeout, moment)
+                && client.sweep(rt, timeout, moment)
             {
                 self.roster.note(key);
             }
@@ -335,11 +336,11 @@ impl Clients {
 
     // Hands over the lines that have waited for long; all of them where the lane is over.
     fn end_turn<R: Wait>(&mut self, service: &Service<'_, R>) -> LaneTurn {
-        let (lines, log) = (service.lines, &service.shared.log);
+        let (lines, log) = (service.desk.lines, &service.shared.log);
         lines.hand_over_due(service.rt, log, self.now);
         let is_over = service.shared.gate.is_shut() && self.roster.len() == 0;
         if is_over {
-            self.tell_read(service, u64::MAX);
+            self.tell_read(service.rt, &service.shared.watermark, u64::MAX);
             lines.hand_over(service.rt, log);
         }
         LaneTurn {
@@ -373,6 +374,7 @@ impl Clients {
         handle: &mut BookHandle,
         told: Option<u64>,
     ) -> LaneTurn {
+        let Service { rt, shared, .. } = *service;
         self.call_back(service, handle);
         self.gather();
         let is_none_new = self.accept_some(service, handle);
@@ -382,9 +384,10 @@ impl Clients {
             && self.roster.ready() == 0
             && self.aside.len() == 0
         {
-            self.tell_read(service, moment);
+            self.tell_read(rt, &shared.watermark, moment);
         }
-        self.sweep(service);
+        let timeout = service.table.server().timeout;
+        self.sweep(rt, &shared.watermark, timeout, service.now);
         self.end_turn(service)
     }
 }

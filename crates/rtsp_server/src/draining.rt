@@ -1,9 +1,11 @@
 //! The drain of a server, for an upgrade that cuts nobody off.
 
-use crate::shared::Shared;
-use crate::stopping::StopTimes;
+use crate::end_lines::EndTeller;
+use crate::stopping::{StopTimes, begin_stop};
 use rtsp_lock::BookHandle;
-use rtsp_log::Event;
+use rtsp_log::{Event, Log};
+use rtsp_metrics::Audience;
+use rtsp_threads::Gate;
 use std::rt;
 use std::sync::Wait;
 use std::sync::atomic::{AtomicU64, Ordering};
@@ -61,36 +63,42 @@ impl Draining {
     }
 }
 
-impl Shared {
-    /// No more connections are let in from now on. Asked for again, it goes on as it was.
-    pub(crate) fn begin_drain<R: Wait + rt::Clock>(&self, rt: &R) {
-        if let Some(seconds) = self.draining.begin(self.now(rt)) {
-            self.log.event(rt, Event::Draining { seconds });
-        }
-    }
+// Whether no session lives, and the end of each is told.
+fn is_empty<R: Wait>(rt: &R, audience: &Audience, handle: &mut BookHandle) -> bool {
+    handle.tally(rt).sessions == 0 && audience.next(rt, 0).is_none()
+}
 
-    // Whether no session lives, and the end of each is told.
-    fn is_empty<R: Wait>(&self, rt: &R, handle: &mut BookHandle) -> bool {
-        handle.tally(rt).sessions == 0 && self.audience.next(rt, 0).is_none()
+/// No more connections are let in from this moment on. Asked for again, it goes on as it was.
+pub(crate) fn begin_drain<R: Wait + rt::Clock>(rt: &R, draining: &Draining, log: &Log, now: u64) {
+    if let Some(seconds) = draining.begin(now) {
+        log.event(rt, Event::Draining { seconds });
     }
+}
 
-    /// Has the lanes end, where the server is drained and no session lives any more, or it was waited for
-    /// them long enough.
-    pub(crate) fn follow_drain<R: Wait + rt::Clock>(
-        &self,
-        rt: &R,
-        handle: &mut BookHandle,
-        now: u64,
-    ) {
-        let Some(until) = self.draining.until() else {
-            return;
-        };
-        if self.lanes.stop_by().is_some() {
-            return;
-        }
-        if until <= now || self.is_empty(rt, handle) {
-            self.log.event(rt, Event::Drained);
-            self.begin_stop(rt, StopTimes::after_first(now));
-        }
+/// Has the lanes end, where the server is drained and no session lives any more, or it was waited for
+/// them long enough.
+pub(crate) fn follow_drain<R: Wait + rt::Clock>(
+    rt: &R,
+    draining: &Draining,
+    gate: &Gate,
+    teller: EndTeller<'_>,
+    handle: &mut BookHandle,
+    now: u64,
+) {
+    let EndTeller {
+        audience,
+        lanes,
+        log,
+        ..
+    } = teller;
+    let Some(until) = draining.until() else {
+        return;
+    };
+    if lanes.stop_by().is_some() {
+        return;
+    }
+    if until <= now || is_empty(rt, audience, handle) {
+        log.event(rt, Event::Drained);
+        begin_stop(rt, gate, lanes, StopTimes::after_first(now));
     }
 }

@@ -1,11 +1,13 @@
 //! What is counted and shown of a server, for whoever runs it.
 
 use crate::channels::Channels;
+use crate::desk::Desk;
+use crate::draining::begin_drain;
 use crate::further::{bytes_sent, further};
 use crate::operating::{end_by_operator, sessions_text, standing};
-use crate::service::Service;
 use crate::session_names::{named, viewing_of};
-use crate::shared::Shared;
+use crate::shared::{give_place_back, since};
+use crate::shown::Shown;
 use rtsp_content::Server;
 use rtsp_engine::Asker;
 use rtsp_lock::{BookHandle, HandOutFault, Mark, Then};
@@ -55,7 +57,7 @@ fn is_counting(method: &rtsp_grammar::Method) -> bool {
 /// Who is told of the answers to a piece of a player's input, and notes what they came to.
 #[derive(Drop)]
 pub(crate) struct AnswerCounter<'a, R> {
-    pub(crate) service: Service<'a, R>,
+    pub(crate) desk: &'a Desk<'a, R>,
     pub(crate) asker: Asker,
     heard: &'a Cell<Channels>,
     // The moment of the log's lines, in milliseconds since 1970, where requests have any: the clock is read
@@ -68,17 +70,18 @@ pub(crate) struct AnswerCounter<'a, R> {
 
 impl<'a, R: rt::Clock> AnswerCounter<'a, R> {
     pub(crate) fn new(
-        service: &Service<'a, R>,
+        desk: &'a Desk<'a, R>,
         asker: Asker,
         heard: &'a Cell<Channels>,
     ) -> AnswerCounter<'a, R> {
-        let moment = if service.shared.logs_access() {
-            Some(moment(service.rt))
+        let teller = desk.teller;
+        let moment = if teller.switches.logs_access(teller.log) {
+            Some(moment(desk.rt))
         } else {
             None
         };
         AnswerCounter {
-            service: *service,
+            desk,
             asker,
             heard,
             moment,
@@ -89,7 +92,7 @@ impl<'a, R: rt::Clock> AnswerCounter<'a, R> {
 
     /// A request for whose answer there was no memory is decided.
     pub(crate) fn end_decision(&self) {
-        self.service.decisions().end();
+        self.desk.decisions.end();
     }
 
     /// So many SETUPs were refused 503 before anything was drawn: their address has no place left.
@@ -111,35 +114,41 @@ impl<'a, R: rt::Clock> AnswerCounter<'a, R> {
 impl<R: Wait + rt::Clock> AnswerCounter<'_, R> {
     // Notes which user the session is of that a SETUP has opened, or has set up a track in.
     fn note_owner(&self, viewing: Option<&Viewing>) {
-        let Service { rt, shared, .. } = self.service;
-        if shared.users.is_none() {
+        let Desk { rt, teller, .. } = *self.desk;
+        if !teller.has_users {
             return;
         }
         // A session whose end was told before isn't noted any more: nobody would forget it.
         let id = match viewing {
-            Some(viewing) if shared.audience.viewing(rt, viewing.session).is_some() => {
+            Some(viewing) if teller.audience.viewing(rt, viewing.session).is_some() => {
                 Some(viewing.id)
             }
             _ => None,
         };
-        shared.owners.answer(rt, self.asker.conn, id);
+        teller.owners.answer(rt, self.asker.conn, id);
     }
 
     // Notes which session was begun or has ended.
     fn note_session(&self, method: Method, told: &Told<'_>) {
-        let Service { rt, shared, .. } = self.service;
+        let Desk {
+            rt,
+            ends,
+            teller,
+            session_shares,
+            ..
+        } = *self.desk;
         if told.status != UNAUTHORIZED && method == Method::Teardown {
-            shared.ends.note();
+            ends.note();
         }
-        let viewing = viewing_of(told, self.asker, self.service.now);
+        let viewing = viewing_of(told, self.asker, self.desk.now);
         if let Some(viewing) = viewing {
-            shared.audience.enter(rt, viewing);
+            teller.audience.enter(rt, viewing);
         }
         if method == Method::Setup {
             self.note_owner(viewing.as_ref());
         }
         if let Some(life) = told.ended {
-            shared.end_place(rt, life.session);
+            give_place_back(rt, session_shares, life.session);
         }
         if method == Method::Setup && may_have_opened(told.status) {
             self.setups.set(self.setups.get().saturating_add(1));
@@ -148,13 +157,13 @@ impl<R: Wait + rt::Clock> AnswerCounter<'_, R> {
 
     // Tells the log of the answer, and of the session that has ended.
     fn tell(&self, told: &Told<'_>) {
-        let Service {
+        let Desk {
             rt,
-            shared,
+            teller,
             lines,
             ..
-        } = self.service;
-        let log = &shared.log;
+        } = *self.desk;
+        let log = teller.log;
         if told.status == OUT_OF_MEMORY {
             log.event(rt, Event::OutOfMemory);
         }
@@ -165,12 +174,12 @@ impl<R: Wait + rt::Clock> AnswerCounter<'_, R> {
                 method: told.method.as_bytes(),
                 uri: told.uri,
                 status: told.status,
-                session: named(rt, &shared.audience, told),
+                session: named(rt, teller.audience, told),
             };
             lines.add(rt, log, moment, access);
         }
         if let Some(life) = told.ended {
-            shared.tell_ended(rt, life.session, EndCause::Teardown);
+            teller.tell_ended(rt, life.session, EndCause::Teardown);
         }
     }
 }
@@ -178,9 +187,8 @@ impl<R: Wait + rt::Clock> AnswerCounter<'_, R> {
 impl<R: Wait + rt::Clock> Witness for AnswerCounter<'_, R> {
     fn asked(&self, method: &rtsp_grammar::Method) {
         if is_counting(method) {
-            let Service { rt, shared, .. } = self.service;
-            let mut clock = RunningClock::new(rt, shared.begun);
-            self.service.decisions().begin(&mut clock);
+            let mut clock = RunningClock::new(self.desk.rt, self.desk.teller.begun);
+            self.desk.decisions.begin(&mut clock);
         }
     }
 
@@ -190,11 +198,11 @@ impl<R: Wait + rt::Clock> Witness for AnswerCounter<'_, R> {
 
     fn answered(&self, told: &Told<'_>) {
         let method = Method::of(told.method.as_bytes());
-        let Service {
+        let Desk {
             answers,
             recorded,
             ..
-        } = self.service;
+        } = *self.desk;
         answers.answered(method, told.status);
         if is_counting(told.method) {
             self.end_decision();
@@ -224,7 +232,7 @@ fn rest_of(whole: u64, free: u64) -> Held {
 #[derive(Drop)]
 pub(crate) struct Figures<'a, R> {
     pub(crate) rt: &'a R,
-    pub(crate) shared: &'a Shared,
+    pub(crate) shown: Shown<'a>,
     pub(crate) numbers: Server,
     pub(crate) handle: BookHandle,
     /// What the system says of the process, where it does.
@@ -257,11 +265,11 @@ impl<R: Wait> Figures<'_, R> {
     // What was counted so far, by all.
     fn counts(&mut self) -> Counts {
         let mut counts = Counts {
-            log_lines_dropped: self.shared.log.dropped(),
+            log_lines_dropped: self.shown.teller.log.dropped(),
             shortenings: self.shortenings(),
-            ..self.shared.counters.read()
+            ..self.shown.counters.read()
         };
-        self.shared.lanes.add_answers(self.rt, &mut counts);
+        self.shown.teller.lanes.add_answers(self.rt, &mut counts);
         counts
     }
 
@@ -277,12 +285,13 @@ impl<R: Wait> Figures<'_, R> {
 
 impl<R: Wait + Net + rt::Clock> Source for Figures<'_, R> {
     fn snapshot(&mut self) -> Snapshot {
-        let open = self.shared.gate.open_now();
+        let Shown { gate, teller, .. } = self.shown;
+        let open = gate.open_now();
         Snapshot {
-            uptime_seconds: self.shared.now(self.rt) / 1_000,
+            uptime_seconds: since(self.rt, teller.begun) / 1_000,
             connections: Held {
                 held: open,
-                free: self.shared.gate.most().saturating_sub(open),
+                free: gate.most().saturating_sub(open),
             },
             book: self.book(),
             counts: self.counts(),
@@ -291,34 +300,41 @@ impl<R: Wait + Net + rt::Clock> Source for Figures<'_, R> {
 
     fn further(&mut self, alloc: Global) -> Result<Further, AllocError> {
         let usage = self.usage.as_ref();
-        further(self.rt, alloc, self.shared, usage, &self.history)
+        further(self.rt, alloc, self.shown, usage, &self.history)
     }
 
     fn standing(&mut self) -> Standing {
-        standing(self.rt, self.shared, self.book().rate)
+        let rate = self.book().rate;
+        standing(self.rt, self.shown, rate)
     }
 
     fn sessions(&self, alloc: Global) -> Result<Vec<u8>, AllocError> {
-        sessions_text(self.rt, alloc, self.shared)
+        sessions_text(self.rt, alloc, self.shown.teller)
     }
 
     fn is_open(&self) -> bool {
-        self.shared.is_status_open()
+        self.shown.teller.switches.is_status_open()
     }
 
     fn drain(&mut self) {
-        self.shared.begin_drain(self.rt);
+        let Shown {
+            draining,
+            teller,
+            ..
+        } = self.shown;
+        begin_drain(self.rt, draining, teller.log, since(self.rt, teller.begun));
     }
 
     fn end(&mut self, session: SessionMeant) -> bool {
-        end_by_operator(self.rt, self.shared, &mut self.handle, session)
+        end_by_operator(self.rt, self.shown, &mut self.handle, session)
     }
 
     fn note(&mut self) {
-        let now = self.shared.now(self.rt);
+        let now = since(self.rt, self.shown.teller.begun);
         if self.history.is_due(now) {
             let snapshot = self.snapshot();
-            self.history.note(&snapshot, bytes_sent(self.shared), now);
+            let bytes = bytes_sent(self.shown.teller.audience);
+            self.history.note(&snapshot, bytes, now);
         }
     }
 }

@@ -2,6 +2,7 @@
 
 use crate::shared::Shared;
 use rtsp_content::{Operation, Server};
+use rtsp_log::Log;
 use rtsp_threads::set_share;
 use std::sync::Wait;
 use std::sync::atomic::{AtomicBool, Ordering};
@@ -45,19 +46,19 @@ impl Switches {
             is_open: AtomicBool::new(operation.status_open()),
         }
     }
-}
 
-impl Shared {
-    /// Whether requests have lines in the log by now.
-    pub(crate) fn logs_access(&self) -> bool {
-        self.log.logs_access() && self.switches.logs_access.load(Ordering::Relaxed)
+    /// Whether requests have lines in this log by now.
+    pub(crate) fn logs_access(&self, log: &Log) -> bool {
+        log.logs_access() && self.logs_access.load(Ordering::Relaxed)
     }
 
     /// Whether players' addresses are shown to all by now, and not to this machine alone.
     pub(crate) fn is_status_open(&self) -> bool {
-        self.switches.is_open.load(Ordering::SeqCst)
+        self.is_open.load(Ordering::SeqCst)
     }
+}
 
+impl Shared {
     /// Goes by these keys from now on. Who is let in stays.
     pub(crate) fn follow<R: Wait>(&self, rt: &R, keys: FollowedKeys) {
         let Switches {

@@ -2,7 +2,8 @@
 
 ghost use Rattle.std.specs.Prelude.{◌≤◌, length};
 
-use crate::service::Service;
+use crate::desk::Desk;
+use crate::shared::since;
 use rtsp_book::SessionView;
 use rtsp_grammar::{Feed, Item, Method, Request};
 use rtsp_lock::{BookHandle, Name as LockName};
@@ -17,14 +18,14 @@ const PIPELINED: &[u8] = b"Pipelined-Requests";
 /// Tells whether requests of a connection may make entries, as the book stands now.
 #[derive(Drop)]
 pub(crate) struct Foresight<'a, R> {
-    service: &'a Service<'a, R>,
+    desk: &'a Desk<'a, R>,
     handle: &'a mut BookHandle,
 }
 
 impl<'a, R: Wait + rt::Clock> Foresight<'a, R> {
     /// That of a connection, by its handle of the book.
-    pub(crate) fn new(service: &'a Service<'a, R>, handle: &'a mut BookHandle) -> Foresight<'a, R> {
-        Foresight { service, handle }
+    pub(crate) fn new(desk: &'a Desk<'a, R>, handle: &'a mut BookHandle) -> Foresight<'a, R> {
+        Foresight { desk, handle }
     }
 
     /// How many bytes at the front are whole items that make no entries. They are read by a Feed of
@@ -32,7 +33,7 @@ impl<'a, R: Wait + rt::Clock> Foresight<'a, R> {
     pub(crate) fn harmless_len(&mut self, bytes: &[u8]) -> usize
         ensures { result ≤ length bytes.now }
     {
-        let mut feed = Feed::open(self.service.alloc);
+        let mut feed = Feed::open(self.desk.alloc);
         if feed.push(bytes).is_err() {
             return 0;
         }
@@ -59,7 +60,7 @@ impl<'a, R: Wait + rt::Clock> Foresight<'a, R> {
         if request.headers.count_of(PIPELINED) > 0 {
             return true;
         }
-        match screen(self.service.alloc, request, self.service.table) {
+        match screen(self.desk.alloc, request, self.desk.table) {
             Ok(Screen::Answered(_)) => false,
             Ok(Screen::Asks(parsed)) => match request.method {
                 Method::Setup | Method::Play | Method::Pause | Method::Teardown => true,
@@ -82,17 +83,17 @@ impl<'a, R: Wait + rt::Clock> Foresight<'a, R> {
     // stack.
     #[inline(never)]
     fn is_renewed(&mut self, request: &ParsedRequest<'_>, id: u128) -> bool {
-        let Service {
+        let Desk {
             rt,
             table,
-            shared,
+            teller,
             ..
-        } = *self.service;
+        } = *self.desk;
         let mut found: Option<SessionView> = None;
         let BookHandle { lock, seat } = &mut *self.handle;
         seat.look_into(rt, lock, LockName::Id(id), &mut found);
         match &found {
-            Some(view) => renewal(request, table, view, shared.now(rt)).is_some(),
+            Some(view) => renewal(request, table, view, since(rt, teller.begun)).is_some(),
             None => false,
         }
     }

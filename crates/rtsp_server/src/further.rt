@@ -1,20 +1,22 @@
 //! The figures of presentations, of the process and of the journal's writing, and who plays.
 
-use crate::end_lines::film_name;
+use crate::end_lines::{EndTeller, film_name};
 use crate::operating::is_journal_written;
-use crate::shared::Shared;
+use crate::shared::since;
+use crate::shown::Shown;
 use rtsp_content::Table;
 use rtsp_metrics::{
-    FilmFigures, FilmLine, History, PLAYERS_SHOWN, PlayerLine, ProcessFigures, Transport,
+    Audience, FilmFigures, FilmLine, History, PLAYERS_SHOWN, PlayerLine, ProcessFigures, Transport,
     WritingFigures, film_section, further_text, history_section, player_section,
 };
 use rtsp_sockets::Content;
 use rtsp_status::Further;
-use rtsp_threads::OwnUsage;
+use rtsp_threads::{OwnUsage, ScribeBell};
 use std::alloc::{AllocError, Global};
 use std::rt;
-use std::sync::atomic::Ordering;
+use std::sync::atomic::{AtomicU64, Ordering};
 use std::sync::{Arc, Wait};
+use std::time::Instant;
 
 // Nothing of a presentation was played.
 const NONE: FilmFigures = FilmFigures {
@@ -32,12 +34,12 @@ fn sum(one: FilmFigures, other: FilmFigures) -> FilmFigures {
 }
 
 // What was played over a transport of all presentations that have had this name.
-fn played(shared: &Shared, table: &Table, name: &str, over: Transport) -> FilmFigures {
+fn played(audience: &Audience, table: &Table, name: &str, over: Transport) -> FilmFigures {
     let mut played = NONE;
     for (place, presentation) in table.presentations().iter().enumerate() {
         if presentation.name() == name {
             let place = u16::try_from(place).unwrap_or(u16::MAX);
-            played = sum(played, shared.audience.film(place, over).unwrap_or(NONE));
+            played = sum(played, audience.film(place, over).unwrap_or(NONE));
         }
     }
     played
@@ -55,7 +57,7 @@ fn is_first(table: &Table, place: usize, name: &str) -> bool {
 // What was played of each presentation.
 fn film_lines<'t>(
     alloc: Global,
-    shared: &Shared,
+    audience: &Audience,
     table: &'t Table,
 ) -> Result<Vec<FilmLine<'t>>, AllocError> {
     let mut films = Vec::new(alloc);
@@ -64,38 +66,43 @@ fn film_lines<'t>(
         if is_first(table, place, name) {
             films.push(FilmLine {
                 name: name.as_bytes(),
-                udp: played(shared, table, name, Transport::Udp),
-                tcp: played(shared, table, name, Transport::Tcp),
+                udp: played(audience, table, name, Transport::Udp),
+                tcp: played(audience, table, name, Transport::Tcp),
             })?;
         }
     }
     Ok(films)
 }
 
-fn process(shared: &Shared, usage: Option<&OwnUsage>) -> Option<ProcessFigures> {
+fn process(started: u64, usage: Option<&OwnUsage>) -> Option<ProcessFigures> {
     let usage = usage?.read()?;
     Some(ProcessFigures {
-        start_seconds: shared.started / 1_000,
+        start_seconds: started / 1_000,
         cpu_ms: usage.cpu_ms,
         resident_bytes: usage.resident_bytes,
     })
 }
 
-fn writing<R: Wait + rt::Clock>(rt: &R, shared: &Shared) -> Option<WritingFigures> {
-    shared.scribe.as_ref()?;
-    let written_at = shared.written_at.load(Ordering::Relaxed);
+fn writing<R: Wait + rt::Clock>(
+    rt: &R,
+    scribe: &Option<ScribeBell>,
+    written_at: &AtomicU64,
+    begun: Instant,
+) -> Option<WritingFigures> {
+    scribe.as_ref()?;
+    let written_at = written_at.load(Ordering::Relaxed);
     Some(WritingFigures {
-        is_written: is_journal_written(rt, shared),
-        behind_ms: shared.now(rt).saturating_sub(written_at),
+        is_written: is_journal_written(rt, scribe),
+        behind_ms: since(rt, begun).saturating_sub(written_at),
     })
 }
 
 /// How many bytes of RTP packets were sent, of all presentations.
-pub(crate) fn bytes_sent(shared: &Shared) -> u64 {
+pub(crate) fn bytes_sent(audience: &Audience) -> u64 {
     let mut bytes = 0u64;
     for place in 0..u16::MAX {
-        let udp = shared.audience.film(place, Transport::Udp);
-        let tcp = shared.audience.film(place, Transport::Tcp);
+        let udp = audience.film(place, Transport::Udp);
+        let tcp = audience.film(place, Transport::Tcp);
         let (Some(udp), Some(tcp)) = (udp, tcp) else {
             break;
         };
@@ -108,13 +115,14 @@ pub(crate) fn bytes_sent(shared: &Shared) -> u64 {
 fn players<R: Wait + rt::Clock>(
     rt: &R,
     alloc: Global,
-    shared: &Shared,
+    audience: &Audience,
     content: &Arc<Content>,
+    now: u64,
 ) -> Result<Vec<u8>, AllocError> {
     let mut players = Vec::new(alloc);
     let mut from = 0u64;
     for _ in 0..PLAYERS_SHOWN {
-        let Some(viewer) = shared.audience.next(rt, from) else {
+        let Some(viewer) = audience.next(rt, from) else {
             break;
         };
         players.push(PlayerLine {
@@ -123,27 +131,34 @@ fn players<R: Wait + rt::Clock>(
         })?;
         from = viewer.viewing.session.saturating_add(1);
     }
-    player_section(alloc, &players, shared.now(rt))
+    player_section(alloc, &players, now)
 }
 
 /// What is shown beside the snapshot of a server.
 pub(crate) fn further<R: Wait + rt::Clock>(
     rt: &R,
     alloc: Global,
-    shared: &Shared,
+    shown: Shown<'_>,
     usage: Option<&OwnUsage>,
     history: &History,
 ) -> Result<Further, AllocError> {
-    let Some(content) = shared.contents.current(rt) else {
+    let EndTeller {
+        audience,
+        contents,
+        begun,
+        ..
+    } = shown.teller;
+    let Some(content) = contents.current(rt) else {
         return Err(AllocError);
     };
-    let films = film_lines(alloc, shared, &content.table)?;
-    let figures = shared.content_counts.read();
-    let process = process(shared, usage);
-    let writing = writing(rt, shared);
+    let films = film_lines(alloc, audience, &content.table)?;
+    let figures = shown.content_counts.read();
+    let process = process(shown.started, usage);
+    let writing = writing(rt, shown.scribe, shown.written_at, begun);
     let mut section = history_section(alloc, history)?;
     section.extend_from_slice(&film_section(alloc, &figures, &films)?)?;
-    section.extend_from_slice(&players(rt, alloc, shared, &content)?)?;
+    let now = since(rt, begun);
+    section.extend_from_slice(&players(rt, alloc, audience, &content, now)?)?;
     Ok(Further {
         lines: further_text(alloc, process, writing, &figures, &films)?,
         section,

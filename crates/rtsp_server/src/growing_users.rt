@@ -7,8 +7,8 @@ use crate::users_reasons::users_reason;
 use crate::watched_file::{WatchedFile, read_all};
 use rtsp_content::Operation;
 use rtsp_credentials::{Users, UsersFault, read_users};
-use rtsp_log::Event;
-use rtsp_threads::CONFIGURATION_EVERY;
+use rtsp_log::{Event, Log};
+use rtsp_threads::{CONFIGURATION_EVERY, StopBell};
 use std::alloc::{AllocError, Global};
 use std::fs::File;
 use std::rt::Files;
@@ -32,12 +32,12 @@ fn shared_users(alloc: Global, text: &[u8]) -> Result<Arc<Users>, UsersFault> {
 fn refuse<R: Wait + rt::Clock>(
     rt: &R,
     alloc: Global,
-    shared: &Shared,
+    log: &Log,
     reason: Result<String, AllocError>,
 ) {
     match reason {
-        Ok(reason) => shared.log.not_taken(rt, alloc, reason.as_bytes()),
-        Err(AllocError) => shared.log.not_taken(rt, alloc, b"out of memory"),
+        Ok(reason) => log.not_taken(rt, alloc, reason.as_bytes()),
+        Err(AllocError) => log.not_taken(rt, alloc, b"out of memory"),
     }
 }
 
@@ -75,12 +75,10 @@ impl UsersGrowth {
     pub(crate) fn turn<R: Wait + rt::Clock + Files<File = File>>(
         &mut self,
         rt: &R,
-        shared: &Shared,
+        users: &CurrentUsers,
+        log: &Log,
+        now: u64,
     ) {
-        let Some(users) = &shared.users else {
-            return;
-        };
-        let now = shared.now(rt);
         if now < self.looked.saturating_add(CONFIGURATION_EVERY) {
             return;
         }
@@ -93,7 +91,7 @@ impl UsersGrowth {
             None => refuse(
                 rt,
                 self.alloc,
-                shared,
+                log,
                 unreadable(self.alloc, self.file.path()),
             ),
         }
@@ -121,42 +119,39 @@ impl UsersReader {
     }
 
     // Takes the file up. A bad one changes nothing, and the log tells why.
-    fn take<R: Wait + rt::Clock>(
-        &self,
-        rt: &R,
-        shared: &Shared,
-        users: &CurrentUsers,
-        file: &File,
-    ) {
+    fn take<R: Wait + rt::Clock>(&self, rt: &R, log: &Log, users: &CurrentUsers, file: &File) {
         let path = self.path.as_str();
         let Some(text) = read_all(self.alloc, file) else {
-            return refuse(rt, self.alloc, shared, unreadable(self.alloc, path));
+            return refuse(rt, self.alloc, log, unreadable(self.alloc, path));
         };
         match shared_users(self.alloc, &text) {
             Ok(taken) => {
                 users.replace(rt, taken);
-                shared.log.event(rt, Event::UsersTaken);
+                log.event(rt, Event::UsersTaken);
             }
             Err(fault) => refuse(
                 rt,
                 self.alloc,
-                shared,
+                log,
                 users_reason(self.alloc, path, &text, fault),
             ),
         }
     }
 
     // The body of the thread.
-    fn run<R: Wait + rt::Clock>(&self, rt: &R, shared: &Shared) {
-        let Some(users) = &shared.users else {
-            return;
-        };
+    fn run<R: Wait + rt::Clock>(
+        &self,
+        rt: &R,
+        users: &CurrentUsers,
+        stop_bell: &StopBell,
+        log: &Log,
+    ) {
         for _ in rt.forever() {
-            if shared.stop_bell.wait(rt, Duration::from_millis(LOOK)) {
+            if stop_bell.wait(rt, Duration::from_millis(LOOK)) {
                 break;
             }
             if let Some(file) = users.take_changed(rt) {
-                self.take(rt, shared, users, &file);
+                self.take(rt, log, users, &file);
             }
         }
     }
@@ -177,5 +172,10 @@ pub(crate) fn start_users<R: Threads + Wait + rt::Clock + Copy + Send + 'static>
         return false;
     };
     let own = *rt;
-    thread::spawn(rt, move || reader.run(&own, &shared)).is_ok()
+    thread::spawn(rt, move || {
+        if let Some(users) = &shared.users {
+            reader.run(&own, users, &shared.stop_bell, &shared.log);
+        }
+    })
+    .is_ok()
 }

@@ -10,6 +10,7 @@ ghost use Rattle.rtsp_guard.specs.Understanding.{LeavesTaken, LeavesFaulted};
 
 use crate::answering::{Came, has_handed_over, is_due, settle};
 use crate::channels::Channels;
+use crate::desk::Desk;
 use crate::figures::AnswerCounter;
 use crate::hiding::is_there;
 use crate::owners::{Claim, Naming};
@@ -45,14 +46,14 @@ fn protection_for(players: Players) -> Protection {
 
 /// The gate of a connection that was accepted, where only users are let through.
 pub(crate) fn open_gate<R>(
-    service: &Service<'_, R>,
+    desk: &Desk<'_, R>,
     words: &mut RandomWords,
 ) -> Result<Option<Gate>, WordsFault> {
-    if service.shared.users.is_none() {
+    if !desk.teller.has_users {
         return Ok(None);
     }
     let number = words.id()?;
-    let players = service.table.server().players;
+    let players = desk.table.server().players;
     Ok(Some(Gate::open(number, protection_for(players))))
 }
 
@@ -85,38 +86,38 @@ fn name_in(request: &Request) -> UserName {
 impl<R: Wait + rt::Clock> Porter for AnswerCounter<'_, R> {
     fn refused(&self, refusal: Refusal, request: &Request) {
         if let Some(cause) = cause_of(refusal) {
-            let Service { rt, shared, .. } = self.service;
             let refused = RefusedCredentials {
                 peer: self.asker.peer,
                 cause,
                 user: name_in(request),
             };
-            shared.log.event(rt, Event::CredentialsRefused(refused));
+            let event = Event::CredentialsRefused(refused);
+            self.desk.teller.log.event(self.desk.rt, event);
         }
     }
 
     fn of_another(&self, request: &Request, user: &[u8]) -> Result<Option<Foreign>, AllocError> {
-        let Service {
+        let Desk {
             rt,
             alloc,
-            shared,
+            teller,
             ..
-        } = self.service;
+        } = *self.desk;
         let naming = Naming::of(self.asker.conn, &request.headers);
         let sets_up = matches!(request.method, Method::Setup);
-        if let Some(allowed) = self.service.allowed
-            && !is_there(&self.service, allowed, request, user)?
+        if let Some(allowed) = self.desk.allowed
+            && !is_there(self.desk, allowed, request, user)?
         {
             return Ok(Some(Foreign::Presentation));
         }
         if let Some(naming) = naming
-            && shared.owners.is_of_another(rt, naming, user)
+            && teller.owners.is_of_another(rt, naming, user)
         {
             return Ok(Some(Foreign::Session(naming.header())));
         }
         if sets_up {
             let claim = Claim::new(alloc, user, naming)?;
-            shared.owners.ask(rt, self.asker.conn, claim)?;
+            teller.owners.ask(rt, self.asker.conn, claim)?;
         }
         Ok(None)
     }
@@ -184,7 +185,7 @@ fn answer_guarded<R: Wait + Net + rt::Clock, W: Words, P: Plays>(
     let rt = service.rt;
     let shared = service.shared;
     let mut binder = PortBinder::new(rt, &shared.ports, host);
-    let mut clock = PieceClock::new(rt, shared.begun, service.decisions());
+    let mut clock = PieceClock::new(rt, shared.begun, service.desk.decisions);
     let mut shares = LaneShares::new(rt, shared.session_shares.as_ref(), lane);
     let pushed = push_lent(
         rt,
@@ -234,7 +235,7 @@ impl<R: Wait + Net + rt::Clock> PieceAnswerer for GuardedFront<'_, R> {
         room: &mut Room,
     ) -> Result<(), MessageFault> {
         let all = input.len().saturating_add(piece.len());
-        let witness = AnswerCounter::new(&self.service, self.asker, self.heard);
+        let witness = AnswerCounter::new(self.service.desk, self.asker, self.heard);
         let pushed = answer_guarded(
             &self.service,
             &mut self.gate,
@@ -256,14 +257,9 @@ impl<R: Wait + Net + rt::Clock> PieceAnswerer for GuardedFront<'_, R> {
             is_full: piece.len() == PIECE,
             is_fault: pushed.is_err(),
         };
-        self.has_room = settle(
-            &self.service,
-            self.lane,
-            self.activity,
-            &witness,
-            input,
-            came,
-        );
+        settle(self.lane, self.activity, &witness, input, came);
+        // A piece that was full may be followed by another one.
+        self.has_room = !came.is_full || self.service.make_room(self.lane);
         pushed
     }
 
@@ -272,8 +268,9 @@ impl<R: Wait + Net + rt::Clock> PieceAnswerer for GuardedFront<'_, R> {
     }
 
     fn has_written(&mut self) -> bool {
-        let outlet = self.outlet;
-        let goes_on = has_handed_over(&self.service, self.plays, self.asker, outlet);
+        let Service { rt, shared, .. } = self.service;
+        let conn = self.asker.conn;
+        let goes_on = has_handed_over(rt, &shared.bells, self.plays, conn, self.outlet);
         self.has_room && goes_on
     }
 }
@@ -289,9 +286,9 @@ impl<R: Wait + Net + rt::Clock> GuardedFront<'_, R> {
         reads_all: bool,
         until: u64,
     ) -> Read {
-        let (service, outlet) = (self.service, self.outlet);
+        let (desk, outlet) = (self.service.desk, self.outlet);
         visit_by(
-            &service, outlet, self, input, room, piece, part, reads_all, until,
+            desk, outlet, self, input, room, piece, part, reads_all, until,
         )
     }
 }

@@ -1,7 +1,7 @@
 //! Hears the RTCP that comes on a connection.
 
 use crate::channels::Channels;
-use crate::service::Service;
+use crate::desk::Desk;
 use rtsp_lock::BookHandle;
 use rtsp_pacing::{Bells, Report, hear, report_step};
 use std::sync::Wait;
@@ -43,7 +43,7 @@ impl Hearing {
     /// moves by steps: within one such step each channel is looked at once.
     pub(crate) fn hear<R: Wait>(
         &mut self,
-        service: &Service<'_, R>,
+        desk: &Desk<'_, R>,
         handle: &mut BookHandle,
         conn: u64,
         heard: Channels,
@@ -51,8 +51,8 @@ impl Hearing {
         let Some(session) = self.session else {
             return;
         };
-        let moment = service.now;
-        let step = report_step(&service.table.server());
+        let moment = desk.now;
+        let step = report_step(&desk.table.server());
         if moment.saturating_sub(self.since) >= step {
             self.looked = Channels::none();
         }
@@ -63,7 +63,7 @@ impl Hearing {
         if self.looked.is_empty() {
             self.since = moment;
         }
-        service.recorded.note();
+        desk.recorded.note();
         for channel in 0..=u8::MAX {
             if new.has(channel) {
                 self.looked = self.looked.with(channel);
@@ -73,7 +73,7 @@ impl Hearing {
                     moment,
                 };
                 let BookHandle { lock, seat } = &mut *handle;
-                hear(service.rt, seat, lock, service.table, session, report);
+                hear(desk.rt, seat, lock, desk.table, session, report);
             }
         }
     }

@@ -1,6 +1,6 @@
 //! Presentations that are there for some users alone.
 
-use crate::service::Service;
+use crate::desk::Desk;
 use rtsp_content::Allowed;
 use rtsp_grammar::Request;
 use rtsp_state::presentation_asked;
@@ -29,13 +29,13 @@ fn names_session(request: &Request) -> bool {
 /// Whether what a request is about is there for this user, as far as it is served. What is withdrawn is
 /// there for those alone who have a session of it.
 pub(crate) fn is_there<R>(
-    service: &Service<'_, R>,
+    desk: &Desk<'_, R>,
     allowed: &Allowed,
     request: &Request,
     user: &[u8],
 ) -> Result<bool, AllocError> {
-    let table = service.table;
-    let Some(place) = presentation_asked(service.alloc, table, request)? else {
+    let table = desk.table;
+    let Some(place) = presentation_asked(desk.alloc, table, request)? else {
         return Ok(true);
     };
     let Some(presentation) = table.presentation(place) else {

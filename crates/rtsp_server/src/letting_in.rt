@@ -2,9 +2,11 @@
 
 use crate::client::Client;
 use crate::clients::Clients;
+use crate::desk::Desk;
 use crate::guarding::open_gate;
 use crate::naming::Naming;
 use crate::service::Service;
+use crate::shared::Lent;
 use mio::net::TcpStream;
 use mio::unix::SourceFd;
 use mio::{Interest, Token};
@@ -34,7 +36,7 @@ impl Clients {
             }
             match self.acceptor.accept(&service.shared.listener, service.now) {
                 Accepted::Stream(stream, peer) => self.receive(service, handle, stream, peer),
-                Accepted::TurnedAway => service.shared.note_no_descriptor(service.rt),
+                Accepted::TurnedAway => service.shared.doorway().note_no_descriptor(service.rt),
                 Accepted::Gone | Accepted::Nothing => {}
             }
         }
@@ -58,14 +60,16 @@ impl Clients {
         let naming = Naming::begin(is_listed, service.now);
         let place = naming.place(peer);
         if let Err(why) = gate.enter(service.rt, place) {
-            service.shared.note_refused(service.rt, peer, why);
+            service.shared.doorway().note_refused(service.rt, peer, why);
             return;
         }
         service.shared.counters.accepted();
         if gate.is_shut() {
             service.shared.lanes.wake(service.rt);
         }
-        let is_taken_in = match self.open_client(service, handle, stream, peer, naming) {
+        let lent = &service.shared.lent;
+        let opened = self.open_client(service.desk, lent, handle, stream, peer, naming);
+        let is_taken_in = match opened {
             Some(client) => self.take_in(service.rt, &service.shared.outlets, client),
             None => false,
         };
@@ -78,17 +82,18 @@ impl Clients {
     // A connection that was accepted, with a gate of its own where only users are let through.
     fn open_client<R: Wait>(
         &mut self,
-        service: &Service<'_, R>,
+        desk: &Desk<'_, R>,
+        lent: &Lent,
         handle: &mut BookHandle,
         stream: TcpStream,
         peer: u32,
         naming: Naming,
     ) -> Option<Client> {
-        let gate = match open_gate(service, &mut self.tools.words) {
+        let gate = match open_gate(desk, &mut self.tools.words) {
             Ok(gate) => gate,
             Err(_) => return None,
         };
-        Client::open(service, handle, stream, peer, naming, gate)
+        Client::open(desk, lent, handle, stream, peer, naming, gate)
     }
 
     // Whether there was memory for the connection.

@@ -1,31 +1,37 @@
 //! What whoever runs the server is told of sessions and of how the server stands, and how sessions are
 //! ended by them.
 
-use crate::end_lines::film_name;
-use crate::shared::Shared;
+use crate::end_lines::{EndTeller, film_name};
+use crate::shared::{give_place_back, since, unbinder};
+use crate::shown::Shown;
 use rtsp_lock::BookHandle;
 use rtsp_log::EndCause;
 use rtsp_metrics::Held;
 use rtsp_status::{Agent, SessionMeant, Standing};
-use rtsp_threads::{HELD_TOLD_AFTER, end_session};
+use rtsp_threads::{HELD_TOLD_AFTER, ScribeBell, end_session};
 use std::alloc::{AllocError, Global};
 use std::net::Net;
 use std::rt;
 use std::sync::Wait;
-use std::sync::atomic::Ordering;
+use std::sync::atomic::{AtomicU64, Ordering};
 
 /// Whether the journal is written, where it is to be.
-pub(crate) fn is_journal_written<R: Wait + rt::Clock>(rt: &R, shared: &Shared) -> bool {
-    match &shared.scribe {
+pub(crate) fn is_journal_written<R: Wait + rt::Clock>(rt: &R, scribe: &Option<ScribeBell>) -> bool {
+    match scribe {
         Some(bell) => !bell.is_stuck() && !bell.is_held_for(rt, HELD_TOLD_AFTER),
         None => true,
     }
 }
 
 /// A sweep looks whether the journal is written, at this moment.
-pub(crate) fn note_writing<R: Wait + rt::Clock>(rt: &R, shared: &Shared, now: u64) {
-    if is_journal_written(rt, shared) {
-        shared.written_at.store(now, Ordering::Relaxed);
+pub(crate) fn note_writing<R: Wait + rt::Clock>(
+    rt: &R,
+    scribe: &Option<ScribeBell>,
+    written_at: &AtomicU64,
+    now: u64,
+) {
+    if is_journal_written(rt, scribe) {
+        written_at.store(now, Ordering::Relaxed);
     }
 }
 
@@ -39,9 +45,10 @@ fn free_percent(rate: Held) -> u8 {
 }
 
 /// How the server stands, of whose uplink so much is held.
-pub(crate) fn standing<R: Wait + rt::Clock>(rt: &R, shared: &Shared, rate: Held) -> Standing {
-    let is_ending = shared.draining.is_begun() || shared.lanes.stop_by().is_some();
-    let is_ready = !is_ending && shared.lanes.standing() > 0 && is_journal_written(rt, shared);
+pub(crate) fn standing<R: Wait + rt::Clock>(rt: &R, shown: Shown<'_>, rate: Held) -> Standing {
+    let lanes = shown.teller.lanes;
+    let is_ending = shown.draining.is_begun() || lanes.stop_by().is_some();
+    let is_ready = !is_ending && lanes.standing() > 0 && is_journal_written(rt, shown.scribe);
     Standing {
         is_ready,
         agent: if is_ready {
@@ -57,15 +64,15 @@ pub(crate) fn standing<R: Wait + rt::Clock>(rt: &R, shared: &Shared, rate: Held)
 pub(crate) fn sessions_text<R: Wait + rt::Clock>(
     rt: &R,
     alloc: Global,
-    shared: &Shared,
+    teller: EndTeller<'_>,
 ) -> Result<Vec<u8>, AllocError> {
-    let now = shared.now(rt);
+    let now = since(rt, teller.begun);
     let mut text = Vec::new(alloc);
-    let content = shared.contents.current(rt);
+    let content = teller.contents.current(rt);
     let mut from = 0u64;
     text.extend_from_slice(b"[")?;
     for _ in rt.forever() {
-        let Some(viewer) = shared.audience.next(rt, from) else {
+        let Some(viewer) = teller.audience.next(rt, from) else {
             break;
         };
         if from > 0 {
@@ -86,24 +93,25 @@ pub(crate) fn sessions_text<R: Wait + rt::Clock>(
 /// Ends a session, as its player's TEARDOWN would. Whether there was such a one.
 pub(crate) fn end_by_operator<R: Wait + Net + rt::Clock>(
     rt: &R,
-    shared: &Shared,
+    shown: Shown<'_>,
     handle: &mut BookHandle,
     meant: SessionMeant,
 ) -> bool {
+    let teller = shown.teller;
     let session = meant.number;
-    let Some(viewing) = shared.audience.viewing(rt, session) else {
+    let Some(viewing) = teller.audience.viewing(rt, session) else {
         return false;
     };
     let is_meant = match meant.digits {
         Some(digits) => digits == viewing.digits(),
         None => true,
     };
-    let mut binder = shared.unbinder(rt);
+    let mut binder = unbinder(rt, shown.ports);
     if !is_meant || !end_session(rt, handle, &mut binder, session) {
         return false;
     }
-    shared.end_place(rt, session);
-    shared.ends.note();
-    shared.tell_ended(rt, session, EndCause::Operator);
+    give_place_back(rt, shown.session_shares, session);
+    shown.ends.note();
+    teller.tell_ended(rt, session, EndCause::Operator);
     true
 }

@@ -1,9 +1,9 @@
 //! The threads that read media ahead: their start, and what becomes of them at the end.
 
-use crate::shared::Shared;
-use crate::threads::Parts;
+use crate::end_lines::EndTeller;
+use crate::shared::{Shared, since};
 use rtsp_log::Event;
-use rtsp_sockets::{READERS, Reader, TrackPlace};
+use rtsp_sockets::{Contents, READERS, Reader, TrackPlace};
 use std::alloc::Global;
 use std::sync::{Arc, Wait};
 use std::thread::Threads;
@@ -45,49 +45,52 @@ pub(crate) fn start_readers<R: Threads + Wait + rt::Clock + Copy + Send + 'stati
     true
 }
 
-impl Shared {
-    // Ends the threads that read ahead.
-    pub(crate) fn stop_readers<R: Wait>(&self, rt: &R) {
-        if let Some(content) = self.contents.current(rt) {
-            content.media.stop_readers(rt);
-        }
-    }
-
-    // The tracks whose files are being read.
-    fn read_now<R: Wait>(&self, rt: &R, alloc: Global) -> Vec<TrackPlace> {
-        let mut tracks = Vec::new(alloc);
-        let Some(content) = self.contents.current(rt) else {
-            return tracks;
-        };
-        for disk in 0..content.media.disk_count() {
-            for reader in 0..READERS {
-                if let Some(place) = content.media.read_by(disk, reader) {
-                    let _ = tracks.push(place);
-                }
-            }
-        }
-        tracks
+/// Ends the threads that read ahead.
+pub(crate) fn stop_readers<R: Wait>(rt: &R, contents: &Contents) {
+    if let Some(content) = contents.current(rt) {
+        content.media.stop_readers(rt);
     }
 }
 
-impl Parts {
-    // Waits a moment for the reads that are under way, and tells which are left behind.
-    pub(crate) fn leave_readers<R: Wait + rt::Clock>(&self, rt: &R, alloc: Global) {
-        for _ in 0..LEFT_AFTER {
-            if self.shared.read_now(rt, alloc).is_empty() {
-                return;
+// The tracks whose files are being read.
+fn read_now<R: Wait>(rt: &R, alloc: Global, contents: &Contents) -> Vec<TrackPlace> {
+    let mut tracks = Vec::new(alloc);
+    let Some(content) = contents.current(rt) else {
+        return tracks;
+    };
+    for disk in 0..content.media.disk_count() {
+        for reader in 0..READERS {
+            if let Some(place) = content.media.read_by(disk, reader) {
+                let _ = tracks.push(place);
             }
-            if self.shared.lanes.leaves_disks(self.shared.now(rt)) {
-                break;
-            }
-            thread::sleep(rt, Duration::from_millis(1));
         }
-        for place in self.shared.read_now(rt, alloc) {
-            let event = Event::StopLeavesMedia {
-                presentation: place.presentation,
-                track: place.track,
-            };
-            self.shared.log.event(rt, event);
+    }
+    tracks
+}
+
+/// Waits a moment for the reads that are under way, and tells which are left behind.
+pub(crate) fn leave_readers<R: Wait + rt::Clock>(rt: &R, alloc: Global, teller: EndTeller<'_>) {
+    let EndTeller {
+        contents,
+        lanes,
+        log,
+        begun,
+        ..
+    } = teller;
+    for _ in 0..LEFT_AFTER {
+        if read_now(rt, alloc, contents).is_empty() {
+            return;
         }
+        if lanes.leaves_disks(since(rt, begun)) {
+            break;
+        }
+        thread::sleep(rt, Duration::from_millis(1));
+    }
+    for place in read_now(rt, alloc, contents) {
+        let event = Event::StopLeavesMedia {
+            presentation: place.presentation,
+            track: place.track,
+        };
+        log.event(rt, event);
     }
 }

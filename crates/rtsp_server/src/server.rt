@@ -10,9 +10,10 @@ use crate::growing::Growth;
 use crate::growing_users::{UsersGrowth, UsersReader, start_users};
 use crate::opening::{Handles, Listening, Opened};
 use crate::readers::start_readers;
+use crate::shared::unbinder;
 use crate::threads::{Beside, Parts, Served, Start};
 use crate::watched_file::WatchedFile;
-use crate::writing_journal::folder_of;
+use crate::writing_journal::{folder_of, open_scribe};
 use rtsp_book::Kept;
 use rtsp_chronicle::Doubt;
 use rtsp_content::{Allowed, Operation, Table};
@@ -60,7 +61,7 @@ impl Parts {
     fn close<R: Wait + Net>(&self, rt: &R, last: BookHandle) -> Option<Kept<LockBook>>
         ensures { IfSome result (λ k. book_of k.journal ≡ empty) }
     {
-        let mut binder = self.shared.unbinder(rt);
+        let mut binder = unbinder(rt, &self.shared.ports);
         close_book(rt, last, &mut binder)
     }
 }
@@ -210,7 +211,7 @@ impl Server {
         ensures { IfOk result (λ end. IfSome end.book (λ k. book_of k.journal ≡ empty)) }
     {
         let operation = self.start.growth.operation();
-        let scribe = self.parts.open_scribe(rt, self.alloc, operation)?;
+        let scribe = open_scribe(rt, self.alloc, &self.parts.folder, operation)?;
         let users = UsersReader::open(self.alloc, operation)?;
         self.tell_of_descriptors(rt);
         let Self {

@@ -2,14 +2,12 @@
 
 ghost use Rattle.std.specs.Prelude.{◌≡◌, ⊤};
 
-use crate::lane_lines::LaneLines;
+use crate::desk::Desk;
 use crate::recorded::Recorded;
 use crate::shared::Shared;
-use rtsp_content::{Allowed, Table};
+use rtsp_content::Table;
 use rtsp_lock::BookHandle;
-use rtsp_metrics::AnswerCounters;
-use rtsp_sockets::LaneDecisions;
-use rtsp_threads::RoomLooks;
+use rtsp_threads::{RoomLooks, ScribeBell, ask_for_room, make_room};
 use std::alloc::{AllocError, Global};
 use std::cell::Cell;
 use std::rt;
@@ -20,17 +18,12 @@ pub(crate) struct Service<'a, R> {
     pub(crate) rt: &'a R,
     pub(crate) alloc: Global,
     pub(crate) table: &'a Table,
-    /// For whom presentations are there, where that isn't everybody.
-    pub(crate) allowed: Option<&'a Allowed>,
+    /// What answers are made and counted by.
+    pub(crate) desk: &'a Desk<'a, R>,
     pub(crate) shared: &'a Shared,
-    /// Where the lane counts its answers.
-    pub(crate) answers: &'a AnswerCounters,
-    pub(crate) lines: &'a LaneLines,
     pub(crate) recorded: &'a Recorded,
     /// When the lane looks again for room in the journal, where it found none.
     pub(crate) looks: &'a Cell<RoomLooks>,
-    /// The number of the lane.
-    pub(crate) lane: usize,
     pub(crate) now: u64,
 }
 
@@ -47,10 +40,16 @@ impl<R> Clone for Service<'_, R> {
 // Not derived, since that would ask it of R.
 impl<R> Copy for Service<'_, R> {}
 
-impl<'a, R> Service<'a, R> {
-    /// What the lane is deciding on.
-    pub(crate) fn decisions(&self) -> LaneDecisions<'a> {
-        self.shared.decisions.of(self.lane)
+// Keeps the journal from filling. Whether there is room for what a piece may record.
+fn has_room<R: Wait + rt::Clock>(
+    rt: &R,
+    table: &Table,
+    lane: &mut BookHandle,
+    scribe: &Option<ScribeBell>,
+) -> bool {
+    match scribe {
+        Some(scribe) => ask_for_room(rt, table, lane, scribe),
+        None => make_room(rt, table, lane),
     }
 }
 
@@ -66,7 +65,7 @@ impl<R: Wait + rt::Clock> Service<'_, R> {
         if !self.recorded.take() {
             return true;
         }
-        let has_room = self.shared.make_room(self.rt, self.table, lane);
+        let has_room = has_room(self.rt, self.table, lane, &self.shared.scribe);
         if has_room {
             looks.find();
         } else {

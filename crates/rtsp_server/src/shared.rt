@@ -11,13 +11,11 @@ use crate::following::Switches;
 use crate::opened::{Doors, Handed, Telling};
 use crate::opening::Opening;
 use crate::owners::Owners;
-use crate::stopping::StopTimes;
 use crate::unread::HELD_IN_ALL;
 use crate::users::CurrentUsers;
 use mio::net::TcpListener;
-use rtsp_content::{Operation, Table};
-use rtsp_lock::BookHandle;
-use rtsp_log::{Event, HeaderCause, Log, moment};
+use rtsp_content::Operation;
+use rtsp_log::{Log, moment};
 use rtsp_metrics::{Audience, Counters};
 use rtsp_pacing::Bells;
 use rtsp_shares::{ShareTable, Watermark};
@@ -25,9 +23,7 @@ use rtsp_sockets::{
     Content, Contents, Decisions, LENT_IN_ALL, Outlets, PortBinder, PortTable, SharedRoom,
 };
 use rtsp_status::Halt;
-use rtsp_threads::{
-    Gate, LAST_ROOM, Refused, ScribeBell, StopBell, ask_for_room, end_place, make_room,
-};
+use rtsp_threads::{Gate, ScribeBell, StopBell, end_place};
 use std::alloc::{AllocError, Global};
 use std::net::Ipv4Addr;
 use std::sync::atomic::AtomicU64;
@@ -145,6 +141,26 @@ fn scribe_bell(operation: &Operation) -> Option<ScribeBell> {
     Some(ScribeBell::new(files.sync()))
 }
 
+/// How many milliseconds have passed since a moment, or 0 where the system can't tell.
+pub(crate) fn since<R: rt::Clock>(rt: &R, begun: Instant) -> u64 {
+    match begun.elapsed(rt) {
+        Ok(elapsed) => u64::try_from(elapsed.as_millis()).unwrap_or(u64::MAX),
+        Err(_) => 0,
+    }
+}
+
+/// A binder that unbinds what sessions leave, and binds nothing.
+pub(crate) fn unbinder<'a, R>(rt: &'a R, ports: &'a PortTable) -> PortBinder<'a, R> {
+    PortBinder::new(rt, ports, Ipv4Addr::UNSPECIFIED)
+}
+
+/// A session has ended: the place that its address had for it is given back.
+pub(crate) fn give_place_back<R: Wait>(rt: &R, places: &Option<Mutex<ShareTable>>, session: u64) {
+    if let Some(places) = places {
+        end_place(rt, places, session);
+    }
+}
+
 impl Shared {
     /// What the threads of this server share, which serves so many connections of this listener, or any
     /// number.
@@ -211,77 +227,7 @@ impl Shared {
 
     /// The present moment, in milliseconds since the beginning, or 0 where the system can't tell.
     pub(crate) fn now<R: rt::Clock>(&self, rt: &R) -> u64 {
-        match self.begun.elapsed(rt) {
-            Ok(elapsed) => u64::try_from(elapsed.as_millis()).unwrap_or(u64::MAX),
-            Err(_) => 0,
-        }
-    }
-
-    /// A binder that unbinds what sessions leave, and binds nothing.
-    pub(crate) fn unbinder<'a, R>(&'a self, rt: &'a R) -> PortBinder<'a, R> {
-        PortBinder::new(rt, &self.ports, Ipv4Addr::UNSPECIFIED)
-    }
-
-    /// Keeps the journal from filling. Whether there is room for what a piece may record.
-    pub(crate) fn make_room<R: Wait + rt::Clock>(
-        &self,
-        rt: &R,
-        table: &Table,
-        lane: &mut BookHandle,
-    ) -> bool {
-        match &self.scribe {
-            Some(scribe) => ask_for_room(rt, table, lane, scribe),
-            None => make_room(rt, table, lane),
-        }
-    }
-
-    /// A session has ended: the place that its address had for it is given back.
-    pub(crate) fn end_place<R: Wait>(&self, rt: &R, session: u64) {
-        if let Some(places) = &self.session_shares {
-            end_place(rt, places, session);
-        }
-    }
-
-    /// A connection from this address was closed at once.
-    pub(crate) fn note_refused<R: Wait + rt::Clock>(&self, rt: &R, peer: u32, why: Refused) {
-        self.counters.turned_away();
-        match why {
-            Refused::Share => self.log.event(rt, Event::ShareSpent { peer }),
-            Refused::Full => self.log.event(rt, Event::TooManyConnections),
-            Refused::Over => {}
-        }
-    }
-
-    /// A connection of the balancer at this address was closed, since its header was refused.
-    pub(crate) fn note_header_refused<R: Wait + rt::Clock>(
-        &self,
-        rt: &R,
-        balancer: u32,
-        cause: HeaderCause,
-    ) {
-        self.counters.header_refused();
-        self.balancers.note_refused(rt, &self.log, balancer, cause);
-    }
-
-    /// A connection was closed at once, since there is no descriptor.
-    pub(crate) fn note_no_descriptor<R: Wait + rt::Clock>(&self, rt: &R) {
-        self.counters.turned_away();
-        self.log.event(rt, Event::NoDescriptor);
-    }
-
-    /// Requests were refused since there was no more of something. Where that may be the journal's room,
-    /// the log tells of it.
-    pub(crate) fn note_unavailable<R: Wait + rt::Clock>(&self, rt: &R, lane: &mut BookHandle) {
-        if lane.tally(rt).room < LAST_ROOM {
-            self.log.event(rt, Event::JournalFull);
-        }
-    }
-
-    /// Has the lanes end: no connection is let in any more, and those that are open are answered
-    /// what they have asked, and hung up, at the latest at the first of these moments.
-    pub(crate) fn begin_stop<R: Wait>(&self, rt: &R, times: StopTimes) {
-        self.gate.shut();
-        self.lanes.set_stop(rt, times);
+        since(rt, self.begun)
     }
 
     /// Ends the threads beside the lanes, but for that of the log and those that disks hold up.

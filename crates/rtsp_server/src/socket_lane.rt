@@ -1,6 +1,7 @@
 //! A lane of sockets.
 
 use crate::clients::Clients;
+use crate::desk::Desk;
 use crate::lane_lines::LaneLines;
 use crate::recorded::Recorded;
 use crate::service::Service;
@@ -62,8 +63,8 @@ impl SocketLane {
     }
 }
 
-// What a turn is made with, of parts that live as long.
-fn service_of<'a, R>(
+// What answers are made by in a turn, of parts that live as long.
+fn desk_of<'a, R>(
     rt: &'a R,
     alloc: Global,
     content: &'a Content,
@@ -71,22 +72,40 @@ fn service_of<'a, R>(
     answers: &'a AnswerCounters,
     lines: &'a LaneLines,
     recorded: &'a Recorded,
-    looks: &'a Cell<RoomLooks>,
     lane: usize,
     now: u64,
-) -> Service<'a, R> {
-    Service {
+) -> Desk<'a, R> {
+    Desk {
         rt,
         alloc,
         table: &content.table,
         allowed: content.allowed(),
-        shared,
+        teller: shared.end_teller(),
+        ends: &shared.ends,
+        session_shares: &shared.session_shares,
+        decisions: shared.decisions.of(lane),
         answers,
         lines,
         recorded,
-        looks,
-        lane,
         now,
+    }
+}
+
+// What a turn is made with.
+fn service_of<'a, R>(
+    desk: &'a Desk<'a, R>,
+    shared: &'a Shared,
+    looks: &'a Cell<RoomLooks>,
+) -> Service<'a, R> {
+    Service {
+        rt: desk.rt,
+        alloc: desk.alloc,
+        table: desk.table,
+        desk,
+        shared,
+        recorded: desk.recorded,
+        looks,
+        now: desk.now,
     }
 }
 
@@ -113,9 +132,9 @@ impl Lane for SocketLane {
         } = self;
         let told = clients.wait(rt, &shared.lanes, lines, looks.get());
         let now = clients.begin_turn(shared.now(rt));
-        clients.tools.refresh(rt, shared);
+        clients.tools.refresh(rt, &shared.users);
         seen.refresh(rt, &shared.contents);
-        let service = service_of(
+        let desk = desk_of(
             rt,
             alloc,
             seen.content(),
@@ -123,10 +142,10 @@ impl Lane for SocketLane {
             &***answers,
             lines,
             recorded,
-            looks,
             clients.number,
             now,
         );
+        let service = service_of(&desk, &**shared, looks);
         clients.serve(&service, handle, told)
     }
 }

@@ -1,10 +1,11 @@
 //! The thread that looks for the signals that end the server, and until when that end waits.
 
+use crate::all_lanes::AllLanes;
 use crate::shared::Shared;
 use crate::threads::Parts;
-use rtsp_log::Event;
+use rtsp_log::{Event, Log};
 use rtsp_threads::{
-    JOURNAL_LEFT_AFTER, JOURNAL_LEFT_AT_ONCE, OwnStatus, SIGNALS_EVERY, STOP_LIMIT, StopAsked,
+    Gate, JOURNAL_LEFT_AFTER, JOURNAL_LEFT_AT_ONCE, OwnStatus, SIGNALS_EVERY, STOP_LIMIT, StopAsked,
 };
 use std::rt;
 use std::sync::Wait;
@@ -46,16 +47,30 @@ impl StopTimes {
     }
 }
 
+/// Has the lanes end: no connection is let in any more, and those that are open are answered what they
+/// have asked, and hung up, at the latest at the first of these moments.
+pub(crate) fn begin_stop<R: Wait>(rt: &R, gate: &Gate, lanes: &AllLanes, times: StopTimes) {
+    gate.shut();
+    lanes.set_stop(rt, times);
+}
+
 // Has the lanes end, where the process is asked to end.
-fn follow<R: Wait + rt::Clock>(rt: &R, asked: Option<StopAsked>, shared: &Shared, now: u64) {
+fn follow<R: Wait + rt::Clock>(
+    rt: &R,
+    asked: Option<StopAsked>,
+    gate: &Gate,
+    lanes: &AllLanes,
+    log: &Log,
+    now: u64,
+) {
     match asked {
         Some(StopAsked::Stop) => {
-            if shared.lanes.stop_by().is_none() {
-                shared.log.event(rt, Event::Stopping);
+            if lanes.stop_by().is_none() {
+                log.event(rt, Event::Stopping);
             }
-            shared.begin_stop(rt, StopTimes::after_first(now));
+            begin_stop(rt, gate, lanes, StopTimes::after_first(now));
         }
-        Some(StopAsked::StopNow) => shared.begin_stop(rt, StopTimes::after_second(now)),
+        Some(StopAsked::StopNow) => begin_stop(rt, gate, lanes, StopTimes::after_second(now)),
         Some(StopAsked::Nothing) | None => {}
     }
 }
@@ -64,11 +79,17 @@ fn follow<R: Wait + rt::Clock>(rt: &R, asked: Option<StopAsked>, shared: &Shared
 /// within `STOP_LIMIT`, or at once where it is asked twice. Where such signals aren't held back the
 /// system ends the process by itself.
 pub(crate) fn watch_signals<R: Wait + rt::Clock>(rt: &R, status: &OwnStatus, parts: &Parts) {
+    let Shared {
+        gate,
+        lanes,
+        log,
+        ..
+    } = &*parts.shared;
     for _ in rt.forever() {
         if parts.over.wait(rt, Duration::from_millis(SIGNALS_EVERY)) {
             break;
         }
         let now = parts.shared.now(rt);
-        follow(rt, status.stop_asked(), &parts.shared, now);
+        follow(rt, status.stop_asked(), gate, lanes, log, now);
     }
 }

@@ -1,14 +1,16 @@
 //! The thread that ends sessions whose time is over, and keeps the journal from growing beyond what
 //! lives.
 
+use crate::draining::follow_drain;
+use crate::end_lines::EndTeller;
 use crate::operating::note_writing;
-use crate::shared::Shared;
+use crate::shared::{Shared, give_place_back, unbinder};
 use rtsp_lock::BookHandle;
 use rtsp_log::{Event, Log};
 use rtsp_metrics::Counters;
-use rtsp_shares::Watermark;
+use rtsp_shares::{ShareTable, Watermark};
 use rtsp_sockets::PortBinder;
-use rtsp_threads::{HELD_TOLD_AFTER, SWEEP_EVERY, end_next_expired, give_back_ended};
+use rtsp_threads::{HELD_TOLD_AFTER, SWEEP_EVERY, ScribeBell, end_next_expired, give_back_ended};
 use std::net::Net;
 use std::rt;
 use std::sync::{Mutex, Wait};
@@ -20,7 +22,8 @@ fn end_expired<R: Wait + Net + rt::Clock>(
     rt: &R,
     handle: &mut BookHandle,
     binder: &mut PortBinder<'_, R>,
-    shared: &Shared,
+    places: &Option<Mutex<ShareTable>>,
+    teller: EndTeller<'_>,
     moment: u64,
 ) -> u64 {
     let mut ended = 0u64;
@@ -28,8 +31,8 @@ fn end_expired<R: Wait + Net + rt::Clock>(
         let Some(session) = end_next_expired(rt, handle, binder, moment) else {
             break;
         };
-        shared.end_place(rt, session);
-        shared.tell_expired(rt, session);
+        give_place_back(rt, places, session);
+        teller.tell_expired(rt, session);
         ended = ended.saturating_add(1);
     }
     ended
@@ -54,8 +57,8 @@ struct HeldJournal {
 
 impl HeldJournal {
     // Tells once that it is, and once that it isn't any more.
-    fn tell<R: Wait + rt::Clock>(&mut self, rt: &R, shared: &Shared) {
-        let Some(bell) = &shared.scribe else {
+    fn tell<R: Wait + rt::Clock>(&mut self, rt: &R, scribe: &Option<ScribeBell>, log: &Log) {
+        let Some(bell) = scribe else {
             return;
         };
         let is_held = bell.is_held_for(rt, HELD_TOLD_AFTER);
@@ -68,7 +71,7 @@ impl HeldJournal {
         } else {
             Event::JournalFreed
         };
-        shared.log.event(rt, event);
+        log.event(rt, event);
     }
 }
 
@@ -92,7 +95,8 @@ pub(crate) fn run_sweeper<R: Wait + Net + rt::Clock>(
     mut handle: BookHandle,
     shared: &Shared,
 ) {
-    let mut binder = shared.unbinder(rt);
+    let teller = shared.end_teller();
+    let mut binder = unbinder(rt, &shared.ports);
     let mut held = HeldJournal { is_told: false };
     // Whether a session doesn't live any more of whose end nobody has told.
     let mut is_any_missing = false;
@@ -106,21 +110,22 @@ pub(crate) fn run_sweeper<R: Wait + Net + rt::Clock>(
         let now = shared.now(rt);
         let moment = begin_sweep(rt, &shared.watermark, now);
         tell_media_failure(rt, &shared.counters, &shared.log);
-        held.tell(rt, shared);
-        note_writing(rt, shared, now);
+        held.tell(rt, &shared.scribe, &shared.log);
+        note_writing(rt, &shared.scribe, &shared.written_at, now);
         shared.ports.forget_taken(rt);
-        let ended = end_expired(rt, &mut handle, &mut binder, shared, moment);
+        let places = &shared.session_shares;
+        let ended = end_expired(rt, &mut handle, &mut binder, places, teller, moment);
         if ended > 0 {
             shared.ends.note();
             shared.counters.expired(ended);
         }
         let has_ended = shared.ends.take();
         if has_ended || is_any_missing {
-            is_any_missing = shared.tell_untold(rt, &mut handle);
+            is_any_missing = teller.tell_untold(rt, &mut handle);
         }
         shared.end_lines.hand_over(rt, &shared.log);
-        shared.follow_drain(rt, &mut handle, now);
-        if has_ended && let Some(places) = &shared.session_shares {
+        follow_drain(rt, &shared.draining, &shared.gate, teller, &mut handle, now);
+        if has_ended && let Some(places) = places {
             give_back_ended(rt, places, &mut handle);
         }
         if shared.scribe.is_some() {

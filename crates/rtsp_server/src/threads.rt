@@ -1,21 +1,25 @@
 //! The threads of a server: what each does until the server ends.
 
+use crate::all_lanes::AllLanes;
 use crate::fault::ServerFault;
 use crate::figures::Figures;
 use crate::growing::Growth;
 use crate::growing_users::UsersGrowth;
+use crate::readers::{leave_readers, stop_readers};
 use crate::server::Announce;
-use crate::shared::Shared;
+use crate::shared::{Shared, unbinder};
+use crate::shown::Shown;
 use crate::socket_lane::SocketLane;
-use crate::stopping::{StopTimes, watch_signals};
+use crate::stopping::{StopTimes, begin_stop, watch_signals};
 use crate::sweeper::run_sweeper;
+use crate::writing_journal::leave_scribe;
 use rtsp_chronicle::{Doubt, JournalFolder};
 use rtsp_content::Server;
 use rtsp_lock::BookHandle;
-use rtsp_log::{Event, LogWriter, SleepPause, StderrSink};
+use rtsp_log::{Event, Log, LogWriter, SleepPause, StderrSink};
 use rtsp_metrics::History;
 use rtsp_pacing::{PacerParts, PacerPlays, PacerRoom, pace};
-use rtsp_status::StatusServer;
+use rtsp_status::{Halt, StatusServer};
 use rtsp_threads::{OwnStatus, OwnUsage, PoolEnd, STANDING_LIMIT, StopBell, end_expired, run_pool};
 use std::alloc::Global;
 use std::fs::File;
@@ -115,7 +119,8 @@ fn show<R: Wait + Net + rt::Clock>(
     rt: &R,
     alloc: Global,
     numbers: Server,
-    shared: &Shared,
+    shown: Shown<'_>,
+    halt: &Halt,
     status: Option<StatusServer>,
     usage: Option<OwnUsage>,
     handle: BookHandle,
@@ -123,25 +128,59 @@ fn show<R: Wait + Net + rt::Clock>(
     if let Some(mut status) = status {
         let figures = Figures {
             rt,
-            shared,
+            shown,
             numbers,
             handle,
             usage,
             history: History::new(alloc),
             nothing: Vec::new(alloc),
         };
-        status.run(rt, figures, &shared.halt);
+        status.run(rt, figures, halt);
     }
 }
 
-impl Parts {
-    // The body of the thread that writes the log.
-    fn log<R: Wait + Net + rt::Clock, E: Write + Drop>(&self, rt: &R, alloc: Global, errors: E) {
-        if let Ok(sink) = StderrSink::new(rt, alloc, errors) {
-            LogWriter::new(alloc, sink, SleepPause::new(rt)).run(rt, &self.shared.log);
+// The body of the thread that writes the log.
+fn write_log<R: Wait + Net + rt::Clock, E: Write + Drop>(
+    rt: &R,
+    alloc: Global,
+    log: &Log,
+    errors: E,
+) {
+    if let Ok(sink) = StderrSink::new(rt, alloc, errors) {
+        LogWriter::new(alloc, sink, SleepPause::new(rt)).run(rt, log);
+    }
+}
+
+// Waits until so many lanes have begun, which are all. Where some haven't when they should have, these have
+// no thread; then it waits for one that has, or until all threads end. Whether any has begun.
+fn wait_for_lanes<R: Wait + rt::Clock>(
+    rt: &R,
+    lanes: &AllLanes,
+    stop_bell: &StopBell,
+    log: &Log,
+    all: u64,
+) -> bool {
+    for _ in 0..STANDING_LIMIT {
+        if lanes.standing() >= all {
+            return true;
+        }
+        if stop_bell.wait(rt, Duration::from_millis(1)) {
+            break;
         }
     }
+    if lanes.standing() >= all {
+        return true;
+    }
+    log.event(rt, Event::NoThread);
+    for _ in rt.forever() {
+        if lanes.standing() > 0 || stop_bell.wait(rt, Duration::from_millis(1)) {
+            break;
+        }
+    }
+    lanes.standing() > 0
+}
 
+impl Parts {
     // The body of a pacer's thread.
     fn pace<R: Wait + rt::Clock>(&self, rt: &R, alloc: Global, pacer: OnePacer) {
         let OnePacer {
@@ -188,33 +227,9 @@ impl Parts {
         }
     }
 
-    // Waits until all lanes have begun. Where some haven't when they should have, these have no thread;
-    // then it waits for one that has, or until all threads end. Whether any has begun.
-    fn wait_for_lanes<R: Wait + rt::Clock>(&self, rt: &R, lanes: u64) -> bool {
-        let shared = &self.shared;
-        for _ in 0..STANDING_LIMIT {
-            if shared.lanes.standing() >= lanes {
-                return true;
-            }
-            if shared.stop_bell.wait(rt, Duration::from_millis(1)) {
-                break;
-            }
-        }
-        if shared.lanes.standing() >= lanes {
-            return true;
-        }
-        shared.log.event(rt, Event::NoThread);
-        for _ in rt.forever() {
-            if shared.lanes.standing() > 0 || shared.stop_bell.wait(rt, Duration::from_millis(1)) {
-                break;
-            }
-        }
-        shared.lanes.standing() > 0
-    }
-
     // Ends the threads beside the lanes, but for that of the log and that which writes the journal.
     fn stop<R: Wait>(&self, rt: &R) {
-        self.shared.stop_readers(rt);
+        stop_readers(rt, &self.shared.contents);
         self.shared.stop(rt);
     }
 
@@ -231,16 +246,23 @@ impl Parts {
         mut announcer: A,
         address: SocketAddr,
     ) -> Result<(), ServerFault> {
-        if !self.wait_for_lanes(rt, u64::from(self.numbers.workers)) {
+        let Shared {
+            gate,
+            lanes,
+            stop_bell,
+            log,
+            ..
+        } = &*self.shared;
+        if !wait_for_lanes(rt, lanes, stop_bell, log, u64::from(self.numbers.workers)) {
             return Ok(());
         }
         if !announcer.announce(address) {
             let now = self.shared.now(rt);
-            self.shared.begin_stop(rt, StopTimes::at_the_beginning(now));
+            begin_stop(rt, gate, lanes, StopTimes::at_the_beginning(now));
             return Err(ServerFault::DeviceFailed);
         }
         let presentations = self.shared.content_counts.read().presentations;
-        self.shared.log.event(rt, Event::Started { presentations });
+        log.event(rt, Event::Started { presentations });
         Ok(())
     }
 
@@ -252,12 +274,15 @@ impl Parts {
         alloc: Global,
         last: &mut BookHandle,
     ) -> Option<Doubt> {
-        let mut binder = self.shared.unbinder(rt);
+        let teller = self.shared.end_teller();
+        let mut binder = unbinder(rt, &self.shared.ports);
         end_expired(rt, last, &mut binder, u64::MAX);
-        self.shared.tell_stopped(rt);
-        self.stop_scribe(rt);
-        self.leave_readers(rt, alloc);
-        self.leave_scribe(rt)
+        teller.tell_stopped(rt);
+        if let Some(bell) = &self.shared.scribe {
+            bell.stop(rt);
+        }
+        leave_readers(rt, alloc, teller);
+        leave_scribe(rt, &self.shared.scribe, &self.folder, teller)
     }
 
     // Runs all threads beside that of the log, until the lanes are over, and then ends all sessions by the
@@ -287,10 +312,10 @@ impl Parts {
                 handle,
                 mut last,
             } = beside;
-            let (numbers, shared) = (self.numbers, &*self.shared);
+            let (numbers, shown, halt) = (self.numbers, self.shared.shown(), &self.shared.halt);
             let watches = scope.spawn(move || self.watch(rt, signals)).is_ok();
             let shows = scope
-                .spawn(move || show(rt, alloc, numbers, shared, status, usage, handle))
+                .spawn(move || show(rt, alloc, numbers, shown, halt, status, usage, handle))
                 .is_ok();
             if !(watches && shows) {
                 self.stop_for_want_of_threads(rt);
@@ -331,13 +356,16 @@ impl Parts {
         address: SocketAddr,
     ) -> Result<Served, ServerFault> {
         thread::scope(thread::scope_env(), rt, move |scope| {
-            let logs = scope.spawn(move || self.log(rt, alloc, errors)).is_ok();
+            let log = &self.shared.log;
+            let logs = scope
+                .spawn(move || write_log(rt, alloc, log, errors))
+                .is_ok();
             if !logs {
                 self.stop_for_want_of_threads(rt);
                 return Err(ServerFault::NoThread);
             }
             let ended = self.run_logged(rt, alloc, start, beside, announcer, address);
-            self.shared.log.close();
+            log.close();
             ended
         })
     }

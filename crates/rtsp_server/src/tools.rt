@@ -1,8 +1,7 @@
 //! What a lane answers with.
 
 use crate::channels::Channels;
-use crate::shared::Shared;
-use crate::users::SeenUsers;
+use crate::users::{CurrentUsers, SeenUsers};
 use rtsp_book::Receipt;
 use rtsp_pacing::NotedPlays;
 use rtsp_sockets::RandomWords;
@@ -51,7 +50,7 @@ impl Tools {
     pub(crate) fn open<R: Wait + Files<File = File>>(
         rt: &R,
         alloc: Global,
-        shared: &Shared,
+        users: &Option<CurrentUsers>,
     ) -> io::Result<Tools> {
         let piece = Vec::from_elem(alloc, 0, PIECE)?;
         let words = RandomWords::open(rt)?;
@@ -62,13 +61,13 @@ impl Tools {
             room: Room::new(alloc),
             heard: Cell::new(Channels::none()),
             piece,
-            users: SeenUsers::open(rt, shared.users.as_ref())?,
+            users: SeenUsers::open(rt, users.as_ref())?,
         })
     }
 
     /// Takes the users of the moment, where they are others.
-    pub(crate) fn refresh<R: Wait>(&mut self, rt: &R, shared: &Shared) {
-        if let (Some(seen), Some(users)) = (&mut self.users, &shared.users) {
+    pub(crate) fn refresh<R: Wait>(&mut self, rt: &R, users: &Option<CurrentUsers>) {
+        if let (Some(seen), Some(users)) = (&mut self.users, users) {
             seen.refresh(rt, users);
         }
     }

@@ -1,7 +1,7 @@
 //! A visit to a connection: what has come is read, answered and written.
 
 use crate::answering::Front;
-use crate::service::Service;
+use crate::desk::Desk;
 use crate::writing::AnswerWriter;
 use rtsp_engine::{Connection, PieceAnswerer, PieceReader, VisitEnd, visit};
 use rtsp_sockets::{Outlet, RunningClock};
@@ -71,7 +71,7 @@ fn timed_end(end: VisitEnd, is_late: bool) -> VisitEnd {
 // Reads a part of what is there, until a moment, has it answered by this one, and puts the answers into
 // the outlet.
 pub(crate) fn visit_by<R: Wait + Net + rt::Clock, A: PieceAnswerer>(
-    service: &Service<'_, R>,
+    desk: &Desk<'_, R>,
     outlet: &Arc<Outlet>,
     answerer: &mut A,
     input: &mut Connection,
@@ -81,13 +81,13 @@ pub(crate) fn visit_by<R: Wait + Net + rt::Clock, A: PieceAnswerer>(
     reads_all: bool,
     until: u64,
 ) -> Read {
-    let clock = RunningClock::new(service.rt, service.shared.begun);
+    let clock = RunningClock::new(desk.rt, desk.teller.begun);
     let pieces = PieceReader::new(outlet.stream());
     let mut reader = TimedReader::new(clock, pieces, until);
-    let mut writer = AnswerWriter::new(service.rt, outlet, service.now);
+    let mut writer = AnswerWriter::new(desk.rt, outlet, desk.now);
     let bytes = part.bytes.min(piece.len());
     let end = visit(
-        service.alloc,
+        desk.alloc,
         answerer,
         input,
         &mut reader,
@@ -115,9 +115,9 @@ impl<R: Wait + Net + rt::Clock> Front<'_, R> {
         reads_all: bool,
         until: u64,
     ) -> Read {
-        let (service, outlet) = (self.service, self.outlet);
+        let (desk, outlet) = (self.service.desk, self.outlet);
         visit_by(
-            &service, outlet, self, input, room, piece, part, reads_all, until,
+            desk, outlet, self, input, room, piece, part, reads_all, until,
         )
     }
 }

@@ -1,6 +1,7 @@
 //! What of a connection's input is held back while the journal has no room.
 
 use super::Client;
+use crate::desk::Desk;
 use crate::foresight::Foresight;
 use crate::service::Service;
 use crate::tools::Tools;
@@ -36,7 +37,7 @@ impl Client {
         } else if self.passage == Passage::LetThrough {
             Ok(Part::ONE_PIECE)
         } else {
-            self.part_without_room(service, tools)
+            self.part_without_room(service.desk, tools)
         };
         self.passage = if part == Err(Visit::Aside) {
             Passage::Aside
@@ -55,7 +56,7 @@ impl Client {
     // looked at there. The end of the input, and what is broken, is found by reading.
     fn part_without_room<R: Wait + rt::Clock>(
         &mut self,
-        service: &Service<'_, R>,
+        desk: &Desk<'_, R>,
         tools: &mut Tools,
     ) -> Result<Part, Visit> {
         let piece = tools.piece.as_mut_slice();
@@ -68,7 +69,7 @@ impl Client {
         if !self.input.is_idle() {
             return Err(Visit::Aside);
         }
-        let mut foresight = Foresight::new(service, &mut self.handle);
+        let mut foresight = Foresight::new(desk, &mut self.handle);
         match foresight.harmless_len(piece.get(..come).unwrap_or_default()) {
             0 => Err(Visit::Aside),
             bytes => Ok(Part::of_bytes(bytes)),

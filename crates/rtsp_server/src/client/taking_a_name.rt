@@ -1,6 +1,7 @@
 //! A connection of a balancer comes by the address of its player.
 
 use super::Client;
+use crate::doorway::Doorway;
 use crate::naming::{Look, Naming, look_for_header};
 use crate::service::Service;
 use crate::tools::Tools;
@@ -31,14 +32,15 @@ impl Client {
         let Naming::Awaited(_) = self.naming else {
             return None;
         };
+        let doorway = service.shared.doorway();
         let piece = tools.piece.as_mut_slice();
         match look_for_header(self.outlet.stream(), piece, self.is_ending) {
-            Look::Found(origin) => self.take_origin(service, origin),
+            Look::Found(origin) => self.take_origin(service.rt, doorway, origin),
             Look::Waits => {
                 self.is_readable = false;
                 Some(Visit::Done)
             }
-            Look::Refused(cause) => Some(self.refuse_header(service, cause)),
+            Look::Refused(cause) => Some(self.refuse_header(service.rt, doorway, cause)),
             Look::Gone => Some(Visit::Ended),
         }
     }
@@ -47,17 +49,17 @@ impl Client {
     // left.
     fn take_origin<R: Wait + rt::Clock>(
         &mut self,
-        service: &Service<'_, R>,
+        rt: &R,
+        doorway: Doorway<'_>,
         origin: Origin,
     ) -> Option<Visit> {
-        let Service { rt, shared, .. } = *service;
-        shared.balancers.note_header(self.asker.peer);
+        doorway.balancers.note_header(self.asker.peer);
         let Origin::Player(peer, _) = origin else {
             self.naming = Naming::Own;
             return None;
         };
-        if let Err(why) = shared.gate.name(rt, peer) {
-            shared.note_refused(rt, peer, why);
+        if let Err(why) = doorway.gate.name(rt, peer) {
+            doorway.note_refused(rt, peer, why);
             return Some(Visit::Ended);
         }
         self.asker.peer = peer;
@@ -68,19 +70,22 @@ impl Client {
 
     fn refuse_header<R: Wait + rt::Clock>(
         &mut self,
-        service: &Service<'_, R>,
+        rt: &R,
+        doorway: Doorway<'_>,
         cause: HeaderCause,
     ) -> Visit {
-        service
-            .shared
-            .note_header_refused(service.rt, self.asker.peer, cause);
+        doorway.note_header_refused(rt, self.asker.peer, cause);
         Visit::Ended
     }
 
     /// The connection ends since its time is over.
-    pub(super) fn end_overdue<R: Wait + rt::Clock>(&mut self, service: &Service<'_, R>) -> Visit {
+    pub(super) fn end_overdue<R: Wait + rt::Clock>(
+        &mut self,
+        rt: &R,
+        doorway: Doorway<'_>,
+    ) -> Visit {
         match self.naming {
-            Naming::Awaited(_) => self.refuse_header(service, HeaderCause::Late),
+            Naming::Awaited(_) => self.refuse_header(rt, doorway, HeaderCause::Late),
             Naming::Named | Naming::Own => Visit::Ended,
         }
     }
