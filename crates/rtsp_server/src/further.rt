@@ -92,7 +92,7 @@ fn writing<R: Wait + rt::Clock>(rt: &R, shared: &Shared) -> Option<WritingFigure
 
 /// How many bytes of RTP packets were sent, of all presentations.
 pub(crate) fn bytes_sent(shared: &Shared) -> u64 {
-    let mut bytes = 0u64;
+    let mut bytes = shared.audience.bytes_of_others();
     for place in 0..u16::MAX {
         let udp = shared.audience.film(place, Transport::Udp);
         let tcp = shared.audience.film(place, Transport::Tcp);
