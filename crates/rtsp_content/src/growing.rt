@@ -40,8 +40,21 @@ fn is_offered(table: &Table, presentation: &Presentation) -> bool {
     false
 }
 
-// Of each place whether it may be given to another presentation: it is free, and what stands there is offered
-// no more, and doesn't come back either.
+// Whether a place may be given to another presentation: it is free, and what stands there is offered no more, and
+// doesn't come back either.
+fn is_givable(table: &Table, wanted: &Table, renewed: &[bool], free: &[bool], place: usize) -> bool
+    ensures { result ≡ true → (is_free free.now place ≡ true) × (is_withdrawn table.now.withdrawn place ≡ true) }
+{
+    if !is_gone(free, place) || !is_gone(table.withdrawn.as_slice(), place) {
+        return false;
+    }
+    match table.presentations.get(place) {
+        Some(presentation) => is_gone(renewed, place) || !is_offered(wanted, presentation),
+        None => false,
+    }
+}
+
+// Of each place whether it may be given to another presentation.
 fn givable(
     alloc: Global,
     table: &Table,
@@ -54,9 +67,7 @@ fn givable(
 {
     let mut givable = Vec::new(alloc);
     for place in 0..table.presentations.len() {
-        let is_free = is_gone(free, place) && is_gone(table.withdrawn.as_slice(), place);
-        let is_renewed = matches!(renewed.get(place), Some(true));
-        givable.push(is_free && (is_renewed || !is_offered(wanted, &table.presentations[place])))?;
+        givable.push(is_givable(table, wanted, renewed, free, place))?;
     }
     Ok(givable)
 }

@@ -1,6 +1,6 @@
-use Rattle.std.proofs.Common.{◌≡◌, ◌∙◌, sym, refl, ap, subst, ◌<◌, ◌≤◌, ◌+◌, ℕ, length, true, false, Some, slice_get, arith}
+use Rattle.std.proofs.Common.{◌≡◌, ◌∙◌, sym, refl, ap, subst, ◌<◌, ◌≤◌, ◌+◌, ℕ, length, Bool, List, true, false, Some, slice_get, arith}
 use Rattle.std.proofs.lemmas.Option.{slice_get_read}
-use Rattle.rtsp_content.specs.Growing.{Giving, StandsIn, places_in}
+use Rattle.rtsp_content.specs.Growing.{Giving, Offers, StandsIn, places_in}
 use Rattle.rtsp_content.specs.Numbers.{number_at}
 use Rattle.rtsp_content.specs.PresentationValue.{presentation_names}
 use Rattle.rtsp_content.specs.TableValue.{TableValue}
@@ -39,7 +39,8 @@ loop-place-preserved c =
           let here : StandsIn wanted.presentations p place = subst (λ (t : TableValue). StandsIn t.presentations p place) v at in
           let apart : AreOfferedDistinct wanted.withdrawn (presentation_names wanted.presentations) = subst (λ (t : TableValue). AreOfferedDistinct t.withdrawn (presentation_names t.presentations)) v c.wanted.invariant.presentations_distinct in
           let on : is_withdrawn wanted.withdrawn place ≡ false = sym gone ∙ w.if-not-is_gone.true in
-          rw (w.standing-is) (grown-offer old giving wanted place (places_in c.loop-place.standing) p (places_in w.offer.new.standing) younger apart c.loop-place.invariant here on w.in_ok-offer.ensures)
+          let offers = subst (λ (free : List Bool). Offers (record { free = free; number = c.in-Some.given; behind = c.newest-behind.result }) (places_in c.loop-place.standing) p (places_in w.offer.new.self)) w.as_slice-then-not-is_gone.ensures.value w.in_ok-offer.ensures in
+          rw (w.standing-is) (grown-offer old giving wanted place (places_in c.loop-place.standing) p (places_in w.offer.new.self) younger apart c.loop-place.invariant here on offers)
       | else-not-is_gone w ↦
           let off : is_withdrawn wanted.withdrawn place ≡ true = sym gone ∙ w.if-not-is_gone.false in
           rw (w.standing-is) (grown-skip old giving wanted place (places_in c.loop-place.standing) c.loop-place.invariant off)
