@@ -53,7 +53,7 @@ def a_film_comes_back_at_its_place(checks: Checks) -> None:
         checks.same("places", 2, before["places"])
         for way in Way.TCP, Way.UDP:
             goes(server, TONE)
-            checks.same("while it is gone", (404, 2), (server.described(SHORT), server.figure("rtspd_places")))
+            checks.same("while it is gone", (404, 1), (server.described(SHORT), server.figure("rtspd_places")))
             server.offer(TONE, SHORT)
             plays_whole(checks, server, SHORT, way)
             checks.same("once it is back", before, taken(server))
@@ -109,7 +109,7 @@ def a_film_that_changes_while_it_is_opened(checks: Checks) -> None:
         checks.that("it is being opened", until(lambda: disk.asked(OPENING) == 1), disk.asked(OPENING))
         server.put_media(LATE, content=Track("z"))
         checks.that("it is taken up", until(lambda: server.number() == 3), server.number())
-        checks.same("places", 3, server.figure("rtspd_places"))
+        checks.same("places", 2, server.figure("rtspd_places"))
         plays_whole(checks, server, LATE, Way.TCP, LATE.tracks[0]._replace(name="z"))
 
 

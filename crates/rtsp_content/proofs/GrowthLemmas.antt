@@ -1,27 +1,31 @@
 -- What a table that goes on leaves as it is.
-use Rattle.std.proofs.Common.{◌≡◌, ◌∙◌, sym, refl, ap, subst, ℕ, zero, suc, ◌+◌, ◌<◌, ◌≤◌, Bool, true, false, List, [], ◌∷◌, ◌++◌, Some, slice_get, length, inl, inr, ◌⊎◌, arith, append_assoc, append-nil, length-append}
-use Rattle.std.specs.Prelude.{replicate, slice_set, Result, Ok, Err, OnOk}
+use Rattle.std.proofs.Common.{◌≡◌, ◌∙◌, sym, refl, ap, subst, ℕ, zero, suc, ◌+◌, ◌<◌, ◌≤◌, Bool, true, false, cond, List, [], ◌∷◌, ◌++◌, Option, Some, None, slice_get, get_or, length, inl, inr, ◌⊎◌, arith, length-append}
+use Rattle.std.specs.Prelude.{slice_set, Result, Ok, Err, OnOk}
+use Rattle.std.specs.List.{position_from}
 use Rattle.std.proofs.lemmas.Bool.{cases_lt, false≢true}
-use Rattle.std.proofs.lemmas.Option.{slice_get_within, same_Some}
-use Rattle.std.proofs.lemmas.List.{length-replicate}
+use Rattle.std.proofs.lemmas.Option.{slice_get_within, slice_get-get_or, same_Some}
+use Rattle.rtsp_content.specs.declared.found.Found.{Found}
+use Rattle.rtsp_content.specs.declared.found.Found.TheVariants.{Presentation, Track, Nothing}
+use Rattle.rtsp_content.specs.declared.server.Server.{Server}
+use Rattle.rtsp_content.specs.declared.standing.Standing.{Standing}
 use Rattle.rtsp_content.specs.PresentationValue.{PresentationValue, presentation_names}
 use Rattle.rtsp_content.specs.TableValue.{TableValue}
+use Rattle.rtsp_content.specs.Numbers.{number_in, number_at}
+use Rattle.rtsp_content.specs.Paths.{is_presentation_path, is_track_path, track_found, found_at, find_of}
 use Rattle.rtsp_content.specs.Withdrawn.{is_gone, is_withdrawn, AreOfferedDistinct}
-use Rattle.rtsp_content.specs.Growing.{IsFront, StandsIn, IsOffered, Offers, OffersWhat, KeepsPlaces, ExtendsChain}
-
-pub get-longer : {X : Type 0} (xs ys : List X) (i : ℕ) (x : X) → slice_get xs i ≡ Some x → slice_get (xs ++ ys) i ≡ Some x
-get-longer [] ys i x e = absurd cc
-get-longer (y ∷ xs) ys zero x e = e
-get-longer (y ∷ xs) ys (suc i) x e = get-longer xs ys i x e
-
-pub front-keeps : (old new : List PresentationValue) → IsFront old new → (place : ℕ) (p : PresentationValue) → slice_get old place ≡ Some p → slice_get new place ≡ Some p
-front-keeps old new front place p e = rw front.1 (get-longer old front.0 place p e)
+use Rattle.rtsp_content.specs.Growing.{IsFixed, StandsIn, IsSamePlace, IsAbove, IsNotBelow, Extends, is_free, GivesOnly, IsSameFound, IsOffered, Giving, Places, AreEven, IsGiven, Offers, OffersWhat, places_in, table_with, KeepsPlaces, FindsAlike, ExtendsChain}
+use Rattle.rtsp_content.proofs.AgeLemmas.{IsFound, found_or}
+use Rattle.rtsp_content.proofs.PathLemmas.{FirstAt, first-found, nothing-found}
 
 pub keeps-places : KeepsPlaces
-keeps-places old new x place p e = front-keeps old.presentations new.presentations x.presentations place p e
+keeps-places old new x place p same e = x.stays place p e same
 
-front-chain : (one two three : List PresentationValue) → IsFront one two → IsFront two three → IsFront one three
-front-chain one two three x y = (x.0 ++ y.0, y.1 ∙ ap (λ ps. ps ++ y.0) x.1 ∙ append_assoc one x.0 y.0)
+-- the number of a place never falls
+not-less : (old new : TableValue) → Extends old new → (place : ℕ) → place < length old.presentations → number_at old.numbers place ≤ number_at new.numbers place
+not-less old new x place low = elim (x.given place low) [
+  | inl same ↦ omega (arith, same)
+  | inr above ↦ let up = above place low in omega (arith, up)
+]
 
 pub extends-chain : ExtendsChain
 extends-chain one two three x y = record {
@@ -33,199 +37,103 @@ extends-chain one two three x y = record {
     journal = y.server.journal ∙ x.server.journal;
     workers = y.server.workers ∙ x.server.workers;
   };
-  presentations = front-chain one.presentations two.presentations three.presentations x.presentations y.presentations;
+  places = omega (arith, x.places, y.places);
+  stays = λ place p stands same.
+      let low = slice_get_within one.presentations place p stands in
+      let low' : place < length two.presentations = omega (arith, low, x.places) in
+      let first = not-less one two x place low in
+      let last = not-less two three y place low' in
+      y.stays place p (x.stays place p stands (omega (arith, first, last, same))) (omega (arith, first, last, same));
+  given = λ place low. elim (y.given place (omega (arith, low, x.places))) [
+    | inr above ↦ inr (λ q low_q. let up = above q (omega (arith, low_q, x.places)) in let first = not-less one two x q low_q in omega (arith, up, first))
+    | inl same ↦ elim (x.given place low) [
+      | inl same' ↦ inl (same ∙ same')
+      | inr above ↦ inr (λ q low_q. let up = above q low_q in omega (arith, up, same))
+    ]
+  ];
+  behind = λ place high low. elim (cases_lt place (length two.presentations)) [
+    | inl within ↦ λ q low_q. let up = x.behind place high within q low_q in let last = not-less two three y place within in omega (arith, up, last)
+    | inr over ↦ λ q low_q. let up = y.behind place over low q (omega (arith, low_q, x.places)) in let first = not-less one two x q low_q in omega (arith, up, first)
+  ];
 }
 
--- ---- what a table is made longer by
+-- ---- what a path names
 
--- two numbers are the same or not
-same_or : (i j : ℕ) → (i ≡ j) ⊎ ¬ (i ≡ j)
-same_or i j = elim (cases_lt i j) [
-  | inl low ↦ inr (λ e. absurd (omega (arith, low, e)))
-  | inr high ↦ elim (cases_lt j i) [
-    | inl low ↦ inr (λ e. absurd (omega (arith, low, e)))
-    | inr other ↦ inl (omega (arith, high, other))
+-- the place of what is found is the same, and something is found
+same-found : (old new : TableValue) (f : Found) → IsSameFound old new f → IsFound f
+same-found old new (Presentation i) same = tt
+same-found old new (Track i j) same = tt
+same-found old new Nothing same = absurd same
+
+same-at : (old new : TableValue) (path : List ℕ) (i : ℕ) (p : PresentationValue) (f : Found) → found_at i p path ≡ f → IsSameFound old new f → IsSamePlace old new i
+same-at old new path i p f e same = go (is_presentation_path p path) (position_from (is_track_path p path) 0 p.tracks) e where
+  go : (b : Bool) (r : Option ℕ) → cond b (Presentation i) (track_found i r) ≡ f → IsSamePlace old new i
+  go true r e = subst (IsSameFound old new) (sym e) same
+  go false (Some j) e = subst (IsSameFound old new) (sym e) same
+  go false None e = absurd (subst (IsSameFound old new) (sym e) same)
+
+-- of two each of which is none elder than the other both are one
+one-place : (m n i j : ℕ) → (m < n) ⊎ ((m ≡ n) × (i ≤ j)) → (n < m) ⊎ ((n ≡ m) × (j ≤ i)) → i ≡ j
+one-place m n i j (inl a) (inl b) = absurd (omega (arith, a, b))
+one-place m n i j (inl a) (inr b) = absurd (omega (arith, a, b.0))
+one-place m n i j (inr a) (inl b) = absurd (omega (arith, a.0, b))
+one-place m n i j (inr a) (inr b) = omega (arith, a.1, b.1)
+
+pub finds-alike : FindsAlike
+finds-alike old new x path same = at_one where
+  one : FirstAt old.numbers old.presentations 0 path (find_of old path)
+  one = first-found old.numbers old.presentations path 0 old.presentations refl (same-found old new (find_of old path) same)
+
+  stays_number : IsSamePlace old new one.k
+  stays_number = same-at old new path one.k one.p (find_of old path) one.is same
+
+  low : one.k < length old.presentations
+  low = slice_get_within old.presentations one.k one.p one.stands
+
+  still : StandsIn new.presentations one.p one.k
+  still = x.stays one.k one.p one.stands stays_number
+
+  is_found : IsFound (found_at one.k one.p path)
+  is_found = subst IsFound (sym one.is) one.found
+
+  found : IsFound (find_of new path)
+  found = elim (found_or (find_of new path)) [
+    | inl none ↦ absurd (nothing-found new.numbers new.presentations path 0 new.presentations refl none one.k one.p (omega arith) still is_found)
+    | inr some ↦ some
   ]
-]
 
--- one of the name at a place
-record Named (ps : List PresentationValue) (i : ℕ) (name : List ℕ) : Type 0 where
-  p : PresentationValue
-  stands : slice_get ps i ≡ Some p
-  is : p.name ≡ name
+  two : FirstAt new.numbers new.presentations 0 path (find_of new path)
+  two = first-found new.numbers new.presentations path 0 new.presentations refl found
 
-named-at : (ps : List PresentationValue) (i : ℕ) (name : List ℕ) → slice_get (presentation_names ps) i ≡ Some name → Named ps i name
-named-at [] i name e = absurd cc
-named-at (p ∷ ps) zero name e = record { p = p; stands = refl; is = cc }
-named-at (p ∷ ps) (suc i) name e = let rest = named-at ps i name e in record { p = rest.p; stands = rest.stands; is = rest.is }
+  is_found_two : IsFound (found_at two.k two.p path)
+  is_found_two = subst IsFound (sym two.is) two.found
 
-name-of : (ps : List PresentationValue) (i : ℕ) (p : PresentationValue) → slice_get ps i ≡ Some p → slice_get (presentation_names ps) i ≡ Some p.name
-name-of [] i p e = absurd cc
-name-of (q ∷ ps) zero p e = let same : q ≡ p = cc in ap (λ (x : PresentationValue). Some x.name) same
-name-of (q ∷ ps) (suc i) p e = name-of ps i p e
-
--- where a presentation that is offered is among the first of those that are wanted
-pub record Among (wanted : TableValue) (k : ℕ) (q : PresentationValue) : Type 0 where
-  pub i : ℕ
-  pub below : i < k
-  pub stands : StandsIn wanted.presentations q i
-  pub offered : is_withdrawn wanted.withdrawn i ≡ false
-
--- the first so many that are wanted are offered, and no others
-pub record Grown (old : List PresentationValue) (wanted : TableValue) (k : ℕ) (ps : List PresentationValue) (ws : List Bool) : Type 0 where
-  pub front : IsFront old ps
-  pub lengths : length ws ≡ length ps
-  pub all : (i : ℕ) (p : PresentationValue) → i < k → StandsIn wanted.presentations p i → is_withdrawn wanted.withdrawn i ≡ false → IsOffered ps ws p
-  pub only : (j : ℕ) (q : PresentationValue) → StandsIn ps q j → is_withdrawn ws j ≡ false → Among wanted k q
-  pub distinct : AreOfferedDistinct ws (presentation_names ps)
-
-all_gone : (n i : ℕ) → i < n → is_withdrawn (replicate n true) i ≡ false → ⊥
-all_gone zero i low e = omega (arith, low)
-all_gone (suc n) zero low e = absurd cc
-all_gone (suc n) (suc i) low e = all_gone n i (omega (arith, low)) e
-
-pub grown-start : (old : List PresentationValue) (wanted : TableValue) → Grown old wanted 0 old (replicate (length old) true)
-grown-start old wanted = record {
-  front = ([], sym (append-nil old));
-  lengths = length-replicate (length old) true;
-  all = λ i p low stands offered. absurd (omega (arith, low));
-  only = λ j q stands offered. absurd (all_gone (length old) j (slice_get_within old j q stands) offered);
-  distinct = λ i j name at_i at_j off_i off_j. let it = named-at old i name at_i in absurd (all_gone (length old) i (slice_get_within old i it.p it.stands) off_i);
-}
-
-later : (wanted : TableValue) (k : ℕ) (q : PresentationValue) → Among wanted k q → Among wanted (k + 1) q
-later wanted k q it = record { i = it.i; below = omega (arith, it.below); stands = it.stands; offered = it.offered }
-
--- one that is withdrawn there is left out
-pub grown-skip : (old : List PresentationValue) (wanted : TableValue) (k : ℕ) (ps : List PresentationValue) (ws : List Bool) → Grown old wanted k ps ws
-    → is_withdrawn wanted.withdrawn k ≡ true → Grown old wanted (k + 1) ps ws
-grown-skip old wanted k ps ws it gone = record {
-  front = it.front;
-  lengths = it.lengths;
-  all = λ i p low stands offered. elim (same_or i k) [
-    | inl same ↦ absurd (false≢true (sym offered ∙ ap (is_withdrawn wanted.withdrawn) same ∙ gone))
-    | inr other ↦ it.all i p (omega (arith, low, other)) stands offered
-  ];
-  only = λ j q stands offered. later wanted k q (it.only j q stands offered);
-  distinct = it.distinct;
-}
-
--- one more is offered
-pub grown-offer : (old : List PresentationValue) (wanted : TableValue) (k : ℕ) (ps : List PresentationValue) (ws : List Bool) (p : PresentationValue) (ps' : List PresentationValue) (ws' : List Bool)
-    → AreOfferedDistinct wanted.withdrawn (presentation_names wanted.presentations) → Grown old wanted k ps ws → StandsIn wanted.presentations p k → is_withdrawn wanted.withdrawn k ≡ false
-    → Offers ps ws p ps' ws' → Grown old wanted (k + 1) ps' ws'
-grown-offer old wanted k ps ws p ps' ws' apart it here on step = record {
-  front = front-chain old ps ps' it.front step.front;
-  lengths = step.lengths;
-  all = λ i q low stands offered. elim (same_or i k) [
-    | inl same ↦ subst (IsOffered ps' ws') (is_it i q same stands) (step.place, step.stands, step.offered)
-    | inr other ↦ let was = it.all i q (omega (arith, low, other)) stands offered in (was.0, front-keeps ps ps' step.front was.0 q was.1, step.stay was.0 q was.1 was.2)
-  ];
-  only = λ j q stands offered. elim (same_or j step.place) [
-    | inl same ↦ record { i = k; below = omega arith; stands = subst (λ x. StandsIn wanted.presentations x k) (same_Some p q (sym step.stands ∙ ap (slice_get ps') (sym same) ∙ stands)) here; offered = on }
-    | inr other ↦ let was = step.others j q other stands offered in later wanted k q (it.only j q was.0 was.1)
-  ];
-  distinct = λ i j name at_i at_j off_i off_j.
-      let one = named-at ps' i name at_i in
-      let two = named-at ps' j name at_j in
-      elim (same_or i step.place) [
-        | inl same_i ↦ elim (same_or j step.place) [
-          | inl same_j ↦ same_i ∙ sym same_j
-          | inr other_j ↦ absurd (clash two.p (is_p i one.p same_i one.stands name one.is ∙ sym two.is) (let was = step.others j two.p other_j two.stands off_j in it.only j two.p was.0 was.1))
+  back : (number_at new.numbers one.k < number_at new.numbers two.k) ⊎ ((number_at new.numbers one.k ≡ number_at new.numbers two.k) × (one.k ≤ two.k))
+  back = elim (cases_lt two.k (length old.presentations)) [
+    | inl within ↦ elim (x.given two.k within) [
+      | inr above ↦ let up = above one.k low in inl (omega (arith, up, stays_number))
+      | inl kept ↦
+          let was = slice_get-get_or old.presentations two.k one.p within in
+          let is : get_or old.presentations two.k one.p ≡ two.p = same_Some (get_or old.presentations two.k one.p) two.p (sym (x.stays two.k (get_or old.presentations two.k one.p) was kept) ∙ two.stands) in
+          let there : StandsIn old.presentations two.p two.k = was ∙ ap Some is in
+          elim (one.least two.k two.p (omega arith) there is_found_two) [
+            | inl less ↦ inl (omega (arith, less, kept, stays_number))
+            | inr eq ↦ inr (omega (arith, eq.0, kept, stays_number), eq.1)
+          ]
+    ]
+    | inr over ↦
+        let within_new = slice_get_within new.presentations two.k two.p two.stands in
+        let up = x.behind two.k over within_new one.k low in
+        elim (cases_lt (number_at new.numbers one.k) (number_at new.numbers two.k)) [
+          | inl less ↦ inl less
+          | inr high ↦ inr (omega (arith, up, high, stays_number), omega (arith, low, over))
         ]
-        | inr other_i ↦ elim (same_or j step.place) [
-          | inl same_j ↦ absurd (clash one.p (is_p j two.p same_j two.stands name two.is ∙ sym one.is) (let was = step.others i one.p other_i one.stands off_i in it.only i one.p was.0 was.1))
-          | inr other_j ↦
-              let was_i = step.others i one.p other_i one.stands off_i in
-              let was_j = step.others j two.p other_j two.stands off_j in
-              it.distinct i j name (name-of ps i one.p was_i.0 ∙ ap Some one.is) (name-of ps j two.p was_j.0 ∙ ap Some two.is) was_i.1 was_j.1
-        ]
-      ];
-} where
-  is_it : (i : ℕ) (q : PresentationValue) → i ≡ k → StandsIn wanted.presentations q i → p ≡ q
-  is_it i q same stands = same_Some p q (sym here ∙ ap (slice_get wanted.presentations) (sym same) ∙ stands)
+  ]
 
-  is_p : (i : ℕ) (q : PresentationValue) → i ≡ step.place → slice_get ps' i ≡ Some q → (name : List ℕ) → q.name ≡ name → p.name ≡ name
-  is_p i q same stands name is = ap (λ (x : PresentationValue). x.name) (same_Some p q (sym step.stands ∙ ap (slice_get ps') (sym same) ∙ stands)) ∙ is
+  place : one.k ≡ two.k
+  place = one-place (number_at new.numbers one.k) (number_at new.numbers two.k) one.k two.k back (two.least one.k one.p (omega arith) still is_found)
 
-  clash : (q : PresentationValue) → p.name ≡ q.name → Among wanted k q → ⊥
-  clash q same found =
-      let at : k ≡ found.i = apart k found.i q.name (name-of wanted.presentations k p here ∙ ap Some same) (name-of wanted.presentations found.i q found.stands) on found.offered in
-      omega (arith, found.below, at)
-
-pub grown-end : (old : List PresentationValue) (wanted : TableValue) (k : ℕ) (ps : List PresentationValue) (ws : List Bool) → length wanted.presentations ≤ k → Grown old wanted k ps ws → OffersWhat wanted ps ws
-grown-end old wanted k ps ws high it = λ p. (
-  λ offered. it.all offered.0 p (omega (arith, high, slice_get_within wanted.presentations offered.0 p offered.1)) offered.1 offered.2,
-  λ offered. let found = it.only offered.0 p offered.1 offered.2 in (found.i, found.stands, found.offered),
-)
-
--- ---- one step
-
-length-slice_set : (xs : List Bool) (i : ℕ) (b : Bool) → length (slice_set xs i b) ≡ length xs
-length-slice_set [] i b = refl
-length-slice_set (x ∷ xs) zero b = refl
-length-slice_set (x ∷ xs) (suc i) b = ap suc (length-slice_set xs i b)
-
-get-slice_set : (xs : List Bool) (i : ℕ) (b : Bool) → i < length xs → slice_get (slice_set xs i b) i ≡ Some b
-get-slice_set [] i b low = absurd (omega (arith, low))
-get-slice_set (x ∷ xs) zero b low = refl
-get-slice_set (x ∷ xs) (suc i) b low = get-slice_set xs i b (omega (arith, low))
-
-get-other : (xs : List Bool) (i j : ℕ) (b : Bool) → ¬ (j ≡ i) → slice_get (slice_set xs i b) j ≡ slice_get xs j
-get-other [] i j b n = refl
-get-other (x ∷ xs) zero zero b n = absurd (n refl)
-get-other (x ∷ xs) zero (suc j) b n = refl
-get-other (x ∷ xs) (suc i) zero b n = refl
-get-other (x ∷ xs) (suc i) (suc j) b n = get-other xs i j b (λ e. n (ap suc e))
-
--- what stands there is offered
-pub offers-there : (old : List PresentationValue) (gone : List Bool) (p : PresentationValue) (place : ℕ) → length gone ≡ length old → StandsIn old p place → Offers old gone p old (slice_set gone place false)
-offers-there old gone p place lengths stands = record {
-  front = ([], sym (append-nil old));
-  lengths = length-slice_set gone place false ∙ lengths;
-  place = place;
-  stands = stands;
-  offered = ap is_gone (get-slice_set gone place false (omega (arith, slice_get_within old place p stands, lengths)));
-  others = λ i q other at on. (at, ap is_gone (sym (get-other gone place i false other)) ∙ on);
-  stay = λ i q at on. elim (same_or i place) [
-    | inl same ↦ ap (λ j. is_withdrawn (slice_set gone place false) j) same ∙ ap is_gone (get-slice_set gone place false (omega (arith, slice_get_within old place p stands, lengths)))
-    | inr other ↦ ap is_gone (get-other gone place i false other) ∙ on
-  ];
-}
-
-get-end : {X : Type 0} (xs : List X) (x : X) (n : ℕ) → n ≡ length xs → slice_get (xs ++ x ∷ []) n ≡ Some x
-get-end [] x n e = rw e refl
-get-end (y ∷ xs) x zero e = absurd (omega (arith, e))
-get-end (y ∷ xs) x (suc n) e = get-end xs x n (omega (arith, e))
-
--- behind the end of a list with one more nothing stands
-get-before : {X : Type 0} (xs : List X) (x : X) (i : ℕ) (q : X) → ¬ (i ≡ length xs) → slice_get (xs ++ x ∷ []) i ≡ Some q → slice_get xs i ≡ Some q
-get-before [] x zero q n e = absurd (n refl)
-get-before [] x (suc i) q n e = absurd cc
-get-before (y ∷ xs) x zero q n e = e
-get-before (y ∷ xs) x (suc i) q n e = get-before xs x i q (λ s. n (ap suc s)) e
-
-gone-before : (gone : List Bool) (i : ℕ) → i < length gone → is_withdrawn (gone ++ false ∷ []) i ≡ is_withdrawn gone i
-gone-before [] i low = absurd (omega (arith, low))
-gone-before (b ∷ gone) zero low = refl
-gone-before (b ∷ gone) (suc i) low = gone-before gone i (omega (arith, low))
-
--- what is put behind all others is offered
-pub offers-behind : (old : List PresentationValue) (gone : List Bool) (p : PresentationValue) → length gone ≡ length old → Offers old gone p (old ++ p ∷ []) (gone ++ false ∷ [])
-offers-behind old gone p lengths = record {
-  front = (p ∷ [], refl);
-  lengths = length-append gone (false ∷ []) ∙ ap (λ n. n + 1) lengths ∙ sym (length-append old (p ∷ []));
-  place = length old;
-  stands = get-end old p (length old) refl;
-  offered = ap is_gone (get-end gone false (length old) (sym lengths));
-  others = λ i q other at on.
-      let before = get-before old p i q other at in
-      (before, sym (gone-before gone i (omega (arith, slice_get_within old i q before, lengths))) ∙ on);
-  stay = λ i q at on. gone-before gone i (omega (arith, slice_get_within old i q at, lengths)) ∙ on;
-}
-
--- the same, of a call that is done or isn't
-pub offers-behind-then : {E : Type 0} (r : Result (Unit {0}) E) (old : List PresentationValue) (gone : List Bool) (p : PresentationValue) (new : List PresentationValue) (left : List Bool)
-    → length gone ≡ length old → OnOk r (new ≡ old ++ p ∷ []) → OnOk r (left ≡ gone ++ false ∷ []) → OnOk r (Offers old gone p new left)
-offers-behind-then (Ok x) old gone p new left lengths stands offered = rw (stands, offered) (offers-behind old gone p lengths)
-offers-behind-then (Err e) old gone p new left lengths stands offered = tt
+  at_one : find_of new path ≡ find_of old path
+  at_one =
+      let is : two.p ≡ one.p = same_Some two.p one.p (sym two.stands ∙ sym (ap (slice_get new.presentations) place) ∙ still) in
+      sym two.is ∙ ap (λ p. found_at two.k p path) is ∙ sym (ap (λ k. found_at k one.p path) place) ∙ one.is

@@ -2,7 +2,9 @@ pub mod Items
 pub mod TablesLemmas
 pub mod Joined
 pub mod StartsLemmas
+pub mod AgeLemmas
 pub mod PathLemmas
 pub mod DistinctLemmas
 pub mod GrowthLemmas
+pub mod GivingLemmas
 pub mod OfferingLemmas

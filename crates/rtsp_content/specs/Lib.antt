@@ -16,11 +16,12 @@ pub mod Starts
 pub mod PresentationValue
 pub mod PresentationView
 pub mod Presentation
-pub mod Paths
 pub mod Rate
 pub mod Sdp
 pub mod Withdrawn
+pub mod Numbers
 pub mod TableValue
+pub mod Paths
 pub mod TableView
 pub mod Table
 pub mod Offering

@@ -20,7 +20,7 @@ table_of path ms = do
   media ← optional_text_at (codes "media") Folder numbers
   items ← list_in MAX_PRESENTATIONS (get_member (codes "presentation") ms)
   presentations ← presentations_from (media_folder path media) [] items
-  Ok (record { server = server; presentations = presentations; withdrawn = [] })
+  Ok (record { server = server; presentations = presentations; withdrawn = []; numbers = [] })
 
 -- the same of a text, by what TOML makes of it
 abbrev pub table_of_document : List ℕ → Option Members → Read TableValue

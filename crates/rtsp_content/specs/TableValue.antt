@@ -1,5 +1,5 @@
 -- The table as contracts see it.
-use Rattle.std.specs.Prelude.{◌≤◌, Bool, List, length}
+use Rattle.std.specs.Prelude.{ℕ, ◌≤◌, Bool, List, length}
 use Rattle.rtsp_content.specs.declared.server.Server.{Server}
 use Rattle.rtsp_content.specs.declared.limits.TheConstants.{MAX_PLACES}
 use Rattle.rtsp_content.specs.Server.{IsWithinLimits}
@@ -12,6 +12,8 @@ pub record TableValue : Type 0 where
   pub presentations : List PresentationValue
   -- of each place up to some whether what stands there is offered no more
   pub withdrawn : List Bool
+  -- of each place up to some its number
+  pub numbers : List ℕ
 
 -- the limits of the server's numbers and of how many places there are
 pub record IsTableWithin (table : TableValue) : Type 0 where

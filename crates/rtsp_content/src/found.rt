@@ -4,8 +4,16 @@ ghost use Rattle.std.specs.Prelude.{◌≡◌, ◌<◌, ◌≤◌, length, bytes
 ghost use Rattle.std.specs.List.{position_from};
 ghost use Rattle.rtsp_text.specs.Slices.{joined};
 ghost use Rattle.rtsp_content.specs.declared.limits.TheConstants.{MAX_PLACES, MAX_TRACKS};
-ghost use Rattle.rtsp_content.specs.Paths.{is_presentation_path, is_track_path, find_from};
+ghost use Rattle.rtsp_content.specs.Paths.{
+  elder,
+  find_from,
+  found_at,
+  is_presentation_path,
+  is_track_path,
+  number_found,
+};
 
+use crate::numbers::number_at;
 use crate::presentation::Presentation;
 use crate::track::Track;
 
@@ -71,19 +79,53 @@ fn track_index(path: &[u8], presentation: &Presentation) -> Option<usize>
         .position(|track| is_track_path(path, presentation, track))
 }
 
-// What a path names among presentations.
-pub(crate) fn find_among(presentations: &[Presentation], path: &[u8]) -> Found
-    requires { length presentations.now ≤ MAX_PLACES }
-    ensures { result ≡ find_from 0 presentations.now path.now }
+// What a path names of a presentation.
+fn found_at(index: u16, presentation: &Presentation, path: &[u8]) -> Found
+    ensures { result ≡ found_at index presentation.now path.now }
 {
+    if is_presentation_path(path, presentation) {
+        return Found::Presentation(index);
+    }
+    match track_index(path, presentation) {
+        Some(track) => Found::Track(index, track as u16),
+        None => Found::Nothing,
+    }
+}
+
+// The number of the place of what is found.
+fn number_found(numbers: &[u64], found: Found) -> Option<u64>
+    ensures { result ≡ number_found numbers.now found }
+{
+    match found {
+        Found::Presentation(index) => Some(number_at(numbers, usize::from(index))),
+        Found::Track(index, _) => Some(number_at(numbers, usize::from(index))),
+        Found::Nothing => None,
+    }
+}
+
+// Of two that are found the one that has stood at its place for longer, or else the first.
+fn elder(numbers: &[u64], first: Found, later: Found) -> Found
+    ensures { result ≡ elder numbers.now first later }
+{
+    match (number_found(numbers, later), number_found(numbers, first)) {
+        (Some(later_number), Some(number)) if later_number >= number => first,
+        (Some(_), _) => later,
+        (None, _) => first,
+    }
+}
+
+// What a path names among presentations: the eldest, by the numbers of their places. Nothing is looked at
+// behind one whose place was never given to another.
+pub(crate) fn find_among(presentations: &[Presentation], numbers: &[u64], path: &[u8]) -> Found
+    requires { length presentations.now ≤ MAX_PLACES }
+    ensures { result ≡ find_from numbers.now 0 presentations.now path.now }
+{
+    let mut found = Found::Nothing;
     for (index, presentation) in presentations.iter().enumerate() {
-        if is_presentation_path(path, presentation) {
-            return Found::Presentation(index as u16);
-        }
-        match track_index(path, presentation) {
-            Some(track) => return Found::Track(index as u16, track as u16),
-            None => {}
+        found = elder(numbers, found, found_at(index as u16, presentation, path));
+        if number_found(numbers, found) == Some(0) {
+            return found;
         }
     }
-    Found::Nothing
+    found
 }

@@ -15,6 +15,7 @@ mod laws;
 mod limits;
 mod meaning;
 mod media_path;
+mod numbers;
 mod operation;
 mod packing;
 mod presentation;
@@ -22,6 +23,7 @@ mod reading;
 mod same;
 mod sdp;
 mod server;
+mod standing;
 mod starts;
 mod table;
 mod track;
@@ -31,7 +33,7 @@ pub use example::EXAMPLE;
 pub use fault::TableFault;
 pub use found::Found;
 pub use journal_files::{JournalFiles, WhenFull};
-pub use laws::{law_extends_chain, law_keeps_places};
+pub use laws::{law_extends_chain, law_finds_alike, law_keeps_places};
 pub use limits::{
     MAX_CONNECTIONS, MAX_OCTETS, MAX_PACKETS, MAX_PLACES, MAX_TRACKS, MAX_UNIT_OCTETS, SLOT_HEAD,
 };

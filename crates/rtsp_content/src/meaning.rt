@@ -4,8 +4,8 @@ ghost use Rattle.std.specs.Prelude.{◌≡◌, ◌≤◌, ◌<◌, ◌&&◌, not
 ghost use Rattle.rtsp_content.specs.declared.limits.TheConstants.{MAX_PLACES, MAX_TRACKS};
 ghost use Rattle.rtsp_content.specs.Offering.{offered_from, is_namesake, offered_like, meant_of, track_named, track_as};
 
-use crate::growing::is_gone;
 use crate::presentation::Presentation;
+use crate::standing::is_gone;
 use crate::table::Table;
 
 // Whether what stands at a place is offered, under this name.

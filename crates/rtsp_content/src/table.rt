@@ -31,6 +31,8 @@ pub struct Table {
     pub(crate) presentations: Vec<Presentation>,
     // Of each place up to some whether what stands there is offered no more.
     pub(crate) withdrawn: Vec<bool>,
+    // Of each place up to some its number, which grows each time it is given to another presentation.
+    pub(crate) numbers: Vec<u64>,
 }
 
 impl Model for Table {
@@ -58,6 +60,7 @@ fn read_table(alloc: Global, table: &toml::Table, path: &str) -> Result<Table, T
         server,
         presentations,
         withdrawn: Vec::new(alloc),
+        numbers: Vec::new(alloc),
     })
 }
 
@@ -133,6 +136,6 @@ impl Table {
         ensures value { result ≡ find_of self.now path.now }
         ensures names { Names self.now path.now result }
     {
-        find_among(self.presentations.as_slice(), path)
+        find_among(self.presentations.as_slice(), self.numbers.as_slice(), path)
     }
 }

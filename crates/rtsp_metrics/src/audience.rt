@@ -5,6 +5,7 @@ use crate::films::{FilmCounters, FilmFigures, Films, Transport};
 use crate::session_counts::{SessionCounts, SessionSums};
 use std::alloc::{AllocError, Global};
 use std::collections::BTreeMap;
+use std::sync::atomic::{AtomicBool, Ordering};
 use std::sync::{Arc, Mutex, Wait};
 
 /// A session, and who watches what by it.
@@ -138,6 +139,8 @@ pub struct Audience {
     alloc: Global,
     films: Films,
     rows: Mutex<Rows>,
+    // Whether there was no memory for a session some time.
+    is_any_unknown: AtomicBool,
 }
 
 impl Audience {
@@ -150,6 +153,7 @@ impl Audience {
                 by_number: BTreeMap::new(alloc),
                 numbers: BTreeMap::new(alloc),
             }),
+            is_any_unknown: AtomicBool::new(false),
         })
     }
 
@@ -161,13 +165,34 @@ impl Audience {
     // Takes a session in where it isn't known. Whether it is new.
     fn note<R: Wait>(&self, rt: &R, viewing: Viewing) -> bool {
         let Ok(counts) = Arc::new(self.alloc, SessionCounts::new(viewing.digits())) else {
+            self.is_any_unknown.store(true, Ordering::SeqCst);
             return false;
         };
         let mut rows = self.rows.lock(rt);
         if rows.has(viewing.session) {
             return false;
         }
-        rows.insert(viewing, counts).is_ok()
+        let is_new = rows.insert(viewing, counts).is_ok();
+        if !is_new {
+            self.is_any_unknown.store(true, Ordering::SeqCst);
+        }
+        is_new
+    }
+
+    /// Whether each session is known, or was: there was memory for all.
+    pub fn knows_all(&self) -> bool {
+        !self.is_any_unknown.load(Ordering::SeqCst)
+    }
+
+    /// A place is given to another presentation. What was counted there goes to that of another place, which has
+    /// the name, if one has.
+    pub fn give(&self, place: u16, heir: Option<u16>) {
+        self.films.give(place, heir);
+    }
+
+    /// How many bytes were sent of presentations that have no place any more.
+    pub fn bytes_of_others(&self) -> u64 {
+        self.films.bytes_of_others()
     }
 
     /// A track was set up in a session. Nothing is done where the session is known.

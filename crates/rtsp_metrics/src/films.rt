@@ -38,6 +38,9 @@ pub(crate) struct FilmCounters {
     left: Counter,
     plays: Counter,
     bytes: Counter,
+    // What of these was counted of a film that was at its place before.
+    plays_before: Counter,
+    bytes_before: Counter,
 }
 
 impl FilmCounters {
@@ -47,6 +50,8 @@ impl FilmCounters {
             left: Counter::new(),
             plays: Counter::new(),
             bytes: Counter::new(),
+            plays_before: Counter::new(),
+            bytes_before: Counter::new(),
         }
     }
 
@@ -73,11 +78,25 @@ impl FilmCounters {
     /// What was counted so far. Those that left are read first: they had entered.
     pub(crate) fn read(&self) -> FilmFigures {
         let left = self.left.read();
+        let plays_before = self.plays_before.read();
+        let bytes_before = self.bytes_before.read();
         FilmFigures {
             sessions: self.entered.read().saturating_sub(left),
-            plays: self.plays.read(),
-            bytes: self.bytes.read(),
+            plays: self.plays.read().saturating_sub(plays_before),
+            bytes: self.bytes.read().saturating_sub(bytes_before),
         }
+    }
+
+    // What was counted so far is of another film.
+    fn forget(&self, counted: FilmFigures) {
+        self.plays_before.add(counted.plays);
+        self.bytes_before.add(counted.bytes);
+    }
+
+    // What was counted elsewhere is of this film.
+    fn inherit(&self, counted: FilmFigures) {
+        self.plays.add(counted.plays);
+        self.bytes.add(counted.bytes);
     }
 }
 
@@ -91,6 +110,8 @@ struct Film {
 #[derive(Drop)]
 pub(crate) struct Films {
     films: Vec<Film>,
+    // Bytes that were sent of films that have no place any more.
+    bytes_of_others: Counter,
 }
 
 impl Films {
@@ -102,7 +123,31 @@ impl Films {
                 tcp: FilmCounters::new(),
             })?;
         }
-        Ok(Films { films })
+        Ok(Films {
+            films,
+            bytes_of_others: Counter::new(),
+        })
+    }
+
+    /// A place is given to another film. What was counted there goes to that of another place, which has the
+    /// name, if one has.
+    pub(crate) fn give(&self, place: u16, heir: Option<u16>) {
+        for over in [Transport::Udp, Transport::Tcp] {
+            let Some(film) = self.of(place, over) else {
+                continue;
+            };
+            let counted = film.read();
+            film.forget(counted);
+            match heir.and_then(|heir| self.of(heir, over)) {
+                Some(heir) => heir.inherit(counted),
+                None => self.bytes_of_others.add(counted.bytes),
+            }
+        }
+    }
+
+    /// How many bytes were sent of films that have no place any more.
+    pub(crate) fn bytes_of_others(&self) -> u64 {
+        self.bytes_of_others.read()
     }
 
     /// The counters of a presentation over a transport, where there is such a presentation.

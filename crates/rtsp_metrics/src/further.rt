@@ -35,7 +35,7 @@ pub struct ContentFigures {
     pub taken: u64,
     /// How many presentations are offered.
     pub presentations: u64,
-    /// How many places presentations have been given since the start.
+    /// How many places presentations have, those that are withdrawn, too.
     pub places: u64,
     /// How often the configuration's file wasn't taken up.
     pub refusals: u64,
@@ -119,7 +119,7 @@ fn write_content(out: &mut Vec<u8>, of: &ContentFigures) -> Result<(), AllocErro
         b"rtspd_places",
         b"gauge",
         None,
-        b"Places that presentations were given since the start.",
+        b"Places of presentations that are in use.",
         &[Figure::Count(b"", of.places)],
     )?;
     write_family(

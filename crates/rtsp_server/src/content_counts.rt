@@ -26,12 +26,16 @@ impl ContentCounts {
     }
 
     /// The configuration was taken up so many seconds after the start, and so many presentations are
-    /// offered, of so many places. How often it was, with this time.
-    pub(crate) fn take(&self, seconds: u64, presentations: u64, places: u64) -> u64 {
+    /// offered. How often it was, with this time.
+    pub(crate) fn take(&self, seconds: u64, presentations: u64) -> u64 {
         self.taken.store(seconds, Ordering::Relaxed);
         self.presentations.store(presentations, Ordering::Relaxed);
-        self.places.store(places, Ordering::Relaxed);
         self.number.fetch_add(1, Ordering::Relaxed).wrapping_add(1)
+    }
+
+    /// So many places are in use.
+    pub(crate) fn use_places(&self, places: u64) {
+        self.places.store(places, Ordering::Relaxed);
     }
 
     /// A changed configuration was refused.

@@ -99,7 +99,7 @@ fn writing<R: Wait + rt::Clock>(
 
 /// How many bytes of RTP packets were sent, of all presentations.
 pub(crate) fn bytes_sent(audience: &Audience) -> u64 {
-    let mut bytes = 0u64;
+    let mut bytes = audience.bytes_of_others();
     for place in 0..u16::MAX {
         let udp = audience.film(place, Transport::Udp);
         let tcp = audience.film(place, Transport::Tcp);

@@ -3,8 +3,10 @@
 use crate::descriptors::Descriptors;
 use crate::errands::{Errand, Outcome};
 use crate::following::FollowedKeys;
+use crate::giving::{free_places, give_counts, places_in_use};
 use crate::growth_reasons::{NotTaken, reason};
 use crate::hiding::share_allowed;
+use crate::replaced::{KEPT, Replaced};
 use crate::shared::Shared;
 use crate::wanted_media::{is_any_unwatched, needed, renewed, withdrawn};
 use crate::watched_file::WatchedFile;
@@ -13,25 +15,13 @@ use rtsp_log::Event;
 use rtsp_sockets::{ClosedMedia, Content, Longer, MediaFault};
 use rtsp_threads::CONFIGURATION_EVERY;
 use std::alloc::{AllocError, Global};
-use std::collections::VecDeque;
 use std::fs::File;
 use std::rt::Files;
 use std::sync::{Arc, Wait};
 use std::{mem, rt};
 
-// For how long, in milliseconds, what was replaced is kept: by then all threads have let go of it, so that
-// none of them closes files. For as long, too, files of what is withdrawn stay open that nobody watches.
-const KEPT: u64 = 3_000;
-
 // So often it is looked how far a change is that is under way, in milliseconds.
 const UNDER_WAY_EVERY: u64 = 20;
-
-// Content that was replaced, and when.
-#[derive(Drop)]
-struct Replaced {
-    at: u64,
-    content: Arc<Content>,
-}
 
 // What of a changed configuration is no content.
 #[derive(Clone, Copy)]
@@ -89,7 +79,7 @@ pub(crate) struct Growth {
     looked: u64,
     // When the content was replaced last, or files were seen last that are wanted no more.
     changed: u64,
-    replaced: VecDeque<Replaced>,
+    replaced: Replaced,
 }
 
 impl Growth {
@@ -110,7 +100,7 @@ impl Growth {
             closed: ClosedMedia::new(alloc),
             looked: 0,
             changed: 0,
-            replaced: VecDeque::new(alloc),
+            replaced: Replaced::new(alloc),
         }
     }
 
@@ -155,7 +145,7 @@ impl Growth {
             return;
         }
         self.looked = now;
-        self.let_go(now);
+        self.let_go(rt, shared, now);
         if self.file.has_settled(rt, now) {
             match self.file.open_again(rt) {
                 Some(file) => {
@@ -169,14 +159,12 @@ impl Growth {
         }
     }
 
-    // Lets go of what was replaced long ago, which closes its files.
-    fn let_go(&mut self, now: u64) {
-        for _ in 0..self.replaced.len() {
-            match self.replaced.front() {
-                Some(oldest) if oldest.at.saturating_add(KEPT) <= now => {}
-                _ => return,
-            }
-            drop(self.replaced.pop_front());
+    // Lets go of what was replaced long ago, which closes its files, and counts the places that are in use.
+    fn let_go<R: Wait>(&mut self, rt: &R, shared: &Shared, now: u64) {
+        self.replaced.let_go(now);
+        if let Ok(content) = current(rt, shared) {
+            let places = places_in_use(shared, &content, &self.replaced);
+            shared.content_counts.use_places(places);
         }
     }
 
@@ -242,7 +230,10 @@ impl Growth {
             return Err(NotTaken::Stays(key));
         }
         let renewed = renewed(rt, self.alloc, &old, &wanted, &self.closed)?;
-        let table = old.table.longer(self.alloc, &wanted, renewed.as_slice())?;
+        let free = free_places(self.alloc, shared, &old, &self.replaced)?;
+        let table = old
+            .table
+            .longer(self.alloc, &wanted, renewed.as_slice(), free.as_slice())?;
         Ok(Wanted {
             old,
             table,
@@ -343,18 +334,16 @@ impl Growth {
             connections,
             beside,
         } = ready;
-        let places = content.table.presentations().len() as u64;
         shared.gate.allow(connections);
-        self.closed.note(&old.media, &content.media);
+        self.closed.note(&old, &content);
+        give_counts(shared, &old.table, &content.table);
         shared.contents.replace(rt, content);
         self.changed = now;
-        let _ = self.replaced.push_back(Replaced {
-            at: now,
-            content: old,
-        });
+        self.replaced.keep(old, now);
+        self.let_go(rt, shared, now);
         if let Some(Beside { offered, keys }) = beside {
             shared.follow(rt, keys);
-            let number = shared.content_counts.take(now / 1_000, offered, places);
+            let number = shared.content_counts.take(now / 1_000, offered);
             let event = Event::Taken {
                 number,
                 presentations: offered,
@@ -394,7 +383,7 @@ impl Growth {
         let withdrawn = withdrawn(self.alloc, &old.table)?;
         let table = old
             .table
-            .longer(self.alloc, &old.table, withdrawn.as_slice())?;
+            .longer(self.alloc, &old.table, withdrawn.as_slice(), &[])?;
         let needed = needed(self.alloc, shared, &table, None)?;
         let media = old
             .media

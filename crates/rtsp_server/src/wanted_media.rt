@@ -32,7 +32,7 @@ pub(crate) fn renewed<R: Files<File = File>>(
         let is_renewed = if media.has(place) {
             media.is_renewed(rt, place, presentation)
         } else {
-            !(offers(wanted, presentation.name()) && closed.is_back(rt, place, presentation))
+            !(offers(wanted, presentation.name()) && closed.is_back(rt, table, place, presentation))
         };
         renewed.push(is_renewed)?;
     }
@@ -57,8 +57,8 @@ fn sessions_of(shared: &Shared, place: u16, over: Transport) -> u64 {
     }
 }
 
-// Whether a session lives that has streams of this place.
-fn is_watched(shared: &Shared, place: u16) -> bool {
+/// Whether a session lives that has streams of this place.
+pub(crate) fn is_watched(shared: &Shared, place: u16) -> bool {
     sessions_of(shared, place, Transport::Udp) > 0 || sessions_of(shared, place, Transport::Tcp) > 0
 }
 

@@ -2,10 +2,11 @@
 
 ghost use Rattle.std.specs.Prelude.{◌≡◌, true};
 
+use crate::contents::Content;
 use crate::media::Media;
 use crate::media_file::{FileState, MediaFile};
 use crate::read_at::ReadAt;
-use rtsp_content::Presentation;
+use rtsp_content::{Presentation, Table};
 use std::alloc::{AllocError, Global};
 use std::fs;
 use std::fs::File;
@@ -39,8 +40,15 @@ impl ClosedFile {
 #[derive(Drop)]
 pub struct ClosedMedia {
     alloc: Global,
-    // Of each place up to some the files of its tracks: none where it isn't known which these were.
-    films: Vec<Vec<ClosedFile>>,
+    // What was closed at each place up to some.
+    films: Vec<ClosedFilm>,
+}
+
+// The files of the tracks of a place while it had a number: none where it isn't known which these were.
+#[derive(Drop)]
+struct ClosedFilm {
+    number: u64,
+    files: Vec<ClosedFile>,
 }
 
 impl ClosedMedia {
@@ -57,47 +65,53 @@ impl ClosedMedia {
         self.films = Vec::new(self.alloc);
     }
 
-    /// Notes what is closed with the media of before. Where there is no memory for it, it isn't known.
-    pub fn note(&mut self, before: &Media, now: &Media) {
-        for place in 0..before.places.len() {
-            if now.has(place) {
-                self.set(place, Vec::new(self.alloc));
-            } else if before.has(place)
-                && let Ok(files) = files_of(self.alloc, before, place)
+    /// Notes what is closed with the content of before. Where there is no memory for it, it isn't known.
+    pub fn note(&mut self, before: &Content, now: &Content) {
+        for place in 0..before.media.places.len() {
+            let number = number_of(&before.table, place);
+            if now.media.has(place) {
+                self.set(place, number, Vec::new(self.alloc));
+            } else if before.media.has(place)
+                && let Ok(files) = files_of(self.alloc, &before.media, place)
             {
-                self.set(place, files);
+                self.set(place, number, files);
             }
         }
     }
 
-    fn set(&mut self, place: usize, files: Vec<ClosedFile>) {
+    fn set(&mut self, place: usize, number: u64, files: Vec<ClosedFile>) {
         for _ in self.films.len()..place.saturating_add(1) {
-            if self.films.push(Vec::new(self.alloc)).is_err() {
+            let none = ClosedFilm {
+                number: 0,
+                files: Vec::new(self.alloc),
+            };
+            if self.films.push(none).is_err() {
                 return;
             }
         }
         if let Some(known) = self.films.get_mut(place) {
-            *known = files;
+            *known = ClosedFilm { number, files };
         }
     }
 
-    /// The files of the tracks of a place, where they are closed and known.
-    pub(crate) fn files(&self, place: usize) -> &[ClosedFile] {
+    /// The files of the tracks of a place of a table, where they are closed and known.
+    pub(crate) fn files(&self, table: &Table, place: usize) -> &[ClosedFile] {
         match self.films.get(place) {
-            Some(files) => files.as_slice(),
-            None => &[],
+            Some(film) if film.number == number_of(table, place) => film.files.as_slice(),
+            _ => &[],
         }
     }
 
-    /// Whether the files of this presentation, which were closed at this place, are at its paths as they were.
-    /// No where it can't be told.
+    /// Whether the files of this presentation, which were closed at this place of a table, are at its paths as
+    /// they were. No where it can't be told.
     pub fn is_back<R: Files<File = File>>(
         &self,
         rt: &R,
+        table: &Table,
         place: usize,
         presentation: &Presentation,
     ) -> bool {
-        let (files, tracks) = (self.files(place), presentation.tracks());
+        let (files, tracks) = (self.files(table, place), presentation.tracks());
         if files.len() != tracks.len() {
             return false;
         }
@@ -107,6 +121,14 @@ impl ClosedMedia {
             }
         }
         true
+    }
+}
+
+// The number of a place.
+fn number_of(table: &Table, place: usize) -> u64 {
+    match u16::try_from(place) {
+        Ok(place) => table.number(place),
+        Err(_) => 0,
     }
 }
 

@@ -83,8 +83,8 @@ impl Seen {
         })
     }
 
-    /// Takes the content of the moment, where it is another. It is taken only where each place has in it
-    /// what it has in the one before.
+    /// Takes the content of the moment, where it is another. It is taken only where each place that wasn't given
+    /// to another has in it what it has in the one before.
     pub fn refresh<R: Wait>(&mut self, rt: &R, contents: &Contents)
         ensures { SeesOn self.old self.new }
     {
@@ -97,7 +97,7 @@ impl Seen {
         }
     }
 
-    // Takes a content that has at each place what this one has.
+    // Takes a content that goes on from this one.
     fn take(&mut self, number: u64, content: Arc<Content>)
         ensures { SeesOn self.old self.new }
     {

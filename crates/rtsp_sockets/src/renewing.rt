@@ -137,7 +137,7 @@ impl MediaOf<File> {
                 }
                 Some(places) if !places.is_empty() => media.keep(alloc, self, places)?,
                 _ => {
-                    let closed = closed.files(place);
+                    let closed = closed.files(table, place);
                     media.share(self, closed)?;
                     let places = opened.places_of(rt, &media, presentation, closed)?;
                     media.places.push(places).map_err(AllocError::from)?;

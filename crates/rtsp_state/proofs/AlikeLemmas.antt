@@ -1,16 +1,14 @@
 -- What is read alike by a table that goes on.
 use Rattle.std.proofs.Common.{◌≡◌, ◌≢◌, ◌∙◌, sym, refl, ap, subst, ℕ, ◌+◌, Bool, true, false, cond, bytes_eq, List, [], ◌∷◌, ◌++◌, Option, Some, None, Result, Ok, Err, codes}
-use Rattle.std.specs.List.{position_from}
 use Rattle.url.specs.Parts.{Parts}
 use Rattle.rtsp_text.specs.Results.{◌>>=◌}
 use Rattle.rtsp_grammar.specs.declared.message.Request.{Request}
 use Rattle.rtsp_content.specs.declared.found.Found.{Found}
 use Rattle.rtsp_content.specs.declared.found.Found.TheVariants as found
 use Rattle.rtsp_content.specs.TableValue.{TableValue}
-use Rattle.rtsp_content.specs.PresentationValue.{PresentationValue}
-use Rattle.rtsp_content.specs.Paths.{find_from, find_of, is_presentation_path, is_track_path, track_or, Names}
-use Rattle.rtsp_content.specs.Growing.{Extends}
-use Rattle.rtsp_content.proofs.GrowthLemmas.{keeps-places}
+use Rattle.rtsp_content.specs.Paths.{find_of, Names}
+use Rattle.rtsp_content.specs.Growing.{Extends, IsSamePlace, IsSameFound}
+use Rattle.rtsp_content.proofs.GrowthLemmas.{keeps-places, finds-alike}
 use Rattle.rtsp_content.proofs.PathLemmas.{find_of-names}
 use Rattle.rtsp_state.specs.declared.method.Method.{Method}
 use Rattle.rtsp_state.specs.declared.method.Method.TheVariants as methods
@@ -27,84 +25,72 @@ use Rattle.rtsp_state.specs.Values.{uri_of, bare_text, with_slash}
 use Rattle.rtsp_state.specs.OrderOfRefusals.{served, version_rule, require_rule, name_of, cseq_of, target_at, media_of, target_of, asked_of}
 use Rattle.rtsp_state.specs.ParsedRequest.{ParsedValue}
 use Rattle.rtsp_state.specs.Screen.{screen, screened, parsed as parsed_as}
-use Rattle.rtsp_state.specs.Alike.{Has, IsHeld, IsThere, AgreeAt, AgreeOn, ReadsAlike, AsksAlike}
+use Rattle.rtsp_state.specs.Alike.{Has, IsSameOn, NamesSame, IsHeld, IsThere, AgreeAt, AgreeOn, ReadsAlike, AsksAlike}
 
 -- ---- what a path names
 
-or-longer : (i : ℕ) (r : Option ℕ) (one two : Found) → (one ≢ found.Nothing → two ≡ one) → track_or i r one ≢ found.Nothing → track_or i r two ≡ track_or i r one
-or-longer i (Some j) one two ih n = refl
-or-longer i None one two ih n = ih n
-
-step-longer : (b : Bool) (i : ℕ) (r : Option ℕ) (one two : Found) → (one ≢ found.Nothing → two ≡ one)
-    → cond b (found.Presentation i) (track_or i r one) ≢ found.Nothing
-    → cond b (found.Presentation i) (track_or i r two) ≡ cond b (found.Presentation i) (track_or i r one)
-step-longer true i r one two ih n = refl
-step-longer false i r one two ih n = or-longer i r one two ih n
-
-find_from-longer : (i : ℕ) (ps more : List PresentationValue) (path : List ℕ) → find_from i ps path ≢ found.Nothing → find_from i (ps ++ more) path ≡ find_from i ps path
-unfolding find_from
-find_from-longer i [] more path n = absurd (n refl)
-find_from-longer i (p ∷ ps) more path n =
-    step-longer (is_presentation_path p path) i (position_from (is_track_path p path) 0 p.tracks) (find_from (i + 1) ps path) (find_from (i + 1) (ps ++ more) path)
-    (λ m. find_from-longer (i + 1) ps more path m) n
-
-find_of-longer : (old new : TableValue) → Extends old new → (path : List ℕ) → find_of old path ≢ found.Nothing → find_of new path ≡ find_of old path
-find_of-longer old new x path n = rw x.presentations.1 (find_from-longer 0 old.presentations x.presentations.0 path n)
+-- the place of what is found isn't given to another, where that of no target is that it makes
+found-same : (old new : TableValue) (base : List ℕ) (f : Found) → f ≢ found.Nothing → ((target : Target) → target_at base f ≡ Ok target → IsSameOn old new target) → IsSameFound old new f
+found-same old new base (found.Presentation p) n same = same (targets.Presentation base p) refl
+found-same old new base (found.Track p t) n same = same (targets.Track base p t) refl
+found-same old new base found.Nothing n same = absurd (n refl)
 
 -- ---- what a URI names
 
 not-missing : (base : List ℕ) (f : Found) → target_at base f ≢ Err (Refused NotFound) → f ≢ found.Nothing
 not-missing base f n e = n (ap (target_at base) e)
 
-media-longer : (old new : TableValue) → Extends old new → (parts : Option Parts) → media_of old parts ≢ Err (Refused NotFound) → media_of new parts ≡ media_of old parts
-media-longer old new x None n = refl
-media-longer old new x (Some url) n =
+media-longer : (old new : TableValue) → Extends old new → (parts : Option Parts) → media_of old parts ≢ Err (Refused NotFound)
+    → ((target : Target) → media_of old parts ≡ Ok target → IsSameOn old new target) → media_of new parts ≡ media_of old parts
+media-longer old new x None n same = refl
+media-longer old new x (Some url) n same =
     let base = with_slash (bare_text url) in
-    ap (target_at base) (find_of-longer old new x url.path (not-missing base (find_of old url.path) n))
+    ap (target_at base) (finds-alike old new x url.path (found-same old new base (find_of old url.path) (not-missing base (find_of old url.path) n) same))
 
 -- the target of a text that is `*` or isn't
 abbrev starred : Bool → Bool → Result Target Fault → Result Target Fault
 starred is takes media = cond is (cond takes (Ok targets.Star) (Err (Refused BadRequest))) media
 
 star-longer : (old new : TableValue) → Extends old new → (is takes : Bool) (parts : Option Parts) → starred is takes (media_of old parts) ≢ Err (Refused NotFound)
+    → ((target : Target) → starred is takes (media_of old parts) ≡ Ok target → IsSameOn old new target)
     → starred is takes (media_of new parts) ≡ starred is takes (media_of old parts)
-star-longer old new x true takes parts n = refl
-star-longer old new x false takes parts n = media-longer old new x parts n
+star-longer old new x true takes parts n same = refl
+star-longer old new x false takes parts n same = media-longer old new x parts n same
 
 target-longer : (old new : TableValue) → Extends old new → (method : Method) (text : List ℕ) → target_of old method text ≢ Err (Refused NotFound)
-    → target_of new method text ≡ target_of old method text
-target-longer old new x methods.Options text n = refl
-target-longer old new x method text n = star-longer old new x (bytes_eq text (codes "*")) (takes_star method) (uri_of text) n
+    → ((target : Target) → target_of old method text ≡ Ok target → IsSameOn old new target) → target_of new method text ≡ target_of old method text
+target-longer old new x methods.Options text n same = refl
+target-longer old new x method text n same = star-longer old new x (bytes_eq text (codes "*")) (takes_star method) (uri_of text) n same
 
 -- ---- what is read
 
 abbrev asked_with : Method → Target → Option Name → Asked
 asked_with method target name = record { method = method; target = target; name = name }
 
-asked-longer : (old new : TableValue) → Extends old new → (request : Request) → Has old request → asked_of new request ≡ asked_of old request
+asked-longer : (old new : TableValue) → Extends old new → (request : Request) → Has old request → NamesSame old new request → asked_of new request ≡ asked_of old request
 unfolding asked_of
-asked-longer old new x request has = go (method_of request.method) refl where
+asked-longer old new x request has same = go (method_of request.method) refl where
   go : (m : Option Method) → method_of request.method ≡ m
       → (version_rule request.version >>= λ version. served m >>= λ method. require_rule request.headers >>= λ require. target_of new method request.uri >>= λ target. name_of method request.headers >>= λ name. Ok (asked_with method target name))
       ≡ (version_rule request.version >>= λ version. served m >>= λ method. require_rule request.headers >>= λ require. target_of old method request.uri >>= λ target. name_of method request.headers >>= λ name. Ok (asked_with method target name))
   go None e = refl
-  go (Some method) e = rw (target-longer old new x method request.uri (has method e)) refl
+  go (Some method) e = rw (target-longer old new x method request.uri (has method e) (λ target is. same method target e is)) refl
 
 pub reads-alike : ReadsAlike
 unfolding screen
-reads-alike old new x request has = ap (screened request (cseq_of request.headers)) (asked-longer old new x request has)
+reads-alike old new x request has same = ap (screened request (cseq_of request.headers)) (asked-longer old new x request has same)
 
 -- ---- what is handed on
 
--- a table that goes on has the same where something stands
-pub agree-held : (old new : TableValue) → Extends old new → (p : ℕ) → IsHeld old p → AgreeAt old new p
-agree-held old new x p held = keeps-places old new x p held.0 held.1 ∙ sym held.1
+-- a table that goes on has the same where something stands, at a place that wasn't given to another
+pub agree-held : (old new : TableValue) → Extends old new → (p : ℕ) → IsSamePlace old new p → IsHeld old p → AgreeAt old new p
+agree-held old new x p same held = keeps-places old new x p held.0 same held.1 ∙ sym held.1
 
-agree-there : (old new : TableValue) → Extends old new → (target : Target) → IsThere old target → AgreeOn old new target
-agree-there old new x (targets.Presentation base p) held = agree-held old new x p held
-agree-there old new x (targets.Track base p t) held = agree-held old new x p held
-agree-there old new x targets.Server held = tt
-agree-there old new x targets.Star held = tt
+agree-there : (old new : TableValue) → Extends old new → (target : Target) → IsThere old target → IsSameOn old new target → AgreeOn old new target
+agree-there old new x (targets.Presentation base p) held same = agree-held old new x p same held
+agree-there old new x (targets.Track base p t) held same = agree-held old new x p same held
+agree-there old new x targets.Server held same = tt
+agree-there old new x targets.Star held same = tt
 
 at-there : (table : TableValue) (path base : List ℕ) (f : Found) (target : Target) → Names table path f → target_at base f ≡ Ok target → IsThere table target
 at-there table path base (found.Presentation p) target n e = let same : targets.Presentation base p ≡ target = cc in subst (IsThere table) same (n.presentation, n.stands)
@@ -129,24 +115,39 @@ chain_ok : {A B : Type 0} (r : Result A Fault) (f : A → Result B Fault) (y : B
 chain_ok (Ok x) f y e = (x, refl, e)
 chain_ok (Err fault) f y e = absurd cc
 
-asked-there : (table : TableValue) (request : Request) (asked : Asked) → asked_of table request ≡ Ok asked → IsThere table asked.target
+served-some : (o : Option Method) (method : Method) → served o ≡ Ok method → o ≡ Some method
+served-some (Some m) method e = cc
+served-some None method e = absurd cc
+
+-- what holds of the target of the URI holds of the one that is asked for
+abbrev OfTarget : TableValue → Request → (Target → Type 0) → Type 0
+OfTarget table request P = (method : Method) (target : Target) → method_of request.method ≡ Some method → target_of table method request.uri ≡ Ok target → P target
+
+asked-has : (table : TableValue) (request : Request) (P : Target → Type 0) → OfTarget table request P → (asked : Asked) → asked_of table request ≡ Ok asked → P asked.target
 unfolding asked_of
-asked-there table request asked e =
+asked-has table request P all asked e =
     let one = chain_ok (version_rule request.version) (λ version. served (method_of request.method) >>= λ method. require_rule request.headers >>= λ require. target_of table method request.uri >>= λ target. name_of method request.headers >>= λ name. Ok (asked_with method target name)) asked e in
     let two = chain_ok (served (method_of request.method)) (λ method. require_rule request.headers >>= λ require. target_of table method request.uri >>= λ target. name_of method request.headers >>= λ name. Ok (asked_with method target name)) asked one.2 in
     let three = chain_ok (require_rule request.headers) (λ require. target_of table two.0 request.uri >>= λ target. name_of two.0 request.headers >>= λ name. Ok (asked_with two.0 target name)) asked two.2 in
     let four = chain_ok (target_of table two.0 request.uri) (λ target. name_of two.0 request.headers >>= λ name. Ok (asked_with two.0 target name)) asked three.2 in
     let five = chain_ok (name_of two.0 request.headers) (λ name. Ok (asked_with two.0 four.0 name)) asked four.2 in
     let same : asked_with two.0 four.0 five.0 ≡ asked = cc in
-    subst (λ (a : Asked). IsThere table a.target) {x = asked_with two.0 four.0 five.0} same (target-there table two.0 request.uri four.0 four.1)
+    subst (λ (a : Asked). P a.target) {x = asked_with two.0 four.0 five.0} same (all two.0 four.0 (served-some (method_of request.method) two.0 two.1) four.1)
 
-asks-there : (table : TableValue) (request : Request) (parsed : ParsedValue) → screen table request ≡ Asks parsed → IsThere table parsed.target
+asks-has : (table : TableValue) (request : Request) (P : Target → Type 0) → OfTarget table request P → (parsed : ParsedValue) → screen table request ≡ Asks parsed → P parsed.target
 unfolding screen
-asks-there table request parsed e = go (cseq_of request.headers) (asked_of table request) refl e where
-  go : (c : Result ℕ Fault) (a : Result Asked Fault) → asked_of table request ≡ a → screened request c a ≡ Asks parsed → IsThere table parsed.target
+asks-has table request P all parsed e = go (cseq_of request.headers) (asked_of table request) refl e where
+  go : (c : Result ℕ Fault) (a : Result Asked Fault) → asked_of table request ≡ a → screened request c a ≡ Asks parsed → P parsed.target
   go (Err f) a h e = absurd cc
   go (Ok n) (Err f) h e = absurd cc
-  go (Ok n) (Ok asked) h e = let same : parsed_as n asked request ≡ parsed = cc in subst (λ (p : ParsedValue). IsThere table p.target) same (asked-there table request asked h)
+  go (Ok n) (Ok asked) h e = let same : parsed_as n asked request ≡ parsed = cc in subst (λ (p : ParsedValue). P p.target) same (asked-has table request P all asked h)
+
+asks-there : (table : TableValue) (request : Request) (parsed : ParsedValue) → screen table request ≡ Asks parsed → IsThere table parsed.target
+asks-there table request parsed e = asks-has table request (IsThere table) (λ method target is named. target-there table method request.uri target named) parsed e
+
+-- the place that a request names wasn't given to another, so that which it asks for wasn't
+pub asks-same : (old new : TableValue) (request : Request) (parsed : ParsedValue) → NamesSame old new request → screen old request ≡ Asks parsed → IsSameOn old new parsed.target
+asks-same old new request parsed same e = asks-has old request (IsSameOn old new) same parsed e
 
 pub asks-alike : AsksAlike
 asks-alike old new x request parsed e = let there = asks-there old request parsed e in (there, agree-there old new x parsed.target there)

@@ -4,7 +4,7 @@ use Rattle.rtsp_content.specs.PresentationValue.{PresentationValue}
 use Rattle.rtsp_content.specs.TableValue.{TableValue}
 use Rattle.rtsp_content.specs.Withdrawn.{is_withdrawn}
 use Rattle.rtsp_content.specs.Offering.{is_namesake, meant_of, offered_named, track_as}
-use Rattle.rtsp_content.specs.Growing.{Extends}
+use Rattle.rtsp_content.specs.Growing.{Extends, IsSamePlace}
 use Rattle.rtsp_text.specs.Results.{◌>>=◌}
 use Rattle.rtsp_state.specs.declared.method.Method.{Method}
 use Rattle.rtsp_state.specs.declared.method.Method.TheVariants as methods
@@ -20,7 +20,7 @@ use Rattle.rtsp_state.specs.Context.{Living, known}
 use Rattle.rtsp_state.specs.Aim.{place_of, own_of, aimed}
 use Rattle.rtsp_state.specs.StateTable.{decide, row, cell, context_of, settled, start_of, session_found}
 use Rattle.rtsp_state.specs.Renewal.{renewal}
-use Rattle.rtsp_state.specs.Alike.{AgreeAt, AgreeOn}
+use Rattle.rtsp_state.specs.Alike.{IsSameOn, AgreeAt, AgreeOn}
 use Rattle.rtsp_state.specs.Growth.{IsOwn, IsAt, PlaysOn, IsGone, DecidesByPlace, RenewsAlike}
 use Rattle.rtsp_state.proofs.AlikeLemmas.{agree-held}
 
@@ -84,19 +84,19 @@ chain-alike : {A : Type 0} (o : Option A) (f g : A → Result Plan Fault) → ((
 chain-alike (Some x) f g same = same x
 chain-alike None f g same = refl
 
-aim-alike : (old new : TableValue) → Extends old new → new.server.timeout ≡ old.server.timeout → (request : ParsedValue) (view : Option Living) (own : ℕ) (peer moment : ℕ) (method : Method) (name : Option Name) (target : Target) → IsOwn old own target
+aim-alike : (old new : TableValue) → Extends old new → new.server.timeout ≡ old.server.timeout → (request : ParsedValue) (view : Option Living) (own : ℕ) (peer moment : ℕ) (method : Method) (name : Option Name) (target : Target) → IsOwn old own target → IsSamePlace old new own → IsSameOn old new target
     → (aimed new (Some own) target >>= λ aim. row (context_of new request view peer moment) method view name aim)
     ≡ (aimed old (Some own) target >>= λ aim. row (context_of old request view peer moment) method view name aim)
-aim-alike old new x s request view own peer moment method name (targets.Presentation base p) e =
+aim-alike old new x s request view own peer moment method name (targets.Presentation base p) e mine same =
     let there = namesakes-there (slice_get old.presentations own) (slice_get old.presentations p) e in
-    let a = agree-held old new x own (there.first, there.is_first) in
-    let b = agree-held old new x p (there.second, there.is_second) in
+    let a = agree-held old new x own mine (there.first, there.is_first) in
+    let b = agree-held old new x p same (there.second, there.is_second) in
     let e' : is_namesake (slice_get new.presentations own) (slice_get new.presentations p) ≡ true = rw (a, b) e in
     rw (at-own old own p e, at-own new own p e') (row-alike old new s request view peer moment method name (targets.Presentation base own) a)
-aim-alike old new x s request view own peer moment method name (targets.Track base p t) e =
+aim-alike old new x s request view own peer moment method name (targets.Track base p t) e mine same =
     let there = namesakes-there (slice_get old.presentations own) (slice_get old.presentations p) e in
-    let a = agree-held old new x own (there.first, there.is_first) in
-    let b = agree-held old new x p (there.second, there.is_second) in
+    let a = agree-held old new x own mine (there.first, there.is_first) in
+    let b = agree-held old new x p same (there.second, there.is_second) in
     let e' : is_namesake (slice_get new.presentations own) (slice_get new.presentations p) ≡ true = rw (a, b) e in
     rw (at-own old own p e, at-own new own p e', track-alike old new p t own a b) (go (track_as old p t own) a) where
       go : (o : Option ℕ) → AgreeAt old new own
@@ -104,16 +104,16 @@ aim-alike old new x s request view own peer moment method name (targets.Track ba
           ≡ ((known o >>= λ u. Ok (targets.Track base own u)) >>= λ aim. row (context_of old request view peer moment) method view name aim)
       go (Some u) a = row-alike old new s request view peer moment method name (targets.Track base own u) a
       go None a = refl
-aim-alike old new x s request view own peer moment method name targets.Server e = row-alike old new s request view peer moment method name targets.Server tt
-aim-alike old new x s request view own peer moment method name targets.Star e = row-alike old new s request view peer moment method name targets.Star tt
+aim-alike old new x s request view own peer moment method name targets.Server e mine same = row-alike old new s request view peer moment method name targets.Server tt
+aim-alike old new x s request view own peer moment method name targets.Star e mine same = row-alike old new s request view peer moment method name targets.Star tt
 
 pub plays-on : PlaysOn
 unfolding decide
-plays-on old new x s request living own is n e peer moment =
+plays-on old new x s request living own is n e mine same peer moment =
     let it = own_is request.method living own is n in
     let alike : cell (context_of new request (Some living) peer moment) request.method (Some living) request.name request.target
     ≡ cell (context_of old request (Some living) peer moment) request.method (Some living) request.name request.target
-    = rw it (aim-alike old new x s request (Some living) own peer moment request.method request.name request.target e) in
+    = rw it (aim-alike old new x s request (Some living) own peer moment request.method request.name request.target e mine same) in
     ap (settled (start_of request.cseq (Some living))) alike
 
 -- ---- whoever comes

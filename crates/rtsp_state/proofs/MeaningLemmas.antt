@@ -9,13 +9,13 @@ use Rattle.rtsp_content.specs.PresentationValue.{PresentationValue, presentation
 use Rattle.rtsp_content.specs.TableValue.{TableValue, IsTableWithin}
 use Rattle.rtsp_content.specs.Withdrawn.{is_gone, is_withdrawn}
 use Rattle.rtsp_content.specs.Offering.{is_offered_as, is_namesake, offered_from, offered_named, offered_like, meant_of, track_as}
-use Rattle.rtsp_content.specs.Growing.{Extends}
+use Rattle.rtsp_content.specs.Growing.{Extends, IsSamePlace}
 use Rattle.rtsp_state.specs.declared.request.Target.{Target}
 use Rattle.rtsp_state.specs.declared.request.Target.TheVariants as targets
 use Rattle.rtsp_state.specs.Context.{known}
 use Rattle.rtsp_state.specs.Alike.{IsHeld, AgreeOn}
-use Rattle.rtsp_state.specs.Growth.{HasOwn, IsKeptAt, IsKept, MeansAlike, OffersRest, AnswersAlike}
-use Rattle.rtsp_state.proofs.AlikeLemmas.{agree-held, reads-alike, asks-alike}
+use Rattle.rtsp_state.specs.Growth.{HasOwn, IsSameOwn, IsKeptAt, IsKept, MeansAlike, OffersRest, AnswersAlike}
+use Rattle.rtsp_state.proofs.AlikeLemmas.{agree-held, reads-alike, asks-alike, asks-same}
 use Rattle.rtsp_state.proofs.GrowthLemmas.{track-alike, decides-by-place, renews-alike}
 
 -- ---- what is offered under a name
@@ -104,6 +104,7 @@ record Means (old new : TableValue) (own : Option ℕ) (p : ℕ) : Type 0 where
   before : meant_of old own p ≡ Some place
   after : meant_of new own p ≡ Some place
   held : IsHeld old place
+  same : IsSamePlace old new place
 
 -- what is offered, or is offered under the name
 record Likes (table : TableValue) (x : PresentationValue) (place : ℕ) : Type 0 where
@@ -130,38 +131,38 @@ likes-still new within p x place like at stands named on = go (is_withdrawn new.
   go true off = rw at (found-there new within x.name place like stands named on)
 
 -- for whoever has no streams of it
-offered-means : (old new : TableValue) → Extends old new → IsTableWithin new → (p place : ℕ) → IsHeld old p → offered_like old p ≡ Some place → is_withdrawn new.withdrawn place ≡ false
+offered-means : (old new : TableValue) → Extends old new → IsTableWithin new → (p place : ℕ) → IsSamePlace old new p → IsSamePlace old new place → IsHeld old p → offered_like old p ≡ Some place → is_withdrawn new.withdrawn place ≡ false
     → (offered_like new p ≡ Some place) × IsHeld old place
-offered-means old new x within p place held e on =
+offered-means old new x within p place same_p same_place held e on =
     let it = likes old p held.0 place held.1 e in
     let there : IsHeld old place = (it.like, it.stands) in
-    (likes-still new within p held.0 place it.like (agree-held old new x p held ∙ held.1) (agree-held old new x place there ∙ it.stands) it.named on, there)
+    (likes-still new within p held.0 place it.like (agree-held old new x p same_p held ∙ held.1) (agree-held old new x place same_place there ∙ it.stands) it.named on, there)
 
 namesakes : (one other : Option PresentationValue) (a b : PresentationValue) → one ≡ Some a → other ≡ Some b → b.name ≡ a.name → is_namesake one other ≡ true
 namesakes one other a b is_a is_b same = rw (is_a, is_b) ((bytes_eq-Decides a.name b.name).1 (sym same))
 
-means : (old new : TableValue) → Extends old new → IsTableWithin new → (own : Option ℕ) (p : ℕ) → IsHeld old p → HasOwn old own → IsKeptAt old new own p → Means old new own p
-means old new x within None p held owns kept = go kept.stays where
+means : (old new : TableValue) → Extends old new → IsTableWithin new → (own : Option ℕ) (p : ℕ) → IsSamePlace old new p → IsHeld old p → HasOwn old own → IsSameOwn old new own → IsKeptAt old new own p → Means old new own p
+means old new x within None p same held owns mine kept = go kept.stays where
   go : (None ≡ Some kept.meant) ⊎ (is_withdrawn new.withdrawn kept.meant ≡ false) → Means old new None p
   go (inl none) = absurd cc
-  go (inr on) = let it = offered-means old new x within p kept.meant held kept.is on in record { place = kept.meant; before = kept.is; after = it.0; held = it.1 }
-means old new x within (Some own) p held owns kept = go (is_namesake (slice_get old.presentations own) (slice_get old.presentations p)) refl kept.is where
+  go (inr on) = let it = offered-means old new x within p kept.meant same kept.same held kept.is on in record { place = kept.meant; before = kept.is; after = it.0; held = it.1; same = kept.same }
+means old new x within (Some own) p same held owns mine kept = go (is_namesake (slice_get old.presentations own) (slice_get old.presentations p)) refl kept.is where
   alike : is_namesake (slice_get new.presentations own) (slice_get new.presentations p) ≡ is_namesake (slice_get old.presentations own) (slice_get old.presentations p)
-  alike = rw (agree-held old new x own owns, agree-held old new x p held) refl
+  alike = rw (agree-held old new x own mine owns, agree-held old new x p same held) refl
 
   other : is_namesake (slice_get old.presentations own) (slice_get old.presentations p) ≡ false → offered_like old p ≡ Some kept.meant
       → (Some own ≡ Some kept.meant) ⊎ (is_withdrawn new.withdrawn kept.meant ≡ false) → (offered_like new p ≡ Some kept.meant) × IsHeld old kept.meant
-  other is e (inr on) = offered-means old new x within p kept.meant held e on
-  other is e (inl same) =
+  other is e (inr on) = offered-means old new x within p kept.meant same kept.same held e on
+  other is e (inl meant) =
       let it = likes old p held.0 kept.meant held.1 e in
-      let at : slice_get old.presentations own ≡ Some it.like = subst (λ q. slice_get old.presentations q ≡ Some it.like) (sym (same_Some own kept.meant same)) it.stands in
+      let at : slice_get old.presentations own ≡ Some it.like = subst (λ q. slice_get old.presentations q ≡ Some it.like) (sym (same_Some own kept.meant meant)) it.stands in
       absurd (false≢true (sym is ∙ namesakes (slice_get old.presentations own) (slice_get old.presentations p) it.like held.0 at held.1 (sym it.named)))
 
   go : (b : Bool) → is_namesake (slice_get old.presentations own) (slice_get old.presentations p) ≡ b → cond b (Some own) (offered_like old p) ≡ Some kept.meant → Means old new (Some own) p
-  go true is e = record { place = own; before = rw is refl; after = rw (alike, is) refl; held = owns }
+  go true is e = record { place = own; before = rw is refl; after = rw (alike, is) refl; held = owns; same = mine }
   go false is e =
       let it = other is e kept.stays in
-      record { place = kept.meant; before = rw is e; after = rw (alike, is) it.0; held = it.1 }
+      record { place = kept.meant; before = rw is e; after = rw (alike, is) it.0; held = it.1; same = kept.same }
 
 -- ---- what is decided
 
@@ -171,19 +172,19 @@ on-track table base q None aim e P all = absurd cc
 
 means-alike : (old new : TableValue) → Extends old new → IsTableWithin new → (own : Option ℕ) (target : Target) → IsKept old new own target → MeansAlike old new own target
 means-alike old new x within own (targets.Presentation base p) kept =
-    let it = means old new x within own p kept.there kept.own_there kept.kept in
+    let it = means old new x within own p kept.same kept.there kept.own_there kept.own_same kept.kept in
     record {
       meant = rw (it.before, it.after) refl;
       stands = λ aim e.
           let is : Ok (targets.Presentation base it.place) ≡ Ok aim = rw it.before at e in
           let same : targets.Presentation base it.place ≡ aim = cc in
-          subst (AgreeOn old new) same (agree-held old new x it.place it.held);
+          subst (AgreeOn old new) same (agree-held old new x it.place it.same it.held);
     }
 means-alike old new x within own (targets.Track base p t) kept =
-    let it = means old new x within own p kept.there kept.own_there kept.kept in
-    let there = agree-held old new x it.place it.held in
+    let it = means old new x within own p kept.same kept.there kept.own_there kept.own_same kept.kept in
+    let there = agree-held old new x it.place it.same it.held in
     record {
-      meant = rw (it.before, it.after, track-alike old new p t it.place there (agree-held old new x p kept.there)) refl;
+      meant = rw (it.before, it.after, track-alike old new p t it.place there (agree-held old new x p kept.same kept.there)) refl;
       stands = λ aim e. on-track old base it.place (track_as old p t it.place) aim (rw it.before at e) (AgreeOn old new) (λ u. there);
     }
 means-alike old new x within own targets.Server kept = record { meant = refl; stands = λ aim e. let same : targets.Server ≡ aim = cc in subst (AgreeOn old new) same tt }
@@ -193,11 +194,11 @@ pub offers-rest : OffersRest
 offers-rest old new x within timed request view kept peer moment = decides-by-place old new timed request view (means-alike old new x within _ request.target kept) peer moment
 
 pub answers-alike : AnswersAlike
-answers-alike old new x within timed request view has kept = record {
-  read = reads-alike old new x request has;
+answers-alike old new x within timed request view has same kept = record {
+  read = reads-alike old new x request has same;
   renewed = λ parsed living moment. renews-alike old new timed parsed living moment;
   decided = λ parsed asks peer moment.
       let asked = asks-alike old new x request parsed asks in
       let it = kept parsed asks in
-      offers-rest old new x within timed.timeout parsed view (record { there = asked.0; own_there = it.0; kept = it.1 }) peer moment;
+      offers-rest old new x within timed.timeout parsed view (record { there = asked.0; same = asks-same old new request parsed same asks; own_there = it.0; own_same = it.1; kept = it.2 }) peer moment;
 }

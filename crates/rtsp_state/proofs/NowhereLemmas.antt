@@ -36,10 +36,10 @@ no_track : (p : PresentationValue) (i : ℕ) (ts : List TrackValue) → position
 no_track p i [] = refl
 no_track p i (t ∷ ts) = no_track p (i + 1) ts
 
-nothing_there : (i : ℕ) (ps : List PresentationValue) → find_from i ps [] ≡ Nothing
+nothing_there : (numbers : List ℕ) (i : ℕ) (ps : List PresentationValue) → find_from numbers i ps [] ≡ Nothing
 unfolding find_from
-nothing_there i [] = refl
-nothing_there i (p ∷ ps) = rw (no_track p 0 p.tracks) (nothing_there (i + 1) ps)
+nothing_there numbers i [] = refl
+nothing_there numbers i (p ∷ ps) = rw (no_track p 0 p.tracks, nothing_there numbers (i + 1) ps) refl
 
 pub names_nothing : NamesNothing
-names_nothing table = ap (media_of table) read ∙ rw (nothing_there 0 table.presentations) refl
+names_nothing table = ap (media_of table) read ∙ rw (nothing_there table.numbers 0 table.presentations) refl

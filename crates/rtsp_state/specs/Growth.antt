@@ -4,7 +4,7 @@ use Rattle.rtsp_grammar.specs.declared.message.Request.{Request}
 use Rattle.rtsp_content.specs.TableValue.{TableValue, IsTableWithin}
 use Rattle.rtsp_content.specs.Withdrawn.{is_withdrawn}
 use Rattle.rtsp_content.specs.Offering.{is_namesake, meant_of, offered_named}
-use Rattle.rtsp_content.specs.Growing.{Extends}
+use Rattle.rtsp_content.specs.Growing.{Extends, IsSamePlace}
 use Rattle.rtsp_state.specs.declared.method.Method.TheVariants as methods
 use Rattle.rtsp_state.specs.declared.status.Status.TheVariants.{NotFound}
 use Rattle.rtsp_state.specs.declared.fault.Fault.TheVariants.{Refused}
@@ -19,7 +19,7 @@ use Rattle.rtsp_state.specs.Aim.{place_of, own_of, aimed}
 use Rattle.rtsp_state.specs.StateTable.{decide, session_found, start_of}
 use Rattle.rtsp_state.specs.Screen.{screen}
 use Rattle.rtsp_state.specs.Renewal.{renewal}
-use Rattle.rtsp_state.specs.Alike.{Has, IsHeld, IsThere, AgreeOn}
+use Rattle.rtsp_state.specs.Alike.{Has, IsSameOn, NamesSame, IsHeld, IsThere, AgreeOn}
 
 -- the target has the name of what stands at the place, or names no presentation
 abbrev pub IsOwn : TableValue → ℕ → Target → Type 0
@@ -28,10 +28,11 @@ IsOwn table own (targets.Track base p t) = is_namesake (slice_get table.presenta
 IsOwn table own targets.Server = Unit {0}
 IsOwn table own targets.Star = Unit {0}
 
--- a request of a session for what it has is decided as before, whatever of that is withdrawn or replaced
+-- a request of a session for what it has is decided as before, whatever of that is withdrawn or replaced, as long as the places of both are theirs
 abbrev pub PlaysOn : Type 0
 PlaysOn = (old new : TableValue) → Extends old new → new.server.timeout ≡ old.server.timeout → (request : ParsedValue) (living : Living) (own : ℕ)
     → place_of (Some living) ≡ Some own → ¬ (request.method ≡ methods.Describe) → IsOwn old own request.target
+    → IsSamePlace old new own → IsSameOn old new request.target
     → (peer moment : ℕ) → decide new request (Some living) peer moment ≡ decide old request (Some living) peer moment
 
 -- the target is of the place
@@ -67,10 +68,16 @@ abbrev pub HasOwn : TableValue → Option ℕ → Type 0
 HasOwn table None = Unit {0}
 HasOwn table (Some own) = IsHeld table own
 
--- what the old table means by a place is the session's own, or is offered by the new one
+-- nor was that place given to another
+abbrev pub IsSameOwn : TableValue → TableValue → Option ℕ → Type 0
+IsSameOwn old new None = Unit {0}
+IsSameOwn old new (Some own) = IsSamePlace old new own
+
+-- what the old table means by a place is the session's own, or is offered by the new one, at its place
 pub record IsKeptAt (old new : TableValue) (own : Option ℕ) (p : ℕ) : Type 0 where
   pub meant : ℕ
   pub is : meant_of old own p ≡ Some meant
+  pub same : IsSamePlace old new meant
   pub stays : (own ≡ Some meant) ⊎ (is_withdrawn new.withdrawn meant ≡ false)
 
 -- the same of a target, where it is of a place
@@ -83,7 +90,9 @@ IsKeptOn old new own targets.Star = Unit {0}
 -- what is named stands in the old table, and what it means is there still, for whoever has streams of a place of the old table
 pub record IsKept (old new : TableValue) (own : Option ℕ) (target : Target) : Type 0 where
   pub there : IsThere old target
+  pub same : IsSameOn old new target
   pub own_there : HasOwn old own
+  pub own_same : IsSameOwn old new own
   pub kept : IsKeptOn old new own target
 
 -- a request for what is offered still, or is the session's own, is decided as before, whatever else is added, withdrawn or replaced
@@ -105,7 +114,7 @@ RenewsAlike = (old new : TableValue) → AreTimesAlike old new → (request : Pa
 -- whatever a request asks of the old table, it means what is offered still, or the session's own
 abbrev pub KeepsAsked : TableValue → TableValue → Request → Option Living → Type 0
 KeepsAsked old new request view = (parsed : ParsedValue) → screen old request ≡ Asks parsed
-    → HasOwn old (own_of parsed.method view) × IsKeptOn old new (own_of parsed.method view) parsed.target
+    → HasOwn old (own_of parsed.method view) × IsSameOwn old new (own_of parsed.method view) × IsKeptOn old new (own_of parsed.method view) parsed.target
 
 -- both tables answer a request alike, of a session as it is: before one is looked up, when it is renewed, and when the request is decided
 pub record IsAnsweredAlike (old new : TableValue) (request : Request) (view : Option Living) : Type 0 where
@@ -117,4 +126,4 @@ pub record IsAnsweredAlike (old new : TableValue) (request : Request) (view : Op
 -- what a request for what was there is answered stays, where that is offered still or is the session's own
 abbrev pub AnswersAlike : Type 0
 AnswersAlike = (old new : TableValue) → Extends old new → IsTableWithin new → AreTimesAlike old new → (request : Request) (view : Option Living)
-    → Has old request → KeepsAsked old new request view → IsAnsweredAlike old new request view
+    → Has old request → NamesSame old new request → KeepsAsked old new request view → IsAnsweredAlike old new request view
