@@ -11,7 +11,7 @@ use crate::shown::Shown;
 use rtsp_content::Server;
 use rtsp_engine::Asker;
 use rtsp_lock::{BookHandle, HandOutFault, Mark, Then};
-use rtsp_log::{Access, EndCause, Event, moment};
+use rtsp_log::{Access, Event, moment};
 use rtsp_metrics::{BookFigures, Counts, Held, History, Method, Snapshot, Viewing};
 use rtsp_record::Entry;
 use rtsp_sockets::RunningClock;
@@ -179,7 +179,7 @@ impl<R: Wait + rt::Clock> AnswerCounter<'_, R> {
             lines.add(rt, log, moment, access);
         }
         if let Some(life) = told.ended {
-            teller.tell_ended(rt, life.session, EndCause::Teardown);
+            teller.tell_torn_down(rt, life.session, self.desk.table, self.desk.now);
         }
     }
 }
