@@ -3,11 +3,14 @@
 use crate::stopping::StopTimes;
 use crossbeam_utils::CachePadded;
 use mio::Waker;
-use rtsp_log::EndCause;
+use rtsp_log::{EndCause, Event, Log};
 use rtsp_metrics::{AnswerCounters, Counts};
+use rtsp_threads::{STANDING_LIMIT, StopBell};
 use std::alloc::{AllocError, Global};
+use std::rt;
 use std::sync::atomic::{AtomicU64, Ordering};
 use std::sync::{Arc, Mutex, Wait};
+use std::time::Duration;
 
 /// The lanes of a server: how many have begun, what they are woken by, what they have answered, and
 /// until when they serve.
@@ -44,6 +47,35 @@ impl AllLanes {
     /// How many lanes have begun.
     pub(crate) fn standing(&self) -> u64 {
         self.standing.load(Ordering::Relaxed)
+    }
+
+    /// Waits until so many lanes have begun, which are all. Where some haven't when they should have, these
+    /// have no thread; then it waits for one that has, or until all threads end. Whether any has begun.
+    pub(crate) fn wait_for_all<R: Wait + rt::Clock>(
+        &self,
+        rt: &R,
+        all: u64,
+        stop_bell: &StopBell,
+        log: &Log,
+    ) -> bool {
+        for _ in 0..STANDING_LIMIT {
+            if self.standing() >= all {
+                return true;
+            }
+            if stop_bell.wait(rt, Duration::from_millis(1)) {
+                break;
+            }
+        }
+        if self.standing() >= all {
+            return true;
+        }
+        log.event(rt, Event::NoThread);
+        for _ in rt.forever() {
+            if self.standing() > 0 || stop_bell.wait(rt, Duration::from_millis(1)) {
+                break;
+            }
+        }
+        self.standing() > 0
     }
 
     /// A lane is woken by this.

@@ -229,8 +229,8 @@ impl<R: Wait + Net + rt::Clock> PieceAnswerer for Front<'_, R> {
 
     fn has_written(&mut self) -> bool {
         let Service { rt, shared, .. } = self.service;
-        let conn = self.asker.conn;
-        let goes_on = has_handed_over(rt, &shared.bells, self.plays, conn, self.outlet);
+        let (conn, outlet) = (self.asker.conn, self.outlet);
+        let goes_on = has_handed_over(rt, &shared.bells, self.plays, conn, outlet);
         self.has_room && goes_on
     }
 }

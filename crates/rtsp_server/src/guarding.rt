@@ -86,13 +86,14 @@ fn name_in(request: &Request) -> UserName {
 impl<R: Wait + rt::Clock> Porter for AnswerCounter<'_, R> {
     fn refused(&self, refusal: Refusal, request: &Request) {
         if let Some(cause) = cause_of(refusal) {
+            let Desk { rt, teller, .. } = *self.desk;
             let refused = RefusedCredentials {
                 peer: self.asker.peer,
                 cause,
                 user: name_in(request),
             };
             let event = Event::CredentialsRefused(refused);
-            self.desk.teller.log.event(self.desk.rt, event);
+            teller.log.event(rt, event);
         }
     }
 
@@ -269,8 +270,8 @@ impl<R: Wait + Net + rt::Clock> PieceAnswerer for GuardedFront<'_, R> {
 
     fn has_written(&mut self) -> bool {
         let Service { rt, shared, .. } = self.service;
-        let conn = self.asker.conn;
-        let goes_on = has_handed_over(rt, &shared.bells, self.plays, conn, self.outlet);
+        let (conn, outlet) = (self.asker.conn, self.outlet);
+        let goes_on = has_handed_over(rt, &shared.bells, self.plays, conn, outlet);
         self.has_room && goes_on
     }
 }

@@ -3,7 +3,7 @@
 //!
 //! `server` starts all of them and joins them, with what `opening` gives; `threads` is what each
 //! does, and `shared` what all share, `all_lanes` and `end_note` among it; what of that takes memory is
-//! `opened` first. `socket_lane` is a lane of
+//! `opened` first. `desk`, `doorway` and `shown` lend parts of it together. `socket_lane` is a lane of
 //! sockets, `clients` its connections and its turns, and `letting_in` lets them in; `client` is one
 //! of them, and `visiting` reads it. Where `balancers` lists who connected, `naming` finds whom it
 //! connects. While the journal has no room `foresight` tells what may be read, and `putting_aside`

@@ -1,6 +1,5 @@
 //! The threads of a server: what each does until the server ends.
 
-use crate::all_lanes::AllLanes;
 use crate::fault::ServerFault;
 use crate::figures::Figures;
 use crate::growing::Growth;
@@ -20,7 +19,7 @@ use rtsp_log::{Event, Log, LogWriter, SleepPause, StderrSink};
 use rtsp_metrics::History;
 use rtsp_pacing::{PacerParts, PacerPlays, PacerRoom, pace};
 use rtsp_status::{Halt, StatusServer};
-use rtsp_threads::{OwnStatus, OwnUsage, PoolEnd, STANDING_LIMIT, StopBell, end_expired, run_pool};
+use rtsp_threads::{OwnStatus, OwnUsage, PoolEnd, StopBell, end_expired, run_pool};
 use std::alloc::Global;
 use std::fs::File;
 use std::io::{Eprint, Write};
@@ -28,7 +27,6 @@ use std::net::{Net, SocketAddr};
 use std::rt::Files;
 use std::sync::{Arc, Wait};
 use std::thread::Threads;
-use std::time::Duration;
 use std::{net, rt, thread};
 
 // What all threads of a server are lent.
@@ -151,35 +149,6 @@ fn write_log<R: Wait + Net + rt::Clock, E: Write + Drop>(
     }
 }
 
-// Waits until so many lanes have begun, which are all. Where some haven't when they should have, these have
-// no thread; then it waits for one that has, or until all threads end. Whether any has begun.
-fn wait_for_lanes<R: Wait + rt::Clock>(
-    rt: &R,
-    lanes: &AllLanes,
-    stop_bell: &StopBell,
-    log: &Log,
-    all: u64,
-) -> bool {
-    for _ in 0..STANDING_LIMIT {
-        if lanes.standing() >= all {
-            return true;
-        }
-        if stop_bell.wait(rt, Duration::from_millis(1)) {
-            break;
-        }
-    }
-    if lanes.standing() >= all {
-        return true;
-    }
-    log.event(rt, Event::NoThread);
-    for _ in rt.forever() {
-        if lanes.standing() > 0 || stop_bell.wait(rt, Duration::from_millis(1)) {
-            break;
-        }
-    }
-    lanes.standing() > 0
-}
-
 impl Parts {
     // The body of a pacer's thread.
     fn pace<R: Wait + rt::Clock>(&self, rt: &R, alloc: Global, pacer: OnePacer) {
@@ -253,7 +222,7 @@ impl Parts {
             log,
             ..
         } = &*self.shared;
-        if !wait_for_lanes(rt, lanes, stop_bell, log, u64::from(self.numbers.workers)) {
+        if !lanes.wait_for_all(rt, u64::from(self.numbers.workers), stop_bell, log) {
             return Ok(());
         }
         if !announcer.announce(address) {
