@@ -105,7 +105,7 @@ def a_film_is_replaced_again_and_again(checks: Checks) -> None:
         for number, content in enumerate(contents):
             server.put_media(TONE, content=content)
             server.offer(TONE)
-            play = Play(pool, server.player(Way.TCP), 25)
+            play = Play(pool, server.player_of(TONE, Way.TCP), 25)
             play.fits(checks, f"the new one, {content.name}", tuple(it._replace(name=content.name) for it in TONE.tracks), TONE.units)
             now = int(server.figure(SENT % TONE.name))
             checks.that("what was sent of it", now > sent, (sent, now))
