@@ -95,7 +95,7 @@ def a_film_is_replaced_again_and_again(checks: Checks) -> None:
     """Under its one name, as a daily programme is: at a place before that of a session which has an old one, too. Each who
     comes gets the new one, and who has an old one its octets; what was counted of the name never falls."""
     server = Growing(checks, SHORT, TONE)
-    contents = [Track(name) for name in "zyxwvu"]
+    contents = [Track(name) for name in "zyx"]
     with server, concurrent.futures.ThreadPoolExecutor(1) as pool:
         old = server.player_of(TONE, Way.TCP)
         (stream, _) = set_up_all(old)
@@ -105,7 +105,7 @@ def a_film_is_replaced_again_and_again(checks: Checks) -> None:
         for number, content in enumerate(contents):
             server.put_media(TONE, content=content)
             server.offer(TONE)
-            play = Play(pool, server.player(Way.TCP), 25)
+            play = Play(pool, server.player_of(TONE, Way.TCP), 25)
             play.fits(checks, f"the new one, {content.name}", tuple(it._replace(name=content.name) for it in TONE.tracks), TONE.units)
             now = int(server.figure(SENT % TONE.name))
             checks.that("what was sent of it", now > sent, (sent, now))
