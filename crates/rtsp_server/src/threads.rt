@@ -15,7 +15,7 @@ use crate::writing_journal::leave_scribe;
 use rtsp_chronicle::{Doubt, JournalFolder};
 use rtsp_content::Server;
 use rtsp_lock::BookHandle;
-use rtsp_log::{Event, Log, LogWriter, SleepPause, StderrSink};
+use rtsp_log::{Event, LogWriter, SleepPause, StderrSink};
 use rtsp_metrics::History;
 use rtsp_pacing::{PacerParts, PacerPlays, PacerRoom, pace};
 use rtsp_status::{Halt, StatusServer};
@@ -137,19 +137,14 @@ fn show<R: Wait + Net + rt::Clock>(
     }
 }
 
-// The body of the thread that writes the log.
-fn write_log<R: Wait + Net + rt::Clock, E: Write + Drop>(
-    rt: &R,
-    alloc: Global,
-    log: &Log,
-    errors: E,
-) {
-    if let Ok(sink) = StderrSink::new(rt, alloc, errors) {
-        LogWriter::new(alloc, sink, SleepPause::new(rt)).run(rt, log);
-    }
-}
-
 impl Parts {
+    // The body of the thread that writes the log.
+    fn log<R: Wait + Net + rt::Clock, E: Write + Drop>(&self, rt: &R, alloc: Global, errors: E) {
+        if let Ok(sink) = StderrSink::new(rt, alloc, errors) {
+            LogWriter::new(alloc, sink, SleepPause::new(rt)).run(rt, &self.shared.log);
+        }
+    }
+
     // The body of a pacer's thread.
     fn pace<R: Wait + rt::Clock>(&self, rt: &R, alloc: Global, pacer: OnePacer) {
         let OnePacer {
@@ -325,16 +320,13 @@ impl Parts {
         address: SocketAddr,
     ) -> Result<Served, ServerFault> {
         thread::scope(thread::scope_env(), rt, move |scope| {
-            let log = &self.shared.log;
-            let logs = scope
-                .spawn(move || write_log(rt, alloc, log, errors))
-                .is_ok();
+            let logs = scope.spawn(move || self.log(rt, alloc, errors)).is_ok();
             if !logs {
                 self.stop_for_want_of_threads(rt);
                 return Err(ServerFault::NoThread);
             }
             let ended = self.run_logged(rt, alloc, start, beside, announcer, address);
-            log.close();
+            self.shared.log.close();
             ended
         })
     }
