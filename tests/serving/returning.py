@@ -142,7 +142,7 @@ def a_film_too_large_for_memory_comes_back(checks: Checks) -> None:
         begins_whole(checks, server.player_of(LARGE, Way.TCP), "once it is back")
         after = taken(server)
         checks.same("descriptors", before["descriptors"] + 1, after["descriptors"])
-        checks.same("places and threads", (before["places"], before["threads"]), (after["places"], after["threads"]))
+        checks.same("places and threads", (before["places"] + 1, before["threads"]), (after["places"], after["threads"]))
 
 
 @serving_test(limit=90)
