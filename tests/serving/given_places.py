@@ -10,7 +10,7 @@ from .growth import AT_MOST, CLOSED, SHORT, Growing, Play, plays_whole
 from .plays import numbers_fit, set_up_all
 from .returning import SPARE, goes, taken
 from .runner import serving_test
-from .server import TONE, Presentation, Track
+from .server import TONE, Presentation, Track, is_alive
 
 # So long it takes until a withdrawn film's place is free, in seconds: its files stay open for a while.
 FREED = 2 * CLOSED
@@ -65,6 +65,7 @@ def new_films(checks: Checks, changes: int) -> None:
         before, memory = taken(server), server.resident_bytes()
         for number in range(9, 9 + changes):
             film = brings(server, number, TONE)
+            checks.that("the session lives", is_alive(player.connection, player.uri, player.session or ""))
         checks.same("places", 3, come_to(server, 3))
         time.sleep(AT_MOST)
         checks.same("what it has", before, taken(server))

@@ -2,10 +2,13 @@
 //! `run_pool` that runs one lane after another fails by one of the two orders, though it meets its
 //! contract.
 
+ghost use Rattle.rtsp_record.specs.Choices.{HasPorts};
+
 use crate::world::{serve, tone};
 use rtsp_content::Table;
 use rtsp_engine::{Asker, BindFault, Binder, CountedReader, CountedWriter, ServeEnd, TURNS, Words};
 use rtsp_lock::{DrawnNumbers, open_for};
+use rtsp_record::Whole;
 use rtsp_server::{BookHandle, Lane, LaneTurn, PoolEnd, run_pool, whole_of};
 use rtspd::CountedWords;
 use std::alloc::Global;
@@ -174,6 +177,20 @@ fn lanes(
     Vec::from_array(alloc, pair).ok()
 }
 
+// What a pool of these lanes comes to, over a book of its own.
+fn pooled<R: Threads + Wait + Net<Listener = TcpListener, Stream = TcpStream> + Clock + Sync>(
+    rt: &R,
+    alloc: Global,
+    whole: &Whole,
+    lanes: Vec<OneSetup>,
+) -> Option<PoolEnd>
+    requires { HasPorts whole.now }
+{
+    let (lock, mut seat) = open_for::<DrawnNumbers>(alloc, whole).ok()?;
+    let lock = Arc::new(alloc, lock).ok()?;
+    Some(run_pool(rt, alloc, lanes, &lock, &mut seat))
+}
+
 // Whether both lanes are served.
 fn serves_both<R: Threads + Wait + Net<Listener = TcpListener, Stream = TcpStream> + Clock + Sync>(
     rt: &R,
@@ -181,11 +198,9 @@ fn serves_both<R: Threads + Wait + Net<Listener = TcpListener, Stream = TcpStrea
     is_waiting_first: bool,
 ) -> Option<bool> {
     let table = Arc::new(alloc, tone(alloc)?).ok()?;
-    let (lock, mut seat) = open_for::<DrawnNumbers>(alloc, &whole_of(&table)).ok()?;
-    let lock = Arc::new(alloc, lock).ok()?;
     let (one, two) = (flag(alloc, false)?, flag(alloc, false)?);
     let lanes = lanes(alloc, is_waiting_first, &table, &one, &two)?;
-    let end = run_pool(rt, alloc, lanes, &lock, &mut seat);
+    let end = pooled(rt, alloc, &whole_of(&table), lanes)?;
     let are_answered = one.load(Ordering::SeqCst) && two.load(Ordering::SeqCst);
     Some(are_answered && end == PoolEnd { served: 2, idle: 0 })
 }
